@@ -2,8 +2,7 @@
 # Compares the examples of docs/events.md with what the program `events` prints, as `rt ci` or `rt run` has built it (`out`).
 #
 # An example is a line `<!-- text -->`, a fenced block with one line, which `printf '%b'` makes the text of, a line
-# `<!-- events SET -->`, where SET is the program's argument, and a fenced block with what is printed. Examples under
-# `<!-- events, not built -->` are left out: the program cannot read them yet.
+# `<!-- events SET -->`, where SET is the program's argument, and a fenced block with what is printed.
 set -euo pipefail
 cd "$(dirname "$0")/.."
 exec python3 - docs/events.md crates/events/out/events <<'PYTHON'
@@ -34,8 +33,6 @@ while at < len(lines):
         sys.exit(f"{page}:{at}: a text is one line")
     mark = lines[at] if at < len(lines) else ""
     events, at = block(at + 1)
-    if mark == "<!-- events, not built -->":
-        continue
     found = re.fullmatch("<!-- events (commonmark|gfm|all) -->", mark)
     if not found:
         sys.exit(f"{page}: {name}: no line `<!-- events SET -->`")

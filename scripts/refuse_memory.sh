@@ -1,7 +1,8 @@
 #!/usr/bin/env bash
 # Refuses requests for memory of the programs `blocks` and `events`, as `rt ci` or `rt run` has built them (`out`): on the
-# texts of their stored runs, and with the argument `gfm` on each begin of a text with a byte order mark, headings of both
-# kinds, quotes, a break, nested lists, a fence, HTML, definitions, in a quote and in front of an underline, and a table.
+# texts of their stored runs, and with the argument `all` on each begin of a text with a byte order mark, frontmatter, headings of
+# both kinds, quotes, a break, nested lists, a fence, HTML, definitions, in a quote and in front of an underline, a table and a
+# footnote definition.
 #
 # Each text has a run in which nothing is refused, which must end with status 0 and print what is given, or anything where nothing is;
 # and for each request of that run one in which this request is refused (`scripts/refuse.c`). Such a run must end with status 3, say so
@@ -18,8 +19,10 @@ python3 - "$work/refuse.so" blocks 2000 events 2000 <<'PYTHON'
 import os, subprocess, sys
 
 library, *programs = sys.argv[1:]
-WHOLE = b"\xef\xbb\xbf# # a #\nb\n> > c\n> d\ne\n### ##\n***\n- f\n\n  1. g\n     > h\n- i\n> ~~~ j k\n>  l\n>\nm\n<p\nn\n\no\n=\n\n> [P\n> Q]: r 's'\n\n[P]: u\nv\n=\nw|x\n-|-\n|y\n"
-OUTLINE = b"""heading 1
+WHOLE = b"\xef\xbb\xbf+++\nt\n+++\n# # a #\nb\n> > c\n> d\ne\n### ##\n***\n- f\n\n  1. g\n     > h\n- i\n> ~~~ j k\n>  l\n>\nm\n<p\nn\n\no\n=\n\n> [P\n> Q]: r 's'\n\n[P]: u\nv\n=\nw|x\n-|-\n|y\n\n[^Z]: z\n"
+OUTLINE = b"""frontmatter +
+  | t
+heading 1
   | # a
 paragraph
   | b
@@ -76,11 +79,16 @@ table 2
   delimiter | -|-
   row
     cell | y
+footnote
+  label | Z
+  paragraph
+    | z
 
 definitions 2
 = p q
 = p
-footnotes 0
+footnotes 1
+= z
 """
 
 
@@ -103,7 +111,7 @@ def refused(name):
     if name == "blocks":
         given[WHOLE] = OUTLINE
     for text in [stored, *(WHOLE[:length] for length in range(3, len(WHOLE) + 1))]:
-        command = [f"{folder}/out/{name}", *([] if text == stored else ["gfm"])]
+        command = [f"{folder}/out/{name}", *([] if text == stored else ["all"])]
         right, _ = run(command, text, 0)
         if right != (0, given.get(text, right[1]), b"") or not right[1]:
             sys.exit(f"{name}, text {text}, nothing refused: status, output and complaint {right}")

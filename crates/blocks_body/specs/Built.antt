@@ -1,13 +1,12 @@
 -- What the program makes of options and of texts.
-use Rattle.std.specs.Prelude.{◌≡◌, ℕ, false, List, []}
+use Rattle.std.specs.Prelude.{◌≡◌, ℕ, false, List}
 use Rattle.md_engine.specs.declared.configuration.ParseOptions.{ParseOptions}
 use Rattle.md_program.specs.Listing.{Listing}
 use Rattle.md_definition.specs.Label.{labels}
 use Rattle.md_definition.specs.Meaning.{tree}
 use Rattle.md_definition.specs.Outline.{outline}
 
--- what is asked for, as far as it is there: block quotes, list items, indented and fenced code, math, HTML,
--- headings, breaks, tables and definitions alone
+-- what is asked for, as far as it is there: all but the constructs of MDX
 abbrev pub built_from : ParseOptions → ParseOptions
 built_from options = record {
   constructs = record {
@@ -15,8 +14,8 @@ built_from options = record {
     code_fenced = options.constructs.code_fenced;
     code_indented = options.constructs.code_indented;
     definition = options.constructs.definition;
-    frontmatter = false;
-    gfm_footnote_definition = false;
+    frontmatter = options.constructs.frontmatter;
+    gfm_footnote_definition = options.constructs.gfm_footnote_definition;
     gfm_table = options.constructs.gfm_table;
     heading_atx = options.constructs.heading_atx;
     heading_setext = options.constructs.heading_setext;
@@ -32,9 +31,9 @@ built_from options = record {
   };
 }
 
--- The listing of a text: the outline of its tree, and the labels of its definitions, in source order, repeats kept; there
--- are no footnotes, so no labels of them.
+-- The listing of a text: the outline of its tree, and the labels of its definitions and of its footnote definitions, in
+-- source order, repeats kept.
 pub record Outlines (text : List ℕ) (options : ParseOptions) (listing : Listing) : Type 0 where
   pub lines : listing.lines ≡ outline 0 (tree options text)
   pub definitions : listing.definitions ≡ (labels (tree options text)).definitions
-  pub footnotes : listing.footnotes ≡ []
+  pub footnotes : listing.footnotes ≡ (labels (tree options text)).footnotes

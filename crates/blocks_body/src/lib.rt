@@ -12,8 +12,7 @@ use md_engine::message::Message;
 use md_program::body::{Body, Outlined};
 use std::alloc::Global;
 
-/// The parser of blocks. Of the constructs it has block quotes, list items, indented and fenced code, math, HTML, headings,
-/// thematic breaks, tables and definitions, and turns the others off.
+/// The parser of blocks. It has all constructs but those of MDX, which it turns off.
 pub struct Blocks;
 
 impl Body for Blocks {
@@ -32,6 +31,8 @@ impl Body for Blocks {
                 code_fenced: options.constructs.code_fenced,
                 code_indented: options.constructs.code_indented,
                 definition: options.constructs.definition,
+                frontmatter: options.constructs.frontmatter,
+                gfm_footnote_definition: options.constructs.gfm_footnote_definition,
                 gfm_table: options.constructs.gfm_table,
                 heading_atx: options.constructs.heading_atx,
                 heading_setext: options.constructs.heading_setext,

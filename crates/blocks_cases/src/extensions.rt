@@ -202,6 +202,66 @@ definitions 0
 footnotes 1
 = a\\]
 
+own choice: footnotes as on GitHub | gfm | gfm_footnote_definition
+"[^\\\\]: b"
+footnote
+  label | \\\\
+  paragraph
+    | b
+definitions 0
+footnotes 1
+= \\\\
+
+own choice: footnotes as on GitHub | gfm | gfm_footnote_definition
+"[^\\[a]: b\n\n     \n      c"
+footnote
+  label | \\[a
+  paragraph
+    | b
+  paragraph
+    | c
+definitions 0
+footnotes 1
+= \\[a
+
+own choice: footnotes as on GitHub | gfm | gfm_footnote_definition list_item
+"- [^a]: b\n\n\t  c"
+list -
+  item
+    footnote
+      label | a
+      paragraph
+        | b
+      paragraph
+        | c
+definitions 0
+footnotes 1
+= a
+
+own choice: footnotes as on GitHub | gfm | gfm_footnote_definition block_quote
+">\t[^a]:\tb\n>\n>\t c"
+quote
+  footnote
+    label | a
+    paragraph
+      | b
+  paragraph
+    | c
+definitions 0
+footnotes 1
+= a
+
+own choice: footnotes as on GitHub | gfm | gfm_footnote_definition code_fenced
+"[^a]: ~~~\n    b\n  ~~~"
+footnote
+  label | a
+  fence ~ open
+    | b
+fence ~ open
+definitions 0
+footnotes 1
+= a
+
 own choice: footnotes as on GitHub | gfm | nothing
 "[^a[b]: c\n\n[^a\\]: d"
 paragraph

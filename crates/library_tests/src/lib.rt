@@ -2,6 +2,8 @@
 #![tactic(auto)]
 
 #[cfg(test)]
+mod footnotes;
+#[cfg(test)]
 mod grammars;
 #[cfg(test)]
 mod heading_text;

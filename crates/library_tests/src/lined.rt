@@ -41,6 +41,25 @@ fn name(letter: u8) -> Name {
     }
 }
 
+// What a letter behind a comma begins or ends: frontmatter, lists and footnote definitions.
+fn other_name(letter: u8) -> Name {
+    match letter.to_ascii_uppercase() {
+        b'T' => Name::Frontmatter,
+        b'G' => Name::FrontmatterFence,
+        b'S' => Name::FrontmatterSequence,
+        b'X' => Name::FrontmatterChunk,
+        b'U' => Name::ListUnordered,
+        b'I' => Name::ListItem,
+        b'M' => Name::ListItemMarker,
+        b'F' => Name::GfmFootnoteDefinition,
+        b'P' => Name::GfmFootnoteDefinitionPrefix,
+        b'L' => Name::GfmFootnoteDefinitionLabel,
+        b'A' => Name::GfmFootnoteDefinitionLabelString,
+        b'D' => Name::Data,
+        _ => Name::SpaceOrTab,
+    }
+}
+
 // What a letter behind a dot begins or ends, in a table.
 fn table_name(letter: u8) -> Name {
     match letter.to_ascii_uppercase() {
@@ -87,12 +106,14 @@ fn point(text: &[u8], index: usize, vs: usize) -> Point {
 }
 
 // The events of a list: each a letter and the byte it stands at, as a letter from `a` on. A digit behind that says how
-// many columns of a tab there were taken. A letter with a dot in front is one of a table.
+// many columns of a tab there were taken. A letter with a dot in front is one of a table, and with a comma one of
+// frontmatter, a list or a footnote definition.
 fn all(alloc: Global, text: &[u8], list: &str) -> Result<Vec<Event>, AllocError> {
     let mut events = Vec::new(alloc);
     for part in list.split(' ') {
         let (letter, name, index, vs) = match part.as_bytes() {
             [b'.', letter, index] => (*letter, table_name(*letter), *index, b'0'),
+            [b',', letter, index] => (*letter, other_name(*letter), *index, b'0'),
             [letter, index] => (*letter, name(*letter), *index, b'0'),
             [letter, index, vs] => (*letter, name(*letter), *index, *vs),
             _ => (b'W', Name::SpaceOrTab, b'a', b'0'),
@@ -116,8 +137,8 @@ fn all(alloc: Global, text: &[u8], list: &str) -> Result<Vec<Event>, AllocError>
 }
 
 // The outline of such events: a leaf block as a word, a table with a plus for each column, what a fence says behind `i`
-// and `m`, the parts of a definition behind `l`, `u` and `t`, the cells of a row behind `c`, a delimiter row behind `-`,
-// and each line of text between bars, behind a dot for each virtual space.
+// and `m`, the parts of a definition or the label of a footnote definition behind `l`, `u` and `t`, the cells of a row
+// behind `c`, a delimiter row behind `-`, and each line of text between bars, behind a dot for each virtual space.
 fn shown(alloc: Global, text: &str, list: &str) -> Result<String, Message> {
     let Ok(events) = all(alloc, text.as_bytes(), list) else {
         return Err(Message);
@@ -150,6 +171,13 @@ fn add(shown: &mut String, word: Word, spaces: usize, text: &str) -> Result<(), 
             shown.push_str("h")?;
             shown.push(char::from(depth.saturating_add(b'0')))
         }
+        Word::Frontmatter(marker) => {
+            shown.push_str("front")?;
+            shown.push(char::from(marker))
+        }
+        Word::List(marker) => shown.push(char::from(marker)),
+        Word::Item => shown.push_str("i"),
+        Word::Footnote => shown.push_str("f"),
         Word::Quote => shown.push_str("q"),
         Word::Paragraph => shown.push_str("p"),
         Word::Definition => shown.push_str("d"),
@@ -377,6 +405,66 @@ fn shows_math(rt: HostRuntime) {
             "$$ a b\nc\n$$",
             "Ma Ha Ra rc Wc wd Kd kg hg Lg lh Yh yi Li lj Hj Rj rl hl ml",
             "closed$m|a b||c|",
+        ),
+    ] {
+        check(&rt, rt.alloc(), text, list, want);
+    }
+}
+
+// Own choice: frontmatter
+#[test]
+fn shows_frontmatter(rt: HostRuntime) {
+    for (text, list, want) in [
+        (
+            "---\n---",
+            ",Ta ,Ga ,Sa ,sd ,gd Ld le ,Ge ,Se ,sh ,gh ,th",
+            "front-",
+        ),
+        // Spaces behind its fences, a line, and empty ones
+        (
+            "+++ \na: b\n\n\n+++\t\nc",
+            ",Ta ,Ga ,Sa ,sd Wd we ,ge Le lf ,Xf ,xj Lj lk Lk ll Ll lm ,Gm ,Sm ,sp Wp wq ,gq ,tq Lq lr Pr ps",
+            "front+|a: b|||||p|c|",
+        ),
+        // Its lines are shown as they stand
+        (
+            "---\n\ta \n---",
+            ",Ta ,Ga ,Sa ,sd ,gd Ld le ,Xe ,xh Lh li ,Gi ,Si ,sl ,gl ,tl",
+            "front-|\ta |",
+        ),
+    ] {
+        check(&rt, rt.alloc(), text, list, want);
+    }
+}
+
+// Own choice: footnotes as on GitHub
+#[test]
+fn shows_footnote_definitions(rt: HostRuntime) {
+    for (text, list, want) in [
+        (
+            "[^a]: b\n\n    c",
+            ",Fa ,Pa ,La ,Ac ,Dc ,dd ,ad ,le We wg ,pg Pg ph Lh li Bi bj Wj wn Pn po ,fo",
+            "fl|a|p|b|p|c|",
+        ),
+        // Without a block
+        (
+            " [^a b]:",
+            ",Fa Wa wb ,Pb ,Lb ,Ad ,ag ,lh ,pi ,fi",
+            "fl|a b|",
+        ),
+        // Two of them, and one in one
+        (
+            "[^a]:\n[^b]:[^c]:d",
+            ",Fa ,Pa ,La ,Ac ,ad ,le ,pf ,ff Lf lg ,Fg ,Pg ,Lg ,Ai ,aj ,lk ,pl ,Fl ,Pl ,Ll ,An ,ao ,lp ,pq Pq pr ,fr \
+             ,fr",
+            "fl|a|fl|b|fl|c|p|d|",
+        ),
+        // In an item, and with a quote and a list in it
+        (
+            "-[^a]:>b\n    -c",
+            ",Ua ,Ia ,Ma ,mb ,Fb ,Pb ,Lb ,Ad ,ae ,lf ,pg Qg Og oh Ph pi qi Li lj Wj wn ,Un ,In ,Mn ,mo Po pp ,ip ,up \
+             ,fp ,ip ,up",
+            "-ifl|a|qp|b|-ip|c|",
         ),
     ] {
         check(&rt, rt.alloc(), text, list, want);

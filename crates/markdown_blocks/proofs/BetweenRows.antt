@@ -13,7 +13,7 @@ use Rattle.md_definition.specs.State.{Container}
 use Rattle.md_outline.specs.Between.{is_between}
 use Rattle.markdown_blocks.specs.Change.{ends_of}
 use Rattle.markdown_blocks.specs.Fronted.{contained, rest_from, rest_line}
-use Rattle.markdown_blocks.specs.Rows.{final_row, first_row, group_done, group_events}
+use Rattle.markdown_blocks.specs.Rows.{final_row, first_row, front_done, group_done, group_events}
 use Rattle.markdown_blocks.specs.Rows.{Group, Lines, Row, Single, behind_row, ending_events, groups}
 use Rattle.markdown_blocks.specs.Rows.{groups_events, tail_events}
 use Rattle.markdown_blocks.proofs.EachRow.{EachGroup, EachRow, OfGroup, groups-each, last-each}
@@ -94,8 +94,9 @@ between-by_groups options bytes = record {
       let first : RowBetween bytes row = first-between bytes group h.0 in
       let last : RowBetween bytes (final_row group) = final-between bytes group h.0 in
       between-append bytes (group_events options bytes group) (groups_events options bytes gs)
-      (line-between bytes (group_ending group) row.front (group_done options bytes group) (final_row group) last
-      (fronts-between bytes row.change.opens p row.first row.front from o.front).0
+      (line-between bytes (group_ending group) (front_done bytes row) (group_done options bytes group)
+      (final_row group) last
+      (fronts-between bytes row.change.opens p row.first (front_done bytes row) from o.front_read.is).0
       (o.leaf.1.between first.first last.end))
       (on last.behind h.1);
 }

@@ -37,7 +37,7 @@ starts-tiled p q [] h lt = go (and_parts (p.index == q.index) (p.vs == q.vs) h.c
 starts-tiled p q (e ∷ es) h lt = h.begins
 
 -- bytes without endings are of one line
-in_line : (line : List ℕ) → NoEnding line → is_in_line line ≡ true
+pub in_line : (line : List ℕ) → NoEnding line → is_in_line line ≡ true
 in_line [] h = refl
 in_line (b ∷ line) h = and_from (not (is_ending b)) (is_in_line line) (ap not h.0) (in_line line h.1)
 

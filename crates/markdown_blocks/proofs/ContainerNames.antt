@@ -18,11 +18,12 @@ use Rattle.md_content.specs.Joined.{content_behind}
 use Rattle.md_outline.specs.Roles.{is_plain}
 use Rattle.md_seam.specs.Events.Blocks.{is_block}
 use Rattle.md_seam.specs.Events.Endings.{on_line}
-use Rattle.md_seam.specs.Events.Grammar.{Expression, behind}
+use Rattle.md_seam.specs.Events.Grammar.{Expression, behind, may_end}
 use Rattle.md_seam.specs.Events.Inline.{is_line_ending}
 use Rattle.md_seam.specs.Events.Nested.{enter, exit}
 use Rattle.md_seam.specs.Events.Prefix.{is_prefix}
 use Rattle.md_seam.specs.Events.Spelled.{Holds, Reading, Shape, block_around, left, read, role}
+use Rattle.md_seam.specs.Events.Tiles.{part_kind}
 use Rattle.md_definition.specs.Containers.{Taken, continues, footnote_continues, item_continues, quote_taken}
 use Rattle.md_definition.specs.Rest.{Rest}
 use Rattle.md_definition.specs.State.{Container, InFootnote, InItem, InQuote, container_block}
@@ -33,7 +34,7 @@ use Rattle.markdown_blocks.proofs.LeafStands.{Moves}
 use Rattle.markdown_blocks.proofs.PartedFacts.{Still}
 use Rattle.markdown_blocks.proofs.PlainFacts.{Untold}
 
--- events with names of prefixes or of containers, none of which begins a chunk
+-- names of prefixes and of containers, and of what they tell where they open
 abbrev pub is_front : Name → Bool
 is_front n.BlockQuote = true
 is_front n.ListItem = true
@@ -41,6 +42,13 @@ is_front n.ListItemPrefix = true
 is_front n.ListItemValue = true
 is_front n.ListItemMarker = true
 is_front n.GfmFootnoteDefinition = true
+is_front n.GfmFootnoteDefinitionPrefix = true
+is_front n.GfmFootnoteDefinitionLabel = true
+is_front n.GfmFootnoteDefinitionLabelMarker = true
+is_front n.GfmFootnoteDefinitionMarker = true
+is_front n.GfmFootnoteDefinitionLabelString = true
+is_front n.DefinitionMarker = true
+is_front n.Data = true
 is_front name = is_prefix name
 
 -- so names of prefixes are among them
@@ -57,6 +65,7 @@ pub record ContainerFacts (c : Container) : Type 0 where
   pub begin_stops : (p : Point) (ys : List Event) → content_behind (enter (container_name c) p ∷ ys) ≡ false
   -- it is no leaf and no ending
   pub other : is_other (on_line (container_name c)) ≡ true
+  pub no_part : part_kind (container_name c) ≡ None
   pub no_ending : is_line_ending (container_name c) ≡ false
   -- it is a block, and an item or none; where it is innermost it ends between blocks
   pub block_role : is_block (role (container_name c)) ≡ true
@@ -79,6 +88,7 @@ container-facts InQuote = record {
   no_prefix = refl;
   begin_stops = λ p ys. refl;
   other = refl;
+  no_part = refl;
   no_ending = refl;
   block_role = refl;
   item_role = refl;
@@ -93,11 +103,13 @@ container-facts InQuote = record {
     held-is : (k : ContainerKind) → IsOf k InQuote → name_of k ≡ n.BlockQuote
     held-is kind.BlockQuote e = refl
     held-is kind.ListItem e = cc
+    held-is kind.GfmFootnoteDefinition e = cc
 container-facts (InItem digits marker width starts_blank) = record {
   front = refl;
   no_prefix = refl;
   begin_stops = λ p ys. refl;
   other = refl;
+  no_part = refl;
   no_ending = refl;
   block_role = refl;
   item_role = refl;
@@ -113,11 +125,13 @@ container-facts (InItem digits marker width starts_blank) = record {
     held-is zero k e = cc
     held-is (suc more) kind.BlockQuote e = cc
     held-is (suc more) kind.ListItem e = refl
+    held-is (suc more) kind.GfmFootnoteDefinition e = cc
 container-facts (InFootnote label) = record {
   front = refl;
   no_prefix = refl;
   begin_stops = λ p ys. refl;
   other = refl;
+  no_part = refl;
   no_ending = refl;
   block_role = refl;
   item_role = refl;
@@ -126,8 +140,13 @@ container-facts (InFootnote label) = record {
   untold = λ h. (h, refl);
   block = λ bs. refl;
   read_end = λ bytes p r. refl;
-  held = λ k e. cc;
+  held = held-is;
 }
+  where
+    held-is : (k : ContainerKind) → IsOf k (InFootnote label) → name_of k ≡ n.GfmFootnoteDefinition
+    held-is kind.BlockQuote e = cc
+    held-is kind.ListItem e = cc
+    held-is kind.GfmFootnoteDefinition e = refl
 
 -- lines of content do not go on over its end
 pub end-stops : (c : Container) (p : Point) (ys : List Event) →
@@ -174,12 +193,18 @@ continues-kind options (InItem digits marker width starts_blank) r t e = ap cont
 continues-kind options (InFootnote label) r t e = ap container_kind (when-container _ _ t e)
 
 -- What holds of the name of each kind of container that the tokenizer holds.
-pub held-names : (P : Name → Type 0) → P n.BlockQuote → P n.ListItem → (k : ContainerKind) → P (name_of k)
-held-names P quote item kind.BlockQuote = quote
-held-names P quote item kind.ListItem = item
+pub held-names : (P : Name → Type 0) → P n.BlockQuote → P n.ListItem → P n.GfmFootnoteDefinition →
+    (k : ContainerKind) → P (name_of k)
+held-names P quote item footnote kind.BlockQuote = quote
+held-names P quote item footnote kind.ListItem = item
+held-names P quote item footnote kind.GfmFootnoteDefinition = footnote
 
 -- In the grammar of events.
 
 -- what may stand here takes what containers add to a line, and is left as it is
 abbrev pub TakesPrefixes : Expression → Type 0
 TakesPrefixes x = (behind n.SpaceOrTab x ≡ x) × (behind n.BlockQuotePrefix x ≡ x)
+
+-- a text part of one piece may stand, where this stands in text parts
+abbrev pub TakesData : Expression → Type 0
+TakesData text = may_end (behind n.Data text) ≡ true

@@ -1,22 +1,36 @@
 -- Each state of the document keeps what its table needs.
-use Rattle.std.proofs.Common.{◌≡◌, false, length, refl, arith}
+use Rattle.std.proofs.Common.{◌≡◌, false, length, Option, Some, None, IfSome, refl, arith}
 use Rattle.md_engine.specs.declared.state.Name.{Name as StateName}
 use Rattle.md_engine.specs.declared.state.Name.TheVariants as n
 use Rattle.md_engine.specs.declared.state.bom.State.TheVariants as bom
 use Rattle.md_engine.specs.declared.state.document.State.{State as DocumentState}
 use Rattle.md_engine.specs.declared.state.document.State.TheVariants as document
-use Rattle.md_engine.specs.declared.state.State.TheVariants.{Next}
+use Rattle.md_engine.specs.declared.state.State.TheVariants.{Next, Ok}
+use Rattle.md_engine.specs.declared.state.frontmatter.State.TheVariants as front
+use Rattle.md_engine.specs.declared.stay.Stay.{Stay}
 use Rattle.md_engine.specs.Scheme.{after_all, spot, stands}
+use Rattle.md_engine.specs.Staying.{StaysOn}
 use Rattle.md_engine.specs.World.{World, looks}
 use Rattle.md_engine.proofs.Falls.{later_at}
-use Rattle.md_engine.proofs.Local.{accepts, begins_try, fits}
+use Rattle.md_engine.proofs.Local.{begins_try, fits}
 use Rattle.md_engine.proofs.Points.{stays}
+use Rattle.md_containers.specs.Frontmatter.{front_scheme}
+use Rattle.md_containers.proofs.FrontmatterGoods.{FrontFits, front_does}
 use Rattle.md_leaves.specs.Bom.{bom_scheme}
 use Rattle.md_leaves.proofs.BomGoods.{BomFits, bom_does}
 use Rattle.md_seam.specs.Spaces.{IsRest, rest_ready}
-use Rattle.md_seam.proofs.SpacesGoods.{Does}
-use Rattle.markdown_blocks.specs.Document.{document_own_transition, document_owner, document_scheme}
-use Rattle.markdown_blocks.specs.Document.{document_table_scheme, document_transition, start_transition}
+use Rattle.md_seam.specs.Stays.{TakesEach}
+use Rattle.md_seam.proofs.StaysLemmas.{stays-on}
+use Rattle.md_seam.proofs.SpacesGoods.{Does, WhiteFits, white_does}
+use Rattle.markdown_blocks.specs.Document.{DocumentStep, before_frontmatter_transition, document_own_transition}
+use Rattle.markdown_blocks.specs.Document.{document_owner, document_scheme, document_table_scheme}
+use Rattle.markdown_blocks.specs.Document.{document_transition, start_transition}
+
+white_fits : WhiteFits document_table_scheme
+white_fits = record { each = λ state. fits document_owner (n.SpaceOrTab state) }
+
+front_fits : FrontFits document_table_scheme
+front_fits = record { white = white_fits; each = λ state. fits document_owner (n.Frontmatter state) }
 
 bom_fits : BomFits document_table_scheme
 bom_fits = record { each = λ state. fits document_owner (n.Bom state) }
@@ -56,16 +70,46 @@ good_start w r =
       refl,
     )
 
+-- frontmatter is tried, and behind it the document ends
+good_front : (w : World) → rest_ready (spot w) (after_all document_table_scheme w.frames) →
+    Does document_table_scheme (n.Document document.BeforeFrontmatter) w (before_frontmatter_transition w)
+good_front w r = (
+  begins_try document_table_scheme document_scheme front_scheme (n.Document document.BeforeFrontmatter)
+      (n.Frontmatter front.Start) w IsRest IsRest w.events w.scratch
+      (record { ok = Ok; nok = Ok; is_check = false; events_len = length w.events; point = w.point })
+      (fits document_owner (n.Document document.BeforeFrontmatter)) (fits document_owner (n.Frontmatter front.Start)) tt
+      tt refl
+      (record {
+        ok = λ s q t is up way. r.1.ok s q t is up way;
+        ok_level = omega arith;
+        ok_rank = λ s t is up. omega arith;
+        nok = λ s t is up. r.1.ok s w.point t is up (stays t.limit w.point);
+        nok_level = omega arith;
+        nok_rank = λ s t is up. omega arith;
+      }) (λ K e. (r.0, e)) (omega arith) (omega arith) (omega arith),
+  refl,
+)
+
 -- the states in front of the lines
-front_does : (state : DocumentState) (w : World) → stands document_table_scheme w (Next (n.Document state)) →
+own_does : (state : DocumentState) (w : World) → stands document_table_scheme w (Next (n.Document state)) →
     Does document_table_scheme (n.Document state) w (document_own_transition state w)
-front_does document.Start w r = good_start w r
-front_does document.BeforeFrontmatter w r =
-    (accepts document_table_scheme (n.Document document.BeforeFrontmatter) w _ _ w.events w.scratch r.1 r.0, refl)
-front_does state w r = absurd r
+own_does document.Start w r = good_start w r
+own_does document.BeforeFrontmatter w r = good_front w r
+own_does state w r = absurd r
 
 pub document_does : (name : StateName) (w : World) → w.current ≡ looks w → stands document_table_scheme w (Next name) →
     Does document_table_scheme name w (document_transition name w)
 document_does (n.Bom state) w c r = bom_does document_table_scheme state w bom_fits c r
-document_does (n.Document state) w c r = front_does state w r
+document_does (n.Frontmatter state) w c r = front_does document_table_scheme state w front_fits c r
+document_does (n.SpaceOrTab state) w c r = white_does document_table_scheme state w white_fits c r
+document_does (n.Document state) w c r = own_does state w r
 document_does name w c r = absurd r
+
+-- and stays on what it only takes
+pub document-stays : (name : StateName) (o : Option Stay) →
+    IfSome o (λ k. TakesEach k name (document_transition name)) →
+    IfSome o (λ k. StaysOn DocumentStep document_table_scheme name k)
+document-stays name None h = tt
+document-stays name (Some k) h =
+    stays-on DocumentStep document_table_scheme name k (document_transition name)
+    (λ w to new e k. record { to_is = e; new_is = k }) (document_does name) h

@@ -10,18 +10,14 @@ use Rattle.std.specs.Prelude.{Option, Some, None, not}
 use Rattle.md_engine.specs.declared.configuration.ParseOptions.{ParseOptions}
 use Rattle.md_engine.specs.declared.event.Event.{Event}
 use Rattle.md_engine.specs.declared.event.Name.{Name}
-use Rattle.md_engine.specs.declared.event.Name.TheVariants as n
 use Rattle.md_engine.specs.declared.event.Point.{Point}
 use Rattle.md_seam.specs.Events.Endings.{Spot, endings_stand, endings_stand_from, is_filled, line_start}
 use Rattle.md_seam.specs.Events.Nested.{exit, pair}
-use Rattle.md_seam.specs.Events.Places.{first_point}
-use Rattle.md_definition.specs.Preamble.{has_mark}
 use Rattle.md_definition.specs.State.{Container}
 use Rattle.md_seam.proofs.EndingsLemmas.{AreOthers, Leads, leads-append, others-append, others-lead}
 use Rattle.markdown_blocks.specs.Registry.{container_name}
 use Rattle.markdown_blocks.specs.Change.{ends_of}
-use Rattle.markdown_blocks.specs.Document.{body_point, mark_end, mark_events}
-use Rattle.markdown_blocks.specs.Rows.{final_row, first_row, group_done, BlankRow, Group, Lines, Row}
+use Rattle.markdown_blocks.specs.Rows.{final_row, first_row, front_done, group_done, BlankRow, Group, Lines, Row}
 use Rattle.markdown_blocks.specs.Rows.{RowKind, Single, TextRow, ending_events, goes_on, group_events, groups}
 use Rattle.markdown_blocks.specs.Rows.{groups_events, onto_groups, tail_events, LeafRow}
 use Rattle.markdown_blocks.specs.Rows.{group_ending, is_blank_group}
@@ -30,6 +26,7 @@ use Rattle.markdown_blocks.proofs.EndingFacts.{ending-leads}
 use Rattle.markdown_blocks.proofs.GroupLemmas.{AreGroups, EndsBeforeGroups, HasFront, IsSingle, groups-are, rows-end}
 use Rattle.markdown_blocks.proofs.JoinedLemmas.{EachEnds, EachNoContent, ending-is}
 use Rattle.markdown_blocks.proofs.RowFacts.{AreRows}
+use Rattle.markdown_blocks.proofs.FrontFacts.{LinePrefix}
 use Rattle.markdown_blocks.proofs.FrontStands.{container-others, fronts-others}
 use Rattle.markdown_blocks.proofs.GroupFacts.{group-front, headed-stands, more-groups, single-stands, span-stands}
 use Rattle.markdown_blocks.proofs.GroupFacts.{turned-stands}
@@ -37,6 +34,8 @@ use Rattle.markdown_blocks.proofs.HeadedTable.{headed-is}
 use Rattle.markdown_blocks.proofs.LeafFacts.{StandFacts, spot_behind}
 use Rattle.markdown_blocks.proofs.Text.Stands.{text-stands}
 use Rattle.markdown_blocks.proofs.Underlines.{under-filled}
+use Rattle.markdown_blocks.proofs.Frontmatter.Whole.{Leaves, ToEnd, ToLine}
+use Rattle.std.proofs.Common.{◌≤◌, length, append-nil}
 
 -- Events that are no ending, and no begin or end of a leaf.
 
@@ -109,24 +108,29 @@ groups-ended (row ∷ below ∷ rows) h =
     ends [] = tt
     ends (group ∷ gs) = (h.0, h.1)
 
--- the events of groups, by what stands in the place of each
+-- the events of groups, by what stands in the place of each, with what stands in front of it
 abbrev group_with : (Group → List Event) → Group → List Event
-group_with leaf group =
-    (first_row group).front ++ leaf group ++ tail_events (group_ending group) (final_row group)
+group_with leaf group = leaf group ++ tail_events (group_ending group) (final_row group)
 
 abbrev groups_with : (Group → List Event) → List Group → List Event
 groups_with leaf [] = []
 groups_with leaf (group ∷ gs) = group_with leaf group ++ groups_with leaf gs
 
 -- before text parts are read, and once they are
+abbrev unread_leaf : ParseOptions → List ℕ → Group → List Event
+unread_leaf options bytes group = (first_row group).front ++ group_unread options bytes group
+
+abbrev read_leaf : ParseOptions → List ℕ → Group → List Event
+read_leaf options bytes group = front_done bytes (first_row group) ++ group_done options bytes group
+
 unread-with : (options : ParseOptions) (bytes : List ℕ) (gs : List Group) →
-    groups_with (group_unread options bytes) gs ≡ listed_groups options bytes gs
+    groups_with (unread_leaf options bytes) gs ≡ listed_groups options bytes gs
 unread-with options bytes [] = refl
 unread-with options bytes (group ∷ gs) =
     ap (λ (l : List Event). listed_group options bytes group ++ l) (unread-with options bytes gs)
 
 read-with : (options : ParseOptions) (bytes : List ℕ) (gs : List Group) →
-    groups_with (group_done options bytes) gs ≡ groups_events options bytes gs
+    groups_with (read_leaf options bytes) gs ≡ groups_events options bytes gs
 read-with options bytes [] = refl
 read-with options bytes (group ∷ gs) =
     ap (λ (l : List Event). group_events options bytes group ++ l) (read-with options bytes gs)
@@ -144,7 +148,15 @@ behind_group group = spot_behind (not (is_blank_group group))
 -- What stands in the place of a group.
 abbrev Within : ParseOptions → List ℕ → (Group → List Event) → Type 0
 Within options bytes leaf =
-    (group : Group) → LeafEnds options bytes group → Leads line_start (behind_group group) (leaf group)
+    (group : Group) → HasFront bytes (first_row group) → LeafEnds options bytes group →
+    Leads line_start (behind_group group) (leaf group)
+
+-- with what stands in front of it
+front-leads : (bytes : List ℕ) (opens : List Container) (p q : Point) (front leaf : List Event) (s : Spot) →
+    LinePrefix bytes opens p q front → Leads line_start s leaf → Leads line_start s (front ++ leaf)
+front-leads bytes opens p q front leaf s is h =
+    leads-append line_start line_start s front leaf
+    (others-lead line_start front refl (fronts-others bytes opens p q front is)) h
 
 -- groups whose endings stand
 abbrev Stand : (Group → List Event) → List Group → Type 0
@@ -174,17 +186,14 @@ tail-stands leaf s name last gs same ends before on =
         ∙ ends last.end h.0 (groups_with leaf (group ∷ gs)) ∙ k
 
 -- a group in front of further ones
-line-stands : (bytes : List ℕ) (leaf : Group → List Event) (s : Spot) (name : Name) (row last : Row) (es : List Event)
-    (gs : List Group) →
-    HasFront bytes row → Leads line_start s es → is_filled s ≡ s.after_leaf →
+line-stands : (leaf : Group → List Event) (s : Spot) (name : Name) (last : Row) (es : List Event) (gs : List Group) →
+    Leads line_start s es → is_filled s ≡ s.after_leaf →
     ((p q : Point) → Leads s line_start (pair name p q)) → EndsBeforeGroups last gs → Stand leaf gs →
-    endings_stand_from line_start ((row.front ++ es ++ tail_events name last) ++ groups_with leaf gs) ≡ true
-line-stands bytes leaf s name row last es gs front h same ends before on =
+    endings_stand_from line_start ((es ++ tail_events name last) ++ groups_with leaf gs) ≡ true
+line-stands leaf s name last es gs h same ends before on =
     let behind : List Event = tail_events name last ++ groups_with leaf gs in
-    ap (endings_stand_from line_start) (append_assoc (row.front ++ es) (tail_events name last) (groups_with leaf gs))
-    ∙ leads-append line_start line_start s row.front es
-    (others-lead line_start row.front refl
-    (fronts-others bytes row.change.opens front.0 row.first row.front front.1)) h behind
+    ap (endings_stand_from line_start) (append_assoc es (tail_events name last) (groups_with leaf gs))
+    ∙ h behind
     ∙ tail-stands leaf s name last gs same ends before on
 
 -- where a line stands behind its leaf, it is filled or not
@@ -231,46 +240,52 @@ groups-stand : (options : ParseOptions) (bytes : List ℕ) (leaf : Group → Lis
 groups-stand options bytes leaf [] within are ended = refl
 groups-stand options bytes leaf (group ∷ gs) within are ended =
     let is : LeafEnds options bytes group = group-ends options bytes group gs are in
-    line-stands bytes leaf (behind_group group) (group_ending group) (first_row group) (final_row group)
-    (leaf group) gs (group-front options bytes group gs are) (within group is)
+    line-stands leaf (behind_group group) (group_ending group) (final_row group) (leaf group) gs
+    (within group (group-front options bytes group gs are) is)
     (spot-filled (not (is_blank_group group))) (ending-leads (is_blank_group group)) ended.0
     (groups-stand options bytes leaf gs within (more-groups options bytes group gs are) ended.1)
 
 -- The events of a text.
 
--- with those of a mark in front
-mark-leads : (bytes : List ℕ) → Leads line_start line_start (mark_events bytes)
-mark-leads bytes = go (has_mark bytes)
-  where
-    go : (x : Bool) → Leads line_start line_start (cond x (pair n.ByteOrderMark first_point mark_end) [])
-    go true = λ ys. refl
-    go false = λ ys. refl
-
-endings-with : (options : ParseOptions) (bytes : List ℕ) (lines : List (List ℕ)) (rows : List Row)
-    (leaf : Group → List Event) (events : List Event) →
+-- with those of its front before them
+endings-with : (options : ParseOptions) (bytes : List ℕ) (p : Point) (front : List Event) (lines : List (List ℕ))
+    (rows : List Row) (leaf : Group → List Event) (events : List Event) →
     Within options bytes leaf →
-    groups_with leaf (groups rows) ≡ events → AreRows options bytes [] held_leaf.None (body_point bytes) lines rows →
-    EachNoContent rows → endings_stand (mark_events bytes ++ events) ≡ true
-endings-with options bytes lines rows leaf events within same are quiet =
-    let p : Point = body_point bytes in
-    mark-leads bytes events
+    groups_with leaf (groups rows) ≡ events → Leaves bytes p front → (length bytes ≤ p.index → events ≡ []) →
+    AreRows options bytes [] held_leaf.None p lines rows → EachNoContent rows → endings_stand (front ++ events) ≡ true
+endings-with options bytes p front lines rows leaf events within same (ToLine leads whole) none are quiet =
+    leads events
     ∙ ap (endings_stand_from line_start) (sym same)
     ∙ groups-stand options bytes leaf (groups rows) within
     (groups-are options bytes [] held_leaf.None p lines rows (refl, refl) are quiet)
     (groups-ended rows (rows-end options bytes [] held_leaf.None p lines rows are))
+endings-with options bytes p front lines rows leaf events within same (ToEnd over stand whole) none are quiet =
+    ap (λ (es : List Event). endings_stand (front ++ es)) (none over)
+    ∙ ap endings_stand (append-nil front) ∙ stand
 
 -- The endings of a text stand before its text parts are read,
-pub blocks-endings : (options : ParseOptions) (bytes : List ℕ) (lines : List (List ℕ)) (rows : List Row) →
-    AreRows options bytes [] held_leaf.None (body_point bytes) lines rows → EachNoContent rows →
-    endings_stand (mark_events bytes ++ listed_groups options bytes (groups rows)) ≡ true
-blocks-endings options bytes lines rows are quiet =
-    endings-with options bytes lines rows (group_unread options bytes) (listed_groups options bytes (groups rows))
-    (λ group is. is.unread_ending) (unread-with options bytes (groups rows)) are quiet
+pub blocks-endings : (options : ParseOptions) (bytes : List ℕ) (p : Point) (front : List Event)
+    (lines : List (List ℕ)) (rows : List Row) →
+    Leaves bytes p front → (length bytes ≤ p.index → listed_groups options bytes (groups rows) ≡ []) →
+    AreRows options bytes [] held_leaf.None p lines rows → EachNoContent rows →
+    endings_stand (front ++ listed_groups options bytes (groups rows)) ≡ true
+blocks-endings options bytes p front lines rows leaves none are quiet =
+    endings-with options bytes p front lines rows (unread_leaf options bytes)
+    (listed_groups options bytes (groups rows))
+    (λ group before is.
+    let row : Row = first_row group in
+    front-leads bytes row.change.opens before.0 row.first row.front (group_unread options bytes group)
+    (behind_group group) before.1 is.unread_ending) (unread-with options bytes (groups rows)) leaves none are quiet
 
 -- and once they are.
-pub events-endings : (options : ParseOptions) (bytes : List ℕ) (lines : List (List ℕ)) (rows : List Row) →
-    AreRows options bytes [] held_leaf.None (body_point bytes) lines rows → EachNoContent rows →
-    endings_stand (mark_events bytes ++ groups_events options bytes (groups rows)) ≡ true
-events-endings options bytes lines rows are quiet =
-    endings-with options bytes lines rows (group_done options bytes) (groups_events options bytes (groups rows))
-    (λ group is. is.ending) (read-with options bytes (groups rows)) are quiet
+pub events-endings : (options : ParseOptions) (bytes : List ℕ) (p : Point) (front : List Event)
+    (lines : List (List ℕ)) (rows : List Row) →
+    Leaves bytes p front → (length bytes ≤ p.index → groups_events options bytes (groups rows) ≡ []) →
+    AreRows options bytes [] held_leaf.None p lines rows → EachNoContent rows →
+    endings_stand (front ++ groups_events options bytes (groups rows)) ≡ true
+events-endings options bytes p front lines rows leaves none are quiet =
+    endings-with options bytes p front lines rows (read_leaf options bytes) (groups_events options bytes (groups rows))
+    (λ group before is.
+    let row : Row = first_row group in
+    front-leads bytes row.change.opens before.0 row.first (front_done bytes row) (group_done options bytes group)
+    (behind_group group) before.2.is is.ending) (read-with options bytes (groups rows)) leaves none are quiet

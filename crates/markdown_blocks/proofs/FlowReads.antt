@@ -2,7 +2,7 @@
 use Rattle.md_engine.specs.declared.tokenizer.held_leaf.HeldLeaf.TheVariants as held_leaf
 use Rattle.std.proofs.Common.{◌≡◌, ◌≢◌, ◌⊎◌, inl, inr, ◌^◌, ◌<◌, ℕ, suc, Bool, true, false, List, [], ◌∷◌, ◌++◌, length}
 use Rattle.std.proofs.Common.{◌≤◌}
-use Rattle.std.proofs.Common.{Option, refl, sym, ◌∙◌, ap, ap₂, subst, arith, map}
+use Rattle.std.proofs.Common.{Option, refl, sym, ◌∙◌, ap, ap₂, subst, arith}
 use Rattle.std.proofs.lemmas.Bool.{or_from}
 use Rattle.md_engine.specs.declared.configuration.ParseOptions.{ParseOptions}
 use Rattle.md_engine.specs.declared.event.Event.{Event}
@@ -472,10 +472,3 @@ flow-reads-from is_name bytes options p start to end at found items lines more n
     Type 0 = λ t. Flushes (FlowStep t) resolved_as end at true found items in
     flow-reads bytes options p end at found items lines more new small
     (subst P same (subst Q all (subst S named run))) (subst F named f) joining listing
-
--- What is known behind the resolvers of flow.
-
--- a list is empty that is mapped to the empty one
-pub map-nil : {A B : Type 0} (f : A → B) (xs : List A) → map f xs ≡ [] → xs ≡ []
-map-nil f [] e = refl
-map-nil f (x ∷ xs) e = cc

@@ -19,7 +19,6 @@ use Rattle.md_seam.specs.Ahead.{begins_white, from_ending, line_end}
 use Rattle.md_seam.specs.Events.Nested.{pair}
 use Rattle.md_definition.specs.State.{Container}
 use Rattle.md_seam.specs.Substituted.{Readings, Substituted}
-use Rattle.markdown_blocks.proofs.ContainerNames.{is_front}
 use Rattle.markdown_blocks.specs.Change.{interrupts, open_behind, others_of}
 use Rattle.markdown_blocks.specs.FlowReads.{has_text}
 use Rattle.markdown_blocks.specs.Rows.{BlankRow, Front, Held, Row, RowKind, TextRow, ending_of, held_at}
@@ -34,7 +33,7 @@ use Rattle.markdown_blocks.proofs.Registry.{laws, text-laws}
 use Rattle.markdown_blocks.proofs.JoinedLemmas.{EachNoContent, events-no_content, front-no_content, joined-passes}
 use Rattle.markdown_blocks.proofs.SubstitutedLemmas.{keeps, keeps-each}
 use Rattle.markdown_blocks.proofs.ContentFacts.{NoContent, WantsContent, content-alone, no_content-append, no_content-unwanted, nothing, nothing-wanted}
-use Rattle.markdown_blocks.proofs.PrefixNames.{AreFront, IsNamed}
+use Rattle.markdown_blocks.proofs.PrefixNames.{AreFront, IsFrontEvent}
 use Rattle.markdown_blocks.specs.Passed.{Passed}
 use Rattle.markdown_blocks.proofs.RegistryContainers.{goes-front, opens-front}
 use Rattle.markdown_blocks.specs.Rows.{is_blank_row}
@@ -50,7 +49,7 @@ more-front : (f : Passed → Front) (none : Front) → ((t : Passed) → AreFron
     (o : Option Passed) → ((t : Passed) → o ≡ Some t → AreFront t.events) →
     AreFront (events_of (elim o [ None ↦ none | Some t ↦ in_front t (f t) ]))
 more-front f none below h None k = h
-more-front f none below h (Some t) k = each-append (IsNamed is_front) t.events (f t).events (k t refl) (below t)
+more-front f none below h (Some t) k = each-append IsFrontEvent t.events (f t).events (k t refl) (below t)
 
 -- all that go on
 went-are : (options : ParseOptions) (cs : List Container) (cells : List Cell) (p : Point) →
@@ -87,7 +86,7 @@ unfolding held_at
 held-are options cs still cells p =
     let went : Front = went_front options cs cells p in
     let new : Front = new_behind options still (others_of cs went.containers) went in
-    each-append (IsNamed is_front) went.events new.events (went-are options cs cells p)
+    each-append IsFrontEvent went.events new.events (went-are options cs cells p)
     (behind-are options still (others_of cs went.containers) went)
 
 -- Lines.
@@ -155,7 +154,7 @@ rows-no_content wants w (row ∷ rows) framed quiet none =
     let other = or_parts (is_text row.kind) (has_text rows) none in
     no_content-append wants (row_events row) (rows_events rows)
     (events-no_content wants row row.kind refl (text-kind row.kind other.0)
-    (front-no_content wants row.front framed.0.front) (quiet.0 wants w))
+    (front-no_content wants w row.front framed.0.front) (quiet.0 wants w))
     (rows-no_content wants w rows framed.1 quiet.1 other.1)
 
 -- Where no line is text, reading content changes nothing.

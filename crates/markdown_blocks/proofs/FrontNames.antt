@@ -1,5 +1,5 @@
--- What holds of the events in front of a line: they are prefixes and begins of containers, and nothing of it is read
--- later. So it is with the ends of containers.
+-- What holds of the events in front of a line: they are prefixes and begins of containers. So it is with the ends of
+-- containers, of which nothing is read later, and with prefixes where no container begins.
 use Rattle.markdown_blocks.proofs.ContentFacts.{is_told}
 use Rattle.std.proofs.Common.{◌≡◌, ℕ, Bool, true, false, cond, ◌&&◌, List, [], ◌∷◌, ◌++◌, refl, ap, sym, ◌∙◌, subst}
 use Rattle.std.proofs.Common.{append_assoc}
@@ -11,20 +11,24 @@ use Rattle.md_content.specs.Joined.{content_behind, is_content}
 use Rattle.md_seam.specs.Events.Nested.{exit, is_enter}
 use Rattle.md_definition.specs.State.{Container}
 use Rattle.md_seam.specs.Events.Prefix.{is_prefix}
+use Rattle.md_seam.specs.Events.Tiles.{plain_read}
 use Rattle.markdown_blocks.proofs.EachEvent.{each-append}
+use Rattle.markdown_blocks.proofs.FillFacts.{fill-same, filled-read}
 use Rattle.markdown_blocks.specs.Change.{ends_of, is_none}
 use Rattle.markdown_blocks.specs.Rows.{Row}
-use Rattle.markdown_blocks.proofs.FrontFacts.{LinePrefix}
+use Rattle.markdown_blocks.proofs.FrontFacts.{LinePrefix, ReadFront}
 use Rattle.markdown_blocks.proofs.FrontFacts.LinePrefix.{Begins, Behind, Goes}
 use Rattle.markdown_blocks.proofs.ContainerNames.{container-facts, is_front}
 use Rattle.markdown_blocks.proofs.PrefixNames.{names-no_parts, names-unlinked, AreFront, ArePrefixes, prefixes-front}
-use Rattle.markdown_blocks.proofs.PrefixNames.{IsNamed}
-use Rattle.markdown_blocks.proofs.PartFacts.{NoLinks, NoParts}
+use Rattle.markdown_blocks.proofs.PrefixNames.{IsFrontEvent, IsNamed}
+use Rattle.markdown_blocks.proofs.PartFacts.{IsNoPart, IsUnlinked, NoLinks, NoParts}
 use Rattle.markdown_blocks.specs.Registry.{container_name}
 
--- what stands in front of a line are prefixes and begins of containers
+-- what stands in front of a line are prefixes and begins of containers, and so it is once text parts are read
 abbrev pub HasFront : List ℕ → Row → Type 0
-HasFront bytes row = (p : Point) × LinePrefix bytes row.change.opens p row.first row.front
+HasFront bytes row =
+    (p : Point) × (is : LinePrefix bytes row.change.opens p row.first row.front)
+    × ReadFront bytes row.change.opens p row.first row.front
 
 -- What they are.
 
@@ -40,17 +44,17 @@ pub fronts-are : (bytes : List ℕ) (opens : List Container) (p q : Point) (es :
     LinePrefix bytes opens p q es → AreFront es
 fronts-are bytes opens p q es (Behind r) = tt
 fronts-are bytes opens p q es (Goes same first mid last xs ys is more) =
-    each-append (IsNamed is_front) xs ys (prefixes-front xs is.names) (fronts-are bytes same mid last ys more)
+    each-append IsFrontEvent xs ys (prefixes-front xs is.names) (fronts-are bytes same mid last ys more)
 fronts-are bytes opens p q es (Begins c below first mid last xs ys is more) = (
   ((container-facts c).front, refl),
-  each-append (IsNamed is_front) xs ys is.names (fronts-are bytes below mid last ys more),
+  each-append IsFrontEvent xs ys is.names (fronts-are bytes below mid last ys more),
 )
 
 -- so are the ends of containers
 pub ends-are : (cs : List Container) (p : Point) → AreFront (ends_of cs p)
 ends-are [] p = tt
 ends-are (c ∷ cs) p =
-    each-append (IsNamed is_front) (ends_of cs p) (exit (container_name c) p ∷ []) (ends-are cs p)
+    each-append IsFrontEvent (ends_of cs p) (exit (container_name c) p ∷ []) (ends-are cs p)
     (((container-facts c).front, refl), tt)
 
 -- the first of some ends is that of a container
@@ -85,18 +89,30 @@ fronts-stop bytes opens p q es ys some (Goes same first mid last xs fs is more) 
 fronts-stop bytes opens p q es ys some (Begins c below first mid last xs fs is more) =
     (container-facts c).begin_stops first ((xs ++ fs) ++ ys)
 
--- Nothing of them is read later, and none begins or ends a text part.
+-- Where no container begins nothing of them is read later, and none begins or ends a text part.
 
-pub fronts-unlinked : (bytes : List ℕ) (opens : List Container) (p q : Point) (es : List Event) →
-    LinePrefix bytes opens p q es → NoLinks es
-fronts-unlinked bytes opens p q es is = names-unlinked es (fronts-are bytes opens p q es is)
+pub fronts-unlinked : (bytes : List ℕ) (p q : Point) (es : List Event) → LinePrefix bytes [] p q es → NoLinks es
+fronts-unlinked bytes p q es is = names-unlinked es (fronts-prefixes bytes [] p q es refl is)
 
 pub ends-unlinked : (cs : List Container) (p : Point) → NoLinks (ends_of cs p)
-ends-unlinked cs p = names-unlinked (ends_of cs p) (ends-are cs p)
+ends-unlinked [] p = tt
+ends-unlinked (c ∷ cs) p =
+    each-append IsUnlinked (ends_of cs p) (exit (container_name c) p ∷ []) (ends-unlinked cs p) (refl, tt)
 
-pub fronts-no_parts : (bytes : List ℕ) (opens : List Container) (p q : Point) (es : List Event) →
-    LinePrefix bytes opens p q es → NoParts es
-fronts-no_parts bytes opens p q es is = names-no_parts es (fronts-are bytes opens p q es is)
+pub fronts-no_parts : (bytes : List ℕ) (p q : Point) (es : List Event) → LinePrefix bytes [] p q es → NoParts es
+fronts-no_parts bytes p q es is = names-no_parts es (fronts-prefixes bytes [] p q es refl is)
 
 pub ends-no_parts : (cs : List Container) (p : Point) → NoParts (ends_of cs p)
-ends-no_parts cs p = names-no_parts (ends_of cs p) (ends-are cs p)
+ends-no_parts [] p = tt
+ends-no_parts (c ∷ cs) p =
+    each-append IsNoPart (ends_of cs p) (exit (container_name c) p ∷ []) (ends-no_parts cs p)
+    ((container-facts c).no_part, tt)
+
+-- So it is the same once text parts are read.
+pub fronts-done : (bytes : List ℕ) (p q : Point) (es : List Event) → LinePrefix bytes [] p q es →
+    LinePrefix bytes [] p q (plain_read bytes es)
+fronts-done bytes p q es is =
+    subst (LinePrefix bytes [] p q)
+    (sym
+    (filled-read bytes es es
+    (fill-same bytes es (fronts-unlinked bytes p q es is) (fronts-no_parts bytes p q es is)))) is

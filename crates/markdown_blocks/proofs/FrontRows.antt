@@ -27,7 +27,8 @@ use Rattle.markdown_blocks.specs.Registry.{goes_at, opens_at}
 use Rattle.markdown_blocks.specs.Rows.{Front, Held, held_at, held_behind, held_by, in_front, is_lazy, line_kind}
 use Rattle.markdown_blocks.specs.Rows.{new_front, no_front, row_kind, went_front}
 use Rattle.markdown_blocks.proofs.ContainedLemmas.{change-opens}
-use Rattle.markdown_blocks.proofs.FrontFacts.{Behind, Begins, LinePrefix, Goes}
+use Rattle.markdown_blocks.proofs.FrontFacts.{Behind, Begins, Goes, LinePrefix, ReadFront, front_read-begins}
+use Rattle.markdown_blocks.proofs.FrontFacts.{front_read-goes, front_read-none}
 use Rattle.markdown_blocks.proofs.RowKinds.{kind-rest}
 use Rattle.markdown_blocks.proofs.RegistryRead.{AreRead, read-append, read-drop}
 use Rattle.markdown_blocks.proofs.PassedFacts.{Agree, HasFurther, HasOpening, HasPassed}
@@ -80,6 +81,8 @@ record HasWent (line : Line) (text past : List ℕ) (p end : Point) (stop cells 
   front : HasFront line text past end stop cells f q
   fronts : (opens : List Container) (r : Point) (es : List Event) → LinePrefix text opens f.point r es →
       LinePrefix text opens p r (f.events ++ es)
+  fronts_read : (opens : List Container) (r : Point) (es : List Event) → ReadFront text opens f.point r es →
+      ReadFront text opens p r (f.events ++ es)
 
 went-none : (line : Line) (text past : List ℕ) (r : Rest) (stop : List Cell) (p : Point) → RestAt text past r p →
     NoEnding r.bytes →
@@ -88,6 +91,7 @@ went-none : (line : Line) (text past : List ℕ) (r : Rest) (stop : List Cell) (
 went-none line text past r stop p is h = record {
   front = front-none line text past r stop p is h;
   fronts = λ opens q es fs. fs;
+  fronts_read = λ opens q es fs. fs;
 }
 
 went-more : (line : Line) (text past : List ℕ) (p end : Point) (stop cells : List Cell) (a : Passed) (t : Taken)
@@ -100,6 +104,9 @@ went-more line text past p end stop cells a t f q one is = record {
   fronts =
       λ opens r es fs. subst (LinePrefix text opens p r) (sym (append_assoc a.events f.events es))
       (Goes opens p a.point r a.events (f.events ++ es) one.further (is.fronts opens r es fs));
+  fronts_read =
+      λ opens r es fs. subst (ReadFront text opens p r) (sym (append_assoc a.events f.events es))
+      (front_read-goes text opens p a.point r a.events (f.events ++ es) one.further (is.fronts_read opens r es fs));
 }
 
 went-is : (options : ParseOptions) (line : Line) (text past : List ℕ) (cs : List Container) (r : Rest)
@@ -150,12 +157,17 @@ record HasNew (line : Line) (text past : List ℕ) (p end : Point) (stop cells :
     (q : Prefixed) : Type 0 where
   front : HasFront line text past end stop cells f q
   fronts : LinePrefix text f.containers p f.point f.events
+  fronts_read : ReadFront text f.containers p f.point f.events
 
 new-none : (line : Line) (text past : List ℕ) (r : Rest) (stop : List Cell) (p : Point) → RestAt text past r p →
     NoEnding r.bytes →
     HasNew line text past p (past_rest r p) stop (rest_cells line r p ++ stop)
     (no_front (rest_cells line r p ++ stop) p) (no_prefix r)
-new-none line text past r stop p is h = record { front = front-none line text past r stop p is h; fronts = Behind p }
+new-none line text past r stop p is h = record {
+  front = front-none line text past r stop p is h;
+  fronts = Behind p;
+  fronts_read = front_read-none text p;
+}
 
 new-more : (line : Line) (text past : List ℕ) (p end : Point) (stop cells : List Cell) (a : Passed) (t : Taken)
     (f : Front) (q : Prefixed) →
@@ -166,7 +178,13 @@ new-more line text past p end stop cells a t f q one is = record {
   front = front-more line text past end stop cells a t f q one.passes is.front;
   fronts =
       subst (λ (es : List Event). LinePrefix text (a.container ∷ f.containers) p f.point (es ++ f.events))
-      (sym one.events) (Begins a.container f.containers p a.point f.point one.inside f.events one.opening is.fronts);
+      (sym one.events)
+      (Begins a.container f.containers p a.point f.point one.inside f.events one.opening.unread is.fronts);
+  fronts_read =
+      subst (λ (es : List Event). ReadFront text (a.container ∷ f.containers) p f.point (es ++ f.events))
+      (sym one.events)
+      (front_read-begins text a.container f.containers p a.point f.point one.inside f.events one.opening
+      is.fronts_read);
 }
 
 -- one more, if one opens
@@ -194,7 +212,7 @@ new-is options interrupting line text past zero zero r stop p built is h k short
     new-none line text past r stop p is h
 new-is options interrupting line text past zero (suc size) r stop p built is h k short some few =
     go (opens_at options interrupting cells p) (opens options interrupting r)
-    (opens-agrees options interrupting built line text past r stop p is h k short)
+    (opens-agrees options interrupting line text past r stop p is h k short)
   where
     cells : List Cell
     cells = rest_cells line r p ++ stop
@@ -208,7 +226,7 @@ new-is options interrupting line text past zero (suc size) r stop p built is h k
     go (Some a) (Some t) has = let lt = has.fewer in absurd (omega (arith, lt, some))
 new-is options interrupting line text past (suc room) zero r stop p built is h k short some few =
     go (opens_at options interrupting cells p) (opens options interrupting r) refl
-    (opens-agrees options interrupting built line text past r stop p is h k short)
+    (opens-agrees options interrupting line text past r stop p is h k short)
   where
     cells : List Cell
     cells = rest_cells line r p ++ stop
@@ -222,7 +240,7 @@ new-is options interrupting line text past (suc room) zero r stop p built is h k
     go (Some a) (Some t) e has = let lt = opens-leaves options interrupting r t e in absurd (omega (arith, lt, few))
 new-is options interrupting line text past (suc room) (suc size) r stop p built is h k short some few =
     go (opens_at options interrupting cells p) (opens options interrupting r) refl
-    (opens-agrees options interrupting built line text past r stop p is h k short)
+    (opens-agrees options interrupting line text past r stop p is h k short)
     (λ (s : Rest) (u : Point) (at : RestAt text past s u) (none : NoEnding s.bytes)
     (fits : length (rest_cells line s u ++ stop) < 2 ^ 63) (le : length (rest_cells line s u ++ stop) ≤ room)
     (ge : length s.bytes ≤ size).
@@ -272,6 +290,7 @@ pub record HasHeld (line : Line) (text past : List ℕ) (p end : Point) (stop ce
   pub ends : past_rest c.rest h.point ≡ end
   pub no_ending : NoEnding c.rest.bytes
   pub front : LinePrefix text h.change.opens p h.point h.front
+  pub front_read : ReadFront text h.change.opens p h.point h.front
   pub shorter : length h.cells ≤ length cells
 
 read-behind : (lazy : Bool) (went others opens : List Container) → AreRead went → AreRead others → AreRead opens →
@@ -298,6 +317,10 @@ held-by line text past p end stop cells cs lazy leaf kept went new on more read 
       subst (λ (opens : List Container). LinePrefix text opens p new.point (went.events ++ new.events))
       (sym (change-opens lazy went.containers (others_of cs went.containers) new.containers))
       (a.fronts new.containers new.point new.events b.fronts);
+  front_read =
+      subst (λ (opens : List Container). ReadFront text opens p new.point (went.events ++ new.events))
+      (sym (change-opens lazy went.containers (others_of cs went.containers) new.containers))
+      (a.fronts_read new.containers new.point new.events b.fronts_read);
   shorter = let le = a.front.shorter in let ge = b.front.shorter in omega arith;
 }
 

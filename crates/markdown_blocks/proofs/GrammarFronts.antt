@@ -13,7 +13,7 @@ use Rattle.md_seam.proofs.GrammarLemmas.{Leads, leads-append}
 use Rattle.markdown_blocks.specs.Registry.{container_name}
 use Rattle.markdown_blocks.specs.Change.{ends_of}
 use Rattle.markdown_blocks.proofs.FrontFacts.{Begins, Behind, LinePrefix, Goes}
-use Rattle.markdown_blocks.proofs.ContainerNames.{open_names, TakesPrefixes}
+use Rattle.markdown_blocks.proofs.ContainerNames.{open_names, TakesData, TakesPrefixes}
 use Rattle.markdown_blocks.proofs.LeafStands.{parts-unlisted}
 use Rattle.markdown_blocks.proofs.PrefixNames.{prefixes-roles}
 
@@ -40,21 +40,21 @@ behinds-around xs name outer =
 
 -- in front of blocks, what stands there opens the containers that begin in it
 pub front-leads : (text : Expression) (bytes : List ℕ) (opens : List Container) (p q : Point) (front : List Event) →
-    LinePrefix bytes opens p q front →
+    TakesData text → LinePrefix bytes opens p q front →
     Unlists text (blocks ∷ []) (blocks ∷ behinds (open_names opens)) front
-front-leads text bytes _ p _ _ (Behind _) = λ outer. refl
-front-leads text bytes opens p r _ (Goes _ _ q _ es fs is more) =
+front-leads text bytes _ p _ _ takes (Behind _) = λ outer. refl
+front-leads text bytes opens p r _ takes (Goes _ _ q _ es fs is more) =
     unlists-append text (blocks ∷ []) (blocks ∷ []) (blocks ∷ behinds (open_names opens)) es fs
     (unlists-same text (blocks ∷ []) (blocks ∷ []) es (parts-unlisted es (prefixes-roles IsPart es tt tt is.names))
-    (is.stays text blocks (refl, refl))) (front-leads text bytes opens q r fs more)
-front-leads text bytes _ p r _ (Begins c opens _ q _ es fs is more) =
+    (is.stays text blocks (refl, refl))) (front-leads text bytes opens q r fs takes more)
+front-leads text bytes _ p r _ takes (Begins c opens _ q _ es fs is more) =
     let further : Unlists text (blocks ∷ behind_block ∷ [])
     (blocks ∷ behinds (open_names opens ++ container_name c ∷ [])) fs =
-    λ outer. front-leads text bytes opens q r fs more (behind_block ∷ outer)
+    λ outer. front-leads text bytes opens q r fs takes more (behind_block ∷ outer)
     ∙ ap (λ (l : List Expression). blocks ∷ l) (sym (behinds-around (open_names opens) (container_name c) outer)) in
     unlists-append text (blocks ∷ []) (blocks ∷ behind_block ∷ [])
     (blocks ∷ behinds (open_names opens ++ container_name c ∷ [])) (enter (container_name c) p ∷ es) fs
-    (is.leads text) further
+    (is.leads text takes) further
 
 -- in front of a further line of a leaf, where prefixes may stand
 pub front-stays : (text x : Expression) (bytes : List ℕ) (opens : List Container) (p q : Point) (front : List Event) →

@@ -1,47 +1,48 @@
 -- The events of a text keep the grammar of events without lists, before its text parts are read and once they are.
 use Rattle.md_engine.specs.declared.tokenizer.held_leaf.HeldLeaf.TheVariants as held_leaf
-use Rattle.std.proofs.Common.{◌≡◌, ℕ, Bool, true, false, cond, List, [], ◌∷◌, ◌++◌, refl, ap, sym, ◌∙◌, append_assoc}
+use Rattle.std.proofs.Common.{◌≡◌, ℕ, Bool, true, List, [], ◌∷◌, ◌++◌, refl, ap, sym, ◌∙◌, append_assoc}
 use Rattle.markdown_blocks.specs.LineFlags.{ending_name}
 use Rattle.markdown_blocks.proofs.EndingFacts.{ending-unlists}
 use Rattle.markdown_blocks.proofs.EndingRows.{EachEnded, groups-ended}
 use Rattle.std.specs.Prelude.{Option, Some, None}
-use Rattle.std.specs.List.{list_any}
-use Rattle.std.proofs.lemmas.Bool.{or_left, or_right}
 use Rattle.md_engine.specs.declared.configuration.ParseOptions.{ParseOptions}
 use Rattle.md_engine.specs.declared.event.Event.{Event}
 use Rattle.md_engine.specs.declared.event.Name.{Name}
-use Rattle.md_engine.specs.declared.event.Name.TheVariants as n
 use Rattle.md_engine.specs.declared.event.Point.{Point}
-use Rattle.md_engine.specs.Place.{first_point}
-use Rattle.md_seam.specs.Events.Grammar.{Expression, Then, behind_block, blocks, is_whole, one, plain_text, unread_text}
+use Rattle.md_seam.specs.Events.Grammar.{Expression, blocks, is_whole, plain_text, unread_text}
 use Rattle.md_seam.specs.Events.Nested.{pair}
-use Rattle.md_definition.specs.Preamble.{has_mark}
 use Rattle.md_containers.specs.Unlisted.{keeps_unlisted, unlisted_left}
 use Rattle.md_containers.proofs.UnlistedLemmas.{Unlists, unlists-rest, unlists-same}
 use Rattle.markdown_blocks.specs.Change.{ends_of}
-use Rattle.markdown_blocks.specs.Document.{body_point, mark_end, mark_events}
-use Rattle.markdown_blocks.specs.Rows.{final_row, first_row, group_done, Group, Row}
+use Rattle.markdown_blocks.specs.Rows.{final_row, first_row, front_done, group_done, Group, Row}
 use Rattle.markdown_blocks.specs.Rows.{ending_events, group_events, groups}
 use Rattle.markdown_blocks.specs.Rows.{groups_events, tail_events}
 use Rattle.markdown_blocks.specs.Unread.{group_unread, listed_group, listed_groups}
-use Rattle.markdown_blocks.proofs.ContainerNames.{open_names}
+use Rattle.markdown_blocks.proofs.ContainerNames.{TakesData, open_names}
 use Rattle.markdown_blocks.proofs.GrammarFronts.{behind-ends, behinds, behinds-append, blocks_behind}
 use Rattle.markdown_blocks.proofs.GrammarFronts.{ends-lead, front-leads}
 use Rattle.markdown_blocks.proofs.GroupLemmas.{EndsBeforeGroups, rows-end}
 use Rattle.markdown_blocks.proofs.JoinedLemmas.{EachNoContent, ending-is}
+use Rattle.markdown_blocks.proofs.FrontFacts.{LinePrefix}
 use Rattle.markdown_blocks.proofs.NestedRows.{ByGroups, Ordered, rows-hold}
 use Rattle.markdown_blocks.proofs.RowFacts.{AreRows}
 use Rattle.markdown_blocks.proofs.GroupFacts.{IsGroupLeaf}
 use Rattle.markdown_blocks.specs.Rows.{group_ending, is_blank_group}
+use Rattle.markdown_blocks.proofs.Frontmatter.Whole.{IsText, Leaves, Plain, ToEnd, ToLine, Unread}
+use Rattle.std.proofs.Common.{◌≤◌, length, append-nil}
 
 -- Groups, whatever stands in text parts.
 
 -- what stands in the place of a group, from the front of its first line to the ending of its last: behind its leaf,
 -- blocks are left as they are behind a block or not
-record Stands (text : Expression) (block : Bool) (group : Group) (events : List Event) : Type 0 where
+record Stands (options : ParseOptions) (bytes : List ℕ) (text : Expression) (block : Bool) (group : Group)
+    (events : List Event) : Type 0 where
+  front : List Event
+  fronts : (p : Point) → Ordered options bytes p group →
+      LinePrefix bytes (first_row group).change.opens p (first_row group).first front
   leaf : List Event
   leads : Unlists text (blocks ∷ []) (blocks_behind block ∷ []) leaf
-  is : events ≡ (first_row group).front ++ leaf ++ tail_events (group_ending group) (final_row group)
+  is : events ≡ front ++ leaf ++ tail_events (group_ending group) (final_row group)
 
 -- the events of groups, by those of each
 abbrev all_of : (Group → List Event) → List Group → List Event
@@ -51,7 +52,8 @@ all_of each (group ∷ gs) = each group ++ all_of each gs
 -- so it is in each group, in these text parts
 abbrev Reads : ParseOptions → List ℕ → Expression → (Group → List Event) → Type 0
 Reads options bytes text each =
-    (group : Group) → IsGroupLeaf options bytes group → (block : Bool) × Stands text block group (each group)
+    (group : Group) → IsGroupLeaf options bytes group →
+    (block : Bool) × Stands options bytes text block group (each group)
 
 -- the text is whole behind events
 abbrev Whole : Expression → List Expression → List Event → Type 0
@@ -60,19 +62,19 @@ Whole text stack events = is_whole (unlisted_left text stack events) ≡ true
 -- what is left behind the leaf of lines
 leaf-left : (options : ParseOptions) (text : Expression) (bytes : List ℕ) (block : Bool) (names : List Name)
     (p : Point) (group : Group) (events more : List Event) →
-    Ordered options bytes p group → Stands text block group events →
+    TakesData text → Ordered options bytes p group → Stands options bytes text block group events →
     unlisted_left text (blocks ∷ behinds names) (events ++ more) ≡
     unlisted_left text (blocks_behind block ∷ behinds (open_names (first_row group).change.opens ++ names))
     (tail_events (group_ending group) (final_row group) ++ more)
-leaf-left options text bytes block names p group events more o s =
+leaf-left options text bytes block names p group events more takes o s =
     let row : Row = first_row group in
     let opens : List Expression = behinds (open_names row.change.opens) in
     let tail : List Event = tail_events (group_ending group) (final_row group) in
-    let apart : (row.front ++ s.leaf ++ tail) ++ more ≡ row.front ++ (s.leaf ++ (tail ++ more)) = simp append_assoc in
+    let apart : (s.front ++ s.leaf ++ tail) ++ more ≡ s.front ++ (s.leaf ++ (tail ++ more)) = simp append_assoc in
     ap (λ (es : List Event). unlisted_left text (blocks ∷ behinds names) (es ++ more)) s.is
     ∙ ap (unlisted_left text (blocks ∷ behinds names)) apart
-    ∙ unlists-rest text (blocks ∷ []) (blocks ∷ opens) (behinds names) row.front (s.leaf ++ (tail ++ more))
-    (front-leads text bytes row.change.opens p row.first row.front o.front)
+    ∙ unlists-rest text (blocks ∷ []) (blocks ∷ opens) (behinds names) s.front (s.leaf ++ (tail ++ more))
+    (front-leads text bytes row.change.opens p row.first s.front takes (s.fronts p o))
     ∙ unlists-rest text (blocks ∷ []) (blocks_behind block ∷ []) (opens ++ behinds names) s.leaf (tail ++ more) s.leads
     ∙ ap (λ (l : List Expression). unlisted_left text (blocks_behind block ∷ l) (tail ++ more))
     (sym (behinds-append (open_names row.change.opens) names))
@@ -143,54 +145,35 @@ WholeUnder text each names p gs = EachEnded gs → Whole text (blocks ∷ behind
 
 -- group by group
 whole-by_groups : (options : ParseOptions) (bytes : List ℕ) (text : Expression) (each : Group → List Event) →
-    Reads options bytes text each → ByGroups options bytes (WholeUnder text each)
-whole-by_groups options bytes text each reads = record {
+    TakesData text → Reads options bytes text each → ByGroups options bytes (WholeUnder text each)
+whole-by_groups options bytes text each takes reads = record {
   none = λ p ended. refl;
   group = λ names kept p group gs o keeps on ended.
-      let s : (block : Bool) × Stands text block group (each group) = reads group o.leaf in
-      ap is_whole (leaf-left options text bytes s.0 names p group (each group) (all_of each gs) o s.1)
+      let s : (block : Bool) × Stands options bytes text block group (each group) = reads group o.leaf in
+      ap is_whole (leaf-left options text bytes s.0 names p group (each group) (all_of each gs) takes o s.1)
       ∙ tail-whole text each s.0 (open_names (first_row group).change.opens ++ names) kept (final_row group)
       (is_blank_group group) gs keeps ended.0 (on ended.1);
 }
 
--- The mark in front of a text, and its groups.
+-- A text part takes data, before it is read and once it is.
+text-takes : (text : Expression) → IsText text → TakesData text
+text-takes _ Unread = refl
+text-takes _ Plain = refl
 
--- blocks are a text,
-keeps-blocks : (text : Expression) (es : List Event) → Whole text (blocks ∷ []) es → keeps_unlisted text es ≡ true
-unfolding keeps_unlisted
-keeps-blocks text es h = rw h refl
-
--- and so are a byte order mark and blocks
-keeps-marked : (text : Expression) (p q : Point) (es : List Event) → Whole text (blocks ∷ []) es →
-    keeps_unlisted text (pair n.ByteOrderMark p q ++ es) ≡ true
-unfolding keeps_unlisted
-keeps-marked text p q es h =
-    let whole : Expression → Bool = λ x. is_whole (unlisted_left text (x ∷ []) (pair n.ByteOrderMark p q ++ es)) in
-    let others : List Expression = Then (one n.Frontmatter) behind_block
-    ∷ Then (one n.ByteOrderMark) (Then (one n.Frontmatter) behind_block) ∷ [] in
-    or_right (whole blocks) (list_any whole (Then (one n.ByteOrderMark) blocks ∷ others))
-    (or_left (whole (Then (one n.ByteOrderMark) blocks)) (list_any whole others) h)
-
-rows-keep : (options : ParseOptions) (bytes : List ℕ) (text : Expression) (each : Group → List Event)
-    (lines : List (List ℕ)) (rows : List Row) →
-    Reads options bytes text each → AreRows options bytes [] held_leaf.None (body_point bytes) lines rows →
-    EachNoContent rows →
-    keeps_unlisted text (mark_events bytes ++ all_of each (groups rows)) ≡ true
-rows-keep options bytes text each lines rows reads are quiet = go (has_mark bytes)
-  where
-    p : Point
-    p = body_point bytes
-
-    whole : Whole text (blocks ∷ []) (all_of each (groups rows))
-    whole =
-        rows-hold options bytes (WholeUnder text each) (whole-by_groups options bytes text each reads) p lines rows are
-        (groups-ended rows (rows-end options bytes [] held_leaf.None p lines rows are))
-
-    go : (mark : Bool) →
-        keeps_unlisted text (cond mark (pair n.ByteOrderMark first_point mark_end) [] ++ all_of each (groups rows)) ≡
-        true
-    go true = keeps-marked text first_point mark_end (all_of each (groups rows)) whole
-    go false = keeps-blocks text (all_of each (groups rows)) whole
+-- The front of a text, and its groups.
+rows-keep : (options : ParseOptions) (bytes : List ℕ) (p : Point) (front : List Event) (text : Expression)
+    (each : Group → List Event) (lines : List (List ℕ)) (rows : List Row) →
+    IsText text → Leaves bytes p front → (length bytes ≤ p.index → all_of each (groups rows) ≡ []) →
+    Reads options bytes text each → AreRows options bytes [] held_leaf.None p lines rows → EachNoContent rows →
+    keeps_unlisted text (front ++ all_of each (groups rows)) ≡ true
+rows-keep options bytes p front text each lines rows kind (ToLine leads whole) none reads are quiet =
+    whole text kind (all_of each (groups rows))
+    (rows-hold options bytes (WholeUnder text each)
+    (whole-by_groups options bytes text each (text-takes text kind) reads) p lines rows are
+    (groups-ended rows (rows-end options bytes [] held_leaf.None p lines rows are)))
+rows-keep options bytes p front text each lines rows kind (ToEnd over stand whole) none reads are quiet =
+    ap (λ (es : List Event). keeps_unlisted text (front ++ es)) (none over)
+    ∙ ap (keeps_unlisted text) (append-nil front) ∙ whole text kind
 
 -- Before text parts are read.
 
@@ -200,6 +183,8 @@ unread-reads options bytes group is =
     let leaf : List Event = group_unread options bytes group in (
       is.1.behind,
       record {
+        front = (first_row group).front;
+        fronts = λ p o. o.front;
         leaf = leaf;
         leads =
             unlists-same unread_text (blocks ∷ []) (blocks_behind is.1.behind ∷ []) leaf is.1.unread_unlisted
@@ -216,13 +201,16 @@ unread-all options bytes (g ∷ gs) =
     ap (λ (es : List Event). listed_group options bytes g ++ es) (unread-all options bytes gs)
 
 -- The events of a text keep the grammar before its text parts are read.
-pub blocks-grammar : (options : ParseOptions) (bytes : List ℕ) (lines : List (List ℕ)) (rows : List Row) →
-    AreRows options bytes [] held_leaf.None (body_point bytes) lines rows → EachNoContent rows →
-    keeps_unlisted unread_text (mark_events bytes ++ listed_groups options bytes (groups rows)) ≡ true
-blocks-grammar options bytes lines rows are quiet =
-    ap (λ (es : List Event). keeps_unlisted unread_text (mark_events bytes ++ es))
-    (unread-all options bytes (groups rows))
-    ∙ rows-keep options bytes unread_text (listed_group options bytes) lines rows (unread-reads options bytes) are quiet
+pub blocks-grammar : (options : ParseOptions) (bytes : List ℕ) (p : Point) (front : List Event)
+    (lines : List (List ℕ)) (rows : List Row) →
+    Leaves bytes p front → (length bytes ≤ p.index → listed_groups options bytes (groups rows) ≡ []) →
+    AreRows options bytes [] held_leaf.None p lines rows → EachNoContent rows →
+    keeps_unlisted unread_text (front ++ listed_groups options bytes (groups rows)) ≡ true
+blocks-grammar options bytes p front lines rows leaves none are quiet =
+    let all = unread-all options bytes (groups rows) in
+    ap (λ (es : List Event). keeps_unlisted unread_text (front ++ es)) all
+    ∙ rows-keep options bytes p front unread_text (listed_group options bytes) lines rows Unread leaves
+    (λ over. sym all ∙ none over) (unread-reads options bytes) are quiet
 
 -- Once they are read.
 
@@ -232,6 +220,8 @@ group-reads options bytes group is =
     let leaf : List Event = group_done options bytes group in (
       is.1.behind,
       record {
+        front = front_done bytes (first_row group);
+        fronts = λ p o. o.front_read.is;
         leaf = leaf;
         leads = unlists-same plain_text (blocks ∷ []) (blocks_behind is.1.behind ∷ []) leaf is.1.unlisted is.1.word;
         is = refl;
@@ -246,10 +236,13 @@ groups-all options bytes (g ∷ gs) =
     ap (λ (es : List Event). group_events options bytes g ++ es) (groups-all options bytes gs)
 
 -- The events of a text keep the grammar, as the plain layer reads its text parts.
-pub events-grammar : (options : ParseOptions) (bytes : List ℕ) (lines : List (List ℕ)) (rows : List Row) →
-    AreRows options bytes [] held_leaf.None (body_point bytes) lines rows → EachNoContent rows →
-    keeps_unlisted plain_text (mark_events bytes ++ groups_events options bytes (groups rows)) ≡ true
-events-grammar options bytes lines rows are quiet =
-    ap (λ (es : List Event). keeps_unlisted plain_text (mark_events bytes ++ es))
-    (groups-all options bytes (groups rows))
-    ∙ rows-keep options bytes plain_text (group_events options bytes) lines rows (group-reads options bytes) are quiet
+pub events-grammar : (options : ParseOptions) (bytes : List ℕ) (p : Point) (front : List Event)
+    (lines : List (List ℕ)) (rows : List Row) →
+    Leaves bytes p front → (length bytes ≤ p.index → groups_events options bytes (groups rows) ≡ []) →
+    AreRows options bytes [] held_leaf.None p lines rows → EachNoContent rows →
+    keeps_unlisted plain_text (front ++ groups_events options bytes (groups rows)) ≡ true
+events-grammar options bytes p front lines rows leaves none are quiet =
+    let all = groups-all options bytes (groups rows) in
+    ap (λ (es : List Event). keeps_unlisted plain_text (front ++ es)) all
+    ∙ rows-keep options bytes p front plain_text (group_events options bytes) lines rows Plain leaves
+    (λ over. sym all ∙ none over) (group-reads options bytes) are quiet

@@ -84,11 +84,11 @@ pub rows-front : (options : ParseOptions) (bytes : List ℕ) (open_before : List
     AreRows options bytes open_before still p lines rows → EachFront bytes rows
 rows-front options bytes open_before still p lines [] h = tt
 rows-front options bytes open_before still p [] (row ∷ rows) h = absurd h
-rows-front options bytes open_before still p (line ∷ []) (row ∷ []) h = ((p, h.0.front), tt)
+rows-front options bytes open_before still p (line ∷ []) (row ∷ []) h = ((p, h.0.front, h.0.front_read), tt)
 rows-front options bytes open_before still p (line ∷ next ∷ lines) (row ∷ []) h = absurd h
 rows-front options bytes open_before still p (line ∷ []) (row ∷ below ∷ rows) h = absurd h
 rows-front options bytes open_before still p (line ∷ next ∷ lines) (row ∷ below ∷ rows) h = (
-  (p, h.0.front),
+  (p, h.0.front, h.0.front_read),
   rows-front options bytes (behind_line options open_before still p line) row.behind h.2
       (next ∷ lines) (below ∷ rows) h.5,
 )
@@ -191,23 +191,23 @@ tail-unwanted wants kind row =
     no_content-unwanted wants (tail_events (ending_of kind row) row)
     (tail-no_content wants (ending_of kind row) row (ending-other (is_blank_by kind row)))
 
-pub front-unwanted : (wants : Content → Bool) (bytes : List ℕ) (row : Row) → HasFront bytes row →
+front-unwanted : (wants : Content → Bool) → WantsContent wants → (bytes : List ℕ) (row : Row) → HasFront bytes row →
     Unwanted wants row.front
-front-unwanted wants bytes row h = no_content-unwanted wants row.front (has_front-no_content wants bytes row h)
+front-unwanted wants w bytes row h = no_content-unwanted wants row.front (has_front-no_content wants w bytes row h)
 
 -- a line that is no text, of which a reader reads no text
 single-unwanted : (options : ParseOptions) (bytes : List ℕ) (wants : Content → Bool) (row : Row) →
     IsSingle options bytes row → WantsContent wants → Unwanted wants (row_events row)
 single-unwanted options bytes wants row is w =
     no_content-unwanted wants (row_events row)
-    (events-no_content wants row row.kind refl is.other (has_front-no_content wants bytes row is.front)
+    (events-no_content wants row row.kind refl is.other (has_front-no_content wants w bytes row is.front)
     (is.quiet wants w))
 
 span-quiet : (options : ParseOptions) (bytes : List ℕ) (wants : Content → Bool) (row : Row) →
     IsSpanLine options bytes row → HasNoContent row → WantsContent wants → NoContent wants (row_events row)
 span-quiet options bytes wants row is quiet w =
     events-no_content wants row row.kind refl (λ h. let bad : LeafRow is.name ≡ TextRow = sym is.kind ∙ h in cc)
-    (has_front-no_content wants bytes row is.front) (quiet wants w)
+    (has_front-no_content wants w bytes row is.front) (quiet wants w)
 
 pub spans-quiet : (options : ParseOptions) (bytes : List ℕ) (wants : Content → Bool) (row : Row) (rows : List Row) →
     AreSpan options bytes row rows → EachNoContent (row ∷ rows) → WantsContent wants →
@@ -234,7 +234,7 @@ headed-quiet options bytes wants row next rows are front quiet w =
     let tail : List Event = tail_events n.LineEnding row in
     no_content-append wants (row.front ++ head ++ tail) (rows_events (next ∷ rows))
     (no_content-append wants (row.front ++ head) tail
-    (no_content-append wants row.front head (has_front-no_content wants bytes row front)
+    (no_content-append wants row.front head (has_front-no_content wants w bytes row front)
     (head-no_content wants w (row_line bytes row) row.first))
     (tail-no_content wants n.LineEnding row refl))
     (spans-quiet options bytes wants next rows are quiet w)
@@ -262,7 +262,7 @@ pub under-quiet : (options : ParseOptions) (bytes : List ℕ) (wants : Content �
     IsUnder options bytes last under → WantsContent wants → NoContent wants (row_events under)
 under-quiet options bytes wants last under is w =
     events-no_content wants under under.kind refl (under-other options bytes last under is)
-    (front-no_content wants under.front (prefixes-front under.front (under-prefixed options bytes last under is)))
+    (front-no_content wants w under.front (prefixes-front under.front (under-prefixed options bytes last under is)))
     (is.quiet wants w)
 
 under-unwanted : (options : ParseOptions) (bytes : List ℕ) (wants : Content → Bool) (last under : Row) →
@@ -396,21 +396,21 @@ group-joins front given tail rest out one two three h i j k =
 
 -- lines of text in front of others: what is read of them stands in the places of their chunks
 text-content : (options : ParseOptions) (bytes : List ℕ) (wants : Content → Bool) (reads : Readings) →
-    wants content.Content ≡ true → ReadsContent options bytes reads →
+    wants content.Content ≡ true → WantsContent wants → ReadsContent options bytes reads →
     (row : Row) (rows : List Row) → AreLines options bytes row rows → HasFront bytes row → (es left out : List Event) →
     chunks_behind wants (tail_events n.LineEnding (last_row row rows) ++ es) ≡ [] →
     Substituted wants reads left 0
     (((row.front ++ linked_lines n.Content content_link row rows) ++ tail_events n.LineEnding (last_row row rows))
     ++ es) out →
     Rest wants reads (unread_group options bytes (Lines row rows)) es out
-text-content options bytes wants reads w unique row rows are front es left out none s =
+text-content options bytes wants reads w other unique row rows are front es left out none s =
     let tail : List Event = tail_events n.LineEnding (last_row row rows) in
     let inside : List Event = linked_lines n.Content content_link row rows in
     let ys : List Event = tail ++ es in
     let given : List Event = text_unread options bytes row rows in
     let begun : (rest : List Event) × (is : out ≡ row.front ++ rest) ×
     Substituted wants reads left 0 (inside ++ ys) rest =
-    passes wants reads left 0 row.front (inside ++ ys) out (front-unwanted wants bytes row front)
+    passes wants reads left 0 row.front (inside ++ ys) out (front-unwanted wants other bytes row front)
     (subst (λ (l : List Event). Substituted wants reads left 0 l out)
     (append_assoc (row.front ++ inside) tail es ∙ append_assoc row.front inside ys) s) in
     let rest : Rest wants reads given ys begun.0 =
@@ -444,7 +444,7 @@ groups-content options bytes wants reads w other unique (Turned row rows under �
     let text : List Event = unread_group options bytes (Lines row rows) in
     let behind : List Event = row_events under ++ joined_groups bytes gs in
     let one : Rest wants reads text behind out =
-    text-content options bytes wants reads w unique row rows are.0 are.3 behind left out
+    text-content options bytes wants reads w other unique row rows are.0 are.3 behind left out
     (behind-ended wants (last_row row rows) are.1.after behind are.1.after_is)
     (subst (λ (l : List Event). Substituted wants reads left 0 l out)
     (append_assoc
@@ -480,7 +480,7 @@ groups-content options bytes wants reads w other unique (Span row rows ∷ gs) a
 groups-content options bytes wants reads w other unique (Lines row rows ∷ gs) are left out s =
     let text : List Event = unread_group options bytes (Lines row rows) in
     let one : Rest wants reads text (joined_groups bytes gs) out =
-    text-content options bytes wants reads w unique row rows are.0 are.2 (joined_groups bytes gs) left out
+    text-content options bytes wants reads w other unique row rows are.0 are.2 (joined_groups bytes gs) left out
     (behind-lines bytes wants (last_row row rows) gs are.1) s in
     one.2
     ∙ ap (λ (l : List Event). text ++ l)

@@ -27,7 +27,7 @@ use Rattle.markdown_blocks.specs.Rows.{Turned, first_row, takes_head}
 use Rattle.markdown_blocks.specs.Rows.{goes_on, groups, is_further, last_row, line_behind, line_kind}
 use Rattle.markdown_blocks.specs.Rows.{is_last, onto_groups, onto_leaf, onto_underline}
 use Rattle.markdown_blocks.proofs.ContainedLemmas.{contained-met, contained-still}
-use Rattle.markdown_blocks.proofs.FrontFacts.{LinePrefix}
+use Rattle.markdown_blocks.proofs.FrontFacts.{LinePrefix, ReadFront}
 pub use Rattle.markdown_blocks.proofs.FrontNames.{HasFront}
 use Rattle.markdown_blocks.proofs.JoinedLemmas.{EachNoContent, HasNoContent}
 use Rattle.markdown_blocks.proofs.KindLemmas.{kind-starts}
@@ -472,6 +472,7 @@ begins-behind bytes p row (Span below rows ∷ gs) first shut = first.begins shu
 record IsBegun (options : ParseOptions) (bytes line : List ℕ) (p : Point) (row : Row) : Type 0 where
   is : IsRow options bytes line row
   front : LinePrefix bytes row.change.opens p row.first row.front
+  front_read : ReadFront bytes row.change.opens p row.first row.front
   quiet : HasNoContent row
 
 alone-is : (options : ParseOptions) (bytes line : List ℕ) (p : Point) (row : Row) → IsBegun options bytes line p row →
@@ -482,7 +483,7 @@ alone-is options bytes line p row is other ends = record {
   other = other;
   ends = ends;
   quiet = is.quiet;
-  front = (p, is.front);
+  front = (p, is.front, is.front_read);
 }
 
 span-line : (options : ParseOptions) (bytes line : List ℕ) (p : Point) (row : Row) (l : LeafName) →
@@ -493,7 +494,7 @@ span-line options bytes line p row l is e ends = record {
   name = l;
   kind = e;
   open_leaf = ends;
-  front = (p, is.front);
+  front = (p, is.front, is.front_read);
 }
 
 -- which of them end on their line
@@ -610,7 +611,7 @@ leaf-are options bytes line p row l q (Span below rows ∷ gs) is e after ending
 text-begins : (options : ParseOptions) (bytes line : List ℕ) (p : Point) (row : Row) (q : Point) (gs : List Group) →
     IsBegun options bytes line p row → row.kind ≡ TextRow → EndsBeforeGroups row gs → AreGroups options bytes gs →
     AreGroups options bytes (Lines row [] ∷ gs)
-text-begins options bytes line p row q gs is e ends are = ((line, is.is, e), ends, (p, is.front), are)
+text-begins options bytes line p row q gs is e ends are = ((line, is.is, e), ends, (p, is.front, is.front_read), are)
 
 -- the line that turns a text
 pub text-under : (options : ParseOptions) (bytes line : List ℕ) (row : Row) (q : Point) (below : Row) →
@@ -704,7 +705,7 @@ text-span options bytes line p row q below rows gs is e after ending first are =
       text-head options bytes line row q below is.is e after ending first f h,
       are.0,
       are.1,
-      (p, is.front),
+      (p, is.front, is.front_read),
       are.2,
       are.3,
     )
@@ -712,7 +713,7 @@ text-span options bytes line p row q below rows gs is e after ending first are =
       (line, is.is, e),
       text-under options bytes line row q below after ending first f h are.0 are.3.0,
       are.1,
-      (p, is.front),
+      (p, is.front, is.front_read),
       are.2,
       under-leaves options bytes line row below is.is e are.0 (first.met f).2 f h,
     )
@@ -761,7 +762,7 @@ text-are options bytes line p row q (Turned below rows under ∷ gs) is e after 
       ),
       are.1,
       are.2,
-      (p, is.front),
+      (p, is.front, is.front_read),
       are.4,
       leaves-longer options bytes line row below rows are.0 is.is e (behind-on bytes q row below first none) are.5,
     )
@@ -786,7 +787,7 @@ text-are options bytes line p row q (Lines below rows ∷ gs) is e after ending 
         are.0,
       ),
       are.1,
-      (p, is.front),
+      (p, is.front, is.front_read),
       are.3,
     )
     go true (c ∷ opens) k =
@@ -822,13 +823,18 @@ last-are options bytes line p row is (LeafRow l) e = go (leaf l).ends refl
       tt,
     )
     go false k = (span-line options bytes line p row l is e k, tt, tt, (is.quiet, tt))
-last-are options bytes line p row is TextRow e = ((line, is.is, e), tt, (p, is.front), tt)
+last-are options bytes line p row is TextRow e = ((line, is.is, e), tt, (p, is.front, is.front_read), tt)
 
 line-begun : (options : ParseOptions) (bytes : List ℕ) (open_before : List Container) (still : HeldLeaf) (p : Point)
     (line : List ℕ) (row : Row) →
     IsLine options bytes open_before still p line row → HasNoContent row →
     IsBegun options bytes (rest_line (contained options open_before still (rest_from p line)).rest) p row
-line-begun options bytes open_before still p line row is quiet = record { is = is.is; front = is.front; quiet = quiet }
+line-begun options bytes open_before still p line row is quiet = record {
+  is = is.is;
+  front = is.front;
+  front_read = is.front_read;
+  quiet = quiet;
+}
 
 groups-below : (options : ParseOptions) (bytes : List ℕ) (open_before : List Container) (still : HeldLeaf) (p : Point)
     (lines : List (List ℕ)) (rows : List Row) →

@@ -15,7 +15,8 @@ use Rattle.md_seam.specs.Substituted.{Readings, Substituted}
 use Rattle.markdown_blocks.specs.BlockList.{turned_unread}
 use Rattle.markdown_blocks.specs.Registry.{text_leaf}
 use Rattle.markdown_blocks.specs.Rows.{Group, Headed, Lines, Row, RowKind, Single, Span, TextRow, Turned, ending_of}
-use Rattle.markdown_blocks.specs.Rows.{defined_done, defined_unread, group_events, group_kind, groups, groups_events}
+use Rattle.markdown_blocks.specs.Rows.{defined_done, defined_unread, front_done, group_events, group_kind, groups}
+use Rattle.markdown_blocks.specs.Rows.{groups_events}
 use Rattle.markdown_blocks.specs.Rows.{headed_done, headed_unread, is_further, last_row, leaf_done, leaf_unread}
 use Rattle.markdown_blocks.specs.Rows.{single_events_by, span_by}
 use Rattle.markdown_blocks.specs.Rows.{span_done, tail_events, text_done, turned_done}
@@ -27,13 +28,14 @@ use Rattle.markdown_blocks.proofs.EndingFacts.{ending-unlinked}
 use Rattle.markdown_blocks.proofs.FrontFacts.{LinePrefix}
 use Rattle.markdown_blocks.proofs.FrontNames.{fronts-unlinked}
 use Rattle.markdown_blocks.proofs.GfmTable.TableLaws.{table-becomes}
-use Rattle.markdown_blocks.proofs.GroupLemmas.{front-unwanted, tail-unwanted}
+use Rattle.markdown_blocks.proofs.GroupLemmas.{tail-unwanted}
 use Rattle.markdown_blocks.proofs.GroupsAre.{AreGroups, AreLines, AreSpan, HasFront, IsLeft, IsSingle, IsSpanLine, IsUnder}
 use Rattle.markdown_blocks.proofs.GroupsAre.{IsHead, behind-first, groups-are, line-further, line-of, span-begins}
 use Rattle.markdown_blocks.proofs.HeadedTable.{IsHeaded, headed-is}
 use Rattle.markdown_blocks.proofs.JoinedLemmas.{EachNoContent}
 use Rattle.markdown_blocks.proofs.LeafFacts.{ReadsString, ReadsText}
 use Rattle.markdown_blocks.proofs.PartFacts.{IsUnlinked}
+use Rattle.markdown_blocks.proofs.ReadAs.{read_as-becomes}
 use Rattle.markdown_blocks.proofs.Registry.{span-laws}
 use Rattle.markdown_blocks.proofs.RowFacts.{AreRows}
 use Rattle.markdown_blocks.proofs.RowLeaf.{row-becomes}
@@ -49,20 +51,29 @@ use Rattle.markdown_blocks.proofs.Turned.Cut as heading
 use Rattle.markdown_blocks.proofs.Turned.Cut.{IsCutHeading, heading-cut, left-remains}
 
 -- what stands between the front of a line and its tail
-leaf-becomes : (wants : Content → Bool) (reads : Readings) (front leaf read tail : List Event) → Unwanted wants front →
-    Unwanted wants tail → Becomes wants reads leaf read →
-    Becomes wants reads ((front ++ leaf) ++ tail) ((front ++ read) ++ tail)
-leaf-becomes wants reads front leaf read tail h k becomes =
-    becomes-append wants reads (front ++ leaf) (front ++ read) tail tail
-    (becomes-append wants reads front front leaf read (becomes-same wants reads front h) becomes)
+leaf-becomes : (wants : Content → Bool) (reads : Readings) (front done leaf read tail : List Event) →
+    Becomes wants reads front done → Unwanted wants tail → Becomes wants reads leaf read →
+    Becomes wants reads ((front ++ leaf) ++ tail) ((done ++ read) ++ tail)
+leaf-becomes wants reads front done leaf read tail h k becomes =
+    becomes-append wants reads (front ++ leaf) (done ++ read) tail tail
+    (becomes-append wants reads front done leaf read h becomes)
     (becomes-same wants reads tail k)
 
+-- what stands in front of a line is read
+front-becomes : (bytes : List ℕ) (row : Row) (wants : Content → Bool) (reads : Readings) →
+    wants content.String ≡ true → ReadsString bytes reads → HasFront bytes row →
+    Becomes wants reads row.front (front_done bytes row)
+front-becomes bytes row wants reads ws rs front =
+    read_as-becomes bytes row.front (front_done bytes row) wants reads ws rs front.2.reads
+
 single-becomes : (options : ParseOptions) (bytes : List ℕ) (row : Row) (wants : Content → Bool) (reads : Readings) →
-    wants content.Text ≡ true → ReadsText bytes reads → IsSingle options bytes row →
+    wants content.Text ≡ true → wants content.String ≡ true → ReadsText bytes reads → ReadsString bytes reads →
+    IsSingle options bytes row →
     Becomes wants reads (listed_row_by bytes row.kind row) (single_events_by bytes row.kind row)
-single-becomes options bytes row wants reads w rt is =
-    leaf-becomes wants reads row.front (leaf_unread bytes row.kind row) (leaf_done bytes row.kind row)
-    (tail_events (ending_of row.kind row) row) (front-unwanted wants bytes row is.front)
+single-becomes options bytes row wants reads w ws rt rs is =
+    leaf-becomes wants reads row.front (front_done bytes row) (leaf_unread bytes row.kind row)
+    (leaf_done bytes row.kind row)
+    (tail_events (ending_of row.kind row) row) (front-becomes bytes row wants reads ws rs is.front)
     (tail-unwanted wants row.kind row)
     (row-becomes options bytes is.line row is.is is.other is.ends wants reads w rt)
 
@@ -81,7 +92,7 @@ between-unwanted : (wants : Content → Bool) (bytes : List ℕ) (p q r : Point)
 between-unwanted wants bytes p q r front is =
     no_links-unwanted wants (between p q front)
     (each-append IsUnlinked (pair n.LineEnding p q) front (ending-unlinked false p q)
-    (fronts-unlinked bytes [] q r front is))
+    (fronts-unlinked bytes q r front is))
 
 -- a definition, and behind it more
 then-becomes : (options : ParseOptions) (bytes : List ℕ) (d : DefinitionParts) (row : Row) (own : List Row) (next : Row)
@@ -122,8 +133,8 @@ lines-become options bytes row rows wants reads w ws rt rs is front =
     let last : Row = last_row row rows in
     let unread : List Event = text_unread options bytes row rows in
     let done : List Event = text_done options bytes row rows in
-    leaf-becomes wants reads row.front unread done (tail_events n.LineEnding last)
-    (front-unwanted wants bytes row front) (tail-unwanted wants TextRow last)
+    leaf-becomes wants reads row.front (front_done bytes row) unread done (tail_events n.LineEnding last)
+    (front-becomes bytes row wants reads ws rs front) (tail-unwanted wants TextRow last)
     (cut-becomes options bytes row rows unread done wants reads w ws rt rs (cut-is options bytes row rows is))
 
 -- and the line that turns them, block by block
@@ -148,8 +159,9 @@ turned-become : (options : ParseOptions) (bytes : List ℕ) (row : Row) (rows : 
 turned-become options bytes row rows under wants reads w ws rt rs is turns left front =
     let unread : List Event = turned_unread options bytes row rows under in
     let done : List Event = turned_done options bytes row rows under in
-    leaf-becomes wants reads row.front unread done (tail_events (ending_of under.kind under) under)
-    (front-unwanted wants bytes row front) (tail-unwanted wants under.kind under)
+    leaf-becomes wants reads row.front (front_done bytes row) unread done
+    (tail_events (ending_of under.kind under) under)
+    (front-becomes bytes row wants reads ws rs front) (tail-unwanted wants under.kind under)
     (heading-becomes options bytes under row rows (text_unread options bytes row rows) unread done wants reads w ws rt
     rs
     (heading-cut options bytes row rows under is turns (left-remains options bytes row rows is left)))
@@ -163,8 +175,10 @@ span-becomes : (options : ParseOptions) (bytes : List ℕ) (row : Row) (rows : L
 span-becomes options bytes row rows wants reads w ws rt rs are begins =
     let is : IsSpanLine options bytes row = span-begins options bytes row rows are in
     let kind : RowKind = group_kind (Span row rows) in
-    leaf-becomes wants reads row.front (span_by (λ (r : Row). r.inside) row rows) (span_done bytes row rows)
-    (tail_events (ending_of kind (last_row row rows)) (last_row row rows)) (front-unwanted wants bytes row is.front)
+    leaf-becomes wants reads row.front (front_done bytes row) (span_by (λ (r : Row). r.inside) row rows)
+    (span_done bytes row rows)
+    (tail_events (ending_of kind (last_row row rows)) (last_row row rows))
+    (front-becomes bytes row wants reads ws rs is.front)
     (tail-unwanted wants kind (last_row row rows))
     ((span-laws is.name is.open_leaf).becomes options bytes row rows (line-of options bytes row is)
     (line-further options bytes row is false begins) (behind-first options bytes row rows are) wants reads w ws rt rs)
@@ -172,15 +186,16 @@ span-becomes options bytes row rows wants reads w ws rt rs are begins =
 -- a line of text that is a head, and the lines of its table
 headed-becomes : (options : ParseOptions) (bytes : List ℕ) (row next : Row) (rows : List Row)
     (wants : Content → Bool) (reads : Readings) →
-    wants content.Text ≡ true → ReadsText bytes reads → IsHead options bytes row next → AreSpan options bytes next rows →
-    HasFront bytes row →
+    wants content.Text ≡ true → wants content.String ≡ true → ReadsText bytes reads → ReadsString bytes reads →
+    IsHead options bytes row next → AreSpan options bytes next rows → HasFront bytes row →
     Becomes wants reads (listed_group options bytes (Headed row next rows))
     (group_events options bytes (Headed row next rows))
-headed-becomes options bytes row next rows wants reads w rt head are front =
+headed-becomes options bytes row next rows wants reads w ws rt rs head are front =
     let is : IsHeaded options bytes row next rows = headed-is options bytes row next rows head are in
     let last : Row = last_row next rows in
-    leaf-becomes wants reads row.front (headed_unread bytes row next rows) (headed_done bytes row next rows)
-    (tail_events (ending_of last.kind last) last) (front-unwanted wants bytes row front)
+    leaf-becomes wants reads row.front (front_done bytes row) (headed_unread bytes row next rows)
+    (headed_done bytes row next rows)
+    (tail_events (ending_of last.kind last) last) (front-becomes bytes row wants reads ws rs front)
     (tail-unwanted wants last.kind last)
     (table-becomes options bytes row next rows is.text is.head is.are is.filled is.on wants reads w rt)
 
@@ -192,7 +207,7 @@ groups-become options bytes wants reads w ws rt rs [] are = becomes-same wants r
 groups-become options bytes wants reads w ws rt rs (Single row ∷ gs) are =
     becomes-append wants reads (listed_group options bytes (Single row)) (group_events options bytes (Single row))
     (listed_groups options bytes gs) (groups_events options bytes gs)
-    (single-becomes options bytes row wants reads w rt are.0)
+    (single-becomes options bytes row wants reads w ws rt rs are.0)
     (groups-become options bytes wants reads w ws rt rs gs are.1)
 groups-become options bytes wants reads w ws rt rs (Turned row rows under ∷ gs) are =
     becomes-append wants reads (listed_group options bytes (Turned row rows under))
@@ -204,7 +219,7 @@ groups-become options bytes wants reads w ws rt rs (Headed row next rows ∷ gs)
     becomes-append wants reads (listed_group options bytes (Headed row next rows))
     (group_events options bytes (Headed row next rows)) (listed_groups options bytes gs)
     (groups_events options bytes gs)
-    (headed-becomes options bytes row next rows wants reads w rt are.0 are.1 are.3)
+    (headed-becomes options bytes row next rows wants reads w ws rt rs are.0 are.1 are.3)
     (groups-become options bytes wants reads w ws rt rs gs are.4)
 groups-become options bytes wants reads w ws rt rs (Span row rows ∷ gs) are =
     becomes-append wants reads (listed_group options bytes (Span row rows)) (group_events options bytes (Span row rows))

@@ -39,7 +39,7 @@ other-read : (options : ParseOptions) (bytes : List ℕ) (row : Row) (es : List 
 other-read options bytes row es other front quiet =
     headed-behind bytes options (row_events row) es
     (no-chunk (row_events row)
-    (events-no_content nothing row row.kind refl other (has_front-no_content nothing bytes row front)
+    (events-no_content nothing row row.kind refl other (has_front-no_content nothing nothing-wanted bytes row front)
     (quiet nothing nothing-wanted)))
 
 -- so does a line of text that meets no table, and one that meets one is read again
@@ -55,7 +55,7 @@ text-read options bytes row es read text front line =
     ap (headed bytes options) (row-parts row TextRow es text)
     ∙ headed-behind bytes options row.front
     (enter_link n.Content row.first content_link ∷ exit n.Content row.end ∷ (tail ++ es))
-    (no-chunk row.front (has_front-no_content nothing bytes row front))
+    (no-chunk row.front (has_front-no_content nothing nothing-wanted bytes row front))
     ∙ ap (λ (l : List Event). row.front ++ l)
     (line
     ∙ ap (λ (l : List Event). read ++ l)
@@ -100,7 +100,7 @@ row-read options bytes open_before still p line next lines row below rows are qu
     es = rows_events (below ∷ rows)
 
     front : HasFront bytes row
-    front = (p, are.0.front)
+    front = (p, are.0.front, are.0.front_read)
 
     open_next : List Container
     open_next = behind_line options open_before still p line
@@ -149,7 +149,7 @@ rows-read : (options : ParseOptions) (bytes : List ℕ) (open_before : List Cont
 rows-read options bytes open_before still p lines [] are quiet = refl
 rows-read options bytes open_before still p [] (row ∷ rows) are quiet = absurd are
 rows-read options bytes open_before still p (line ∷ []) (row ∷ []) are quiet =
-    last-read options bytes row (p, are.0.front) quiet.0
+    last-read options bytes row (p, are.0.front, are.0.front_read) quiet.0
 rows-read options bytes open_before still p (line ∷ []) (row ∷ below ∷ rows) are quiet = absurd are
 rows-read options bytes open_before still p (line ∷ next ∷ lines) (row ∷ []) are quiet = absurd are
 rows-read options bytes open_before still p (line ∷ next ∷ lines) (row ∷ below ∷ rows) are quiet =

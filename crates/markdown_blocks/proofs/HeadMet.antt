@@ -2,10 +2,11 @@
 -- it, and else another line of text, a blank line, a container or another block.
 use Rattle.std.proofs.Common.{◌≡◌, ℕ, Bool, true, false, cond, ◌&&◌, List, [], ◌∷◌, ◌++◌, refl, ap, sym, ◌∙◌, subst}
 use Rattle.std.proofs.Common.{append_assoc}
-use Rattle.std.specs.Prelude.{◌||◌, Option, Some, None}
-use Rattle.std.proofs.lemmas.Bool.{and_right}
+use Rattle.std.specs.Prelude.{◌||◌, Option, Some, None, not}
+use Rattle.std.proofs.lemmas.Bool.{and_parts, and_right}
 use Rattle.md_engine.specs.declared.configuration.ParseOptions.{ParseOptions}
 use Rattle.md_engine.specs.declared.event.Event.{Event}
+use Rattle.md_engine.specs.declared.event.Link.{Link}
 use Rattle.md_engine.specs.declared.event.Name.{Name}
 use Rattle.md_engine.specs.declared.event.Name.TheVariants as n
 use Rattle.md_engine.specs.declared.event.Point.{Point}
@@ -35,7 +36,6 @@ use Rattle.markdown_blocks.specs.Rows.{leaf_events, line_behind, row_events, row
 use Rattle.markdown_blocks.specs.Rows.{takes_head}
 use Rattle.markdown_blocks.specs.MarkRuns.{Apart, mark_runs}
 use Rattle.markdown_blocks.proofs.BlankLine.{blank-unlinked}
-use Rattle.markdown_blocks.proofs.ContainerNames.{is_front}
 use Rattle.markdown_blocks.proofs.EachEvent.{Each, each-append, each-as}
 use Rattle.markdown_blocks.proofs.FrontNames.{ends-are, fronts-are, fronts-prefixes}
 use Rattle.markdown_blocks.proofs.GroupLemmas.{rows-end, rows-front}
@@ -43,7 +43,7 @@ use Rattle.markdown_blocks.proofs.GroupsAre.{Begins, FirstLine, HasFront, first-
 use Rattle.markdown_blocks.proofs.JoinedLemmas.{EachEnds, ending-is}
 use Rattle.markdown_blocks.proofs.MarkRuns.Each.{runs-hold}
 use Rattle.markdown_blocks.proofs.PartFacts.{IsUnlinked, NoLinks}
-use Rattle.markdown_blocks.proofs.PrefixNames.{AreFront, ArePrefixes, IsNamed}
+use Rattle.markdown_blocks.proofs.PrefixNames.{AreFront, ArePrefixes, IsFrontEvent, is_alone, is_string}
 use Rattle.markdown_blocks.proofs.Registry.{span-laws}
 use Rattle.markdown_blocks.proofs.RowFacts.{AreRows, IsRow, behind_line}
 use Rattle.markdown_blocks.proofs.RowLeaf.{row-as}
@@ -68,8 +68,21 @@ unlinked-row e none =
 unlinked-rows : (es : List Event) → NoLinks es → NoRows es
 unlinked-rows es h = each-as IsUnlinked IsNoRow unlinked-row es h
 
+-- a chunk that stands alone goes on no other
+alone-row : (link : Option Link) → is_alone link ≡ true → links_back link ≡ false
+alone-row None h = refl
+alone-row (Some link) h = go link.previous (and_parts (is_string link.content) (not link.previous) h).1
+  where
+    go : (x : Bool) → not x ≡ true → x ≡ false
+    go true h = cc
+    go false h = refl
+
 front-rows : (es : List Event) → AreFront es → NoRows es
-front-rows es h = each-as (IsNamed is_front) IsNoRow (λ e is. unlinked-row e is.1) es h
+front-rows es h =
+    each-as IsFrontEvent IsNoRow
+    (λ e is.
+    and_right (is_enter e.kind) (is_table e.name && links_back e.link)
+    (and_right (is_table e.name) (links_back e.link) (alone-row e.link is.1))) es h
 
 lined-table : (name : Name) → has_lines (role name) ≡ false → is_table name ≡ false
 lined-table n.GfmTable h = cc

@@ -15,28 +15,27 @@ use Rattle.md_containers.specs.Listed.{turn}
 use Rattle.md_containers.specs.Unlisted.{in_place}
 use Rattle.md_containers.proofs.UnlistedLemmas.{NoListing, held-append}
 use Rattle.md_engine.specs.Place.{first_point}
-use Rattle.md_definition.specs.Preamble.{has_mark}
 use Rattle.md_definition.specs.State.{Container}
 use Rattle.md_seam.specs.Events.Blocks.{is_block}
-use Rattle.md_seam.specs.Events.Nested.{exit, open_after, open_behind, pair}
+use Rattle.md_seam.specs.Events.Nested.{exit, open_after, open_behind}
 use Rattle.md_seam.specs.Events.Spelled.{Role, role}
 use Rattle.md_seam.proofs.NestedLemmas.{balanced-open}
 use Rattle.md_seam.proofs.SpelledLemmas.{Between}
 use Rattle.markdown_blocks.specs.Change.{ends_of}
-use Rattle.markdown_blocks.specs.Document.{body_point, mark_end, mark_events}
 use Rattle.markdown_blocks.specs.Registry.{container_name}
-use Rattle.markdown_blocks.specs.Rows.{Group, Row, ending_events, final_row, first_row, group_done}
+use Rattle.markdown_blocks.specs.Rows.{Group, Row, ending_events, final_row, first_row, front_done, group_done}
 use Rattle.markdown_blocks.specs.Rows.{groups, groups_events, tail_events}
 use Rattle.markdown_blocks.specs.Unread.{group_unread, listed_groups}
 use Rattle.markdown_blocks.proofs.ContainerNames.{container-facts, open_names}
 use Rattle.markdown_blocks.proofs.FrontFacts.{Begins, Behind, Goes, LinePrefix}
 use Rattle.markdown_blocks.proofs.FrontLemmas.{Turns, ends-turn, fronts-turn, turns-balanced}
-use Rattle.markdown_blocks.proofs.LeafStands.{between-unlisted, ending-between, mark-between}
-use Rattle.markdown_blocks.proofs.NestedRows.{ByGroups, Keeps, Ordered, rows-hold}
+use Rattle.markdown_blocks.proofs.LeafStands.{between-unlisted, ending-between}
+use Rattle.markdown_blocks.proofs.NestedRows.{ByGroups, Keeps, rows-hold}
 use Rattle.markdown_blocks.proofs.PrefixNames.{prefixes-roles}
 use Rattle.markdown_blocks.proofs.RowFacts.{AreRows}
 use Rattle.markdown_blocks.proofs.SpanLemmas.{Nested_in}
 use Rattle.markdown_blocks.specs.Rows.{group_ending, is_blank_group}
+use Rattle.markdown_blocks.proofs.Frontmatter.Whole.{FrontPart}
 
 -- What is open.
 
@@ -138,19 +137,20 @@ ending-opens name row names = go row.after
 
 -- Groups.
 
--- a group in front of such events, with what stands in its place
+-- a group in front of such events, with what stands in its place and in front of it
 group-held : (options : ParseOptions) (bytes : List ℕ) (names kept : List Name) (p : Point) (group : Group)
-    (inside events : List Event) →
-    Ordered options bytes p group → Keeps names group kept → AreBlocks names →
+    (front inside events : List Event) →
+    LinePrefix bytes (first_row group).change.opens p (first_row group).first front → Keeps names group kept →
+    AreBlocks names →
     Nested_in (first_row group).first (final_row group).end inside → NoListing inside →
     (AreBlocks kept → ItemsHeld kept events) →
     ItemsHeld names
-    (((first_row group).front ++ inside ++ tail_events (group_ending group) (final_row group)) ++ events)
-group-held options bytes names kept p group inside events o keeps blocks nested none on =
+    ((front ++ inside ++ tail_events (group_ending group) (final_row group)) ++ events)
+group-held options bytes names kept p group front inside events is keeps blocks nested none on =
     subst (ItemsHeld names) (sym apart)
-    (held-through names all row.front (inside ++ (ends ++ (ending ++ events)))
-    (fronts-held bytes row.change.opens names p row.first row.front blocks o.front)
-    (fronts-turn bytes row.change.opens names p row.first row.front o.front).opened
+    (held-through names all front (inside ++ (ends ++ (ending ++ events)))
+    (fronts-held bytes row.change.opens names p row.first front blocks is)
+    (fronts-turn bytes row.change.opens names p row.first front is).opened
     (held-through all all inside (ends ++ (ending ++ events)) (unlisted-held all inside none)
     (turns-balanced all inside nested.0).opened
     (held-through all kept ends (ending ++ events) (ends-held last.leaves all last.end)
@@ -182,7 +182,7 @@ group-held options bytes names kept p group inside events o keeps blocks nested 
         (subst AreBlocks keeps (blocks-append (open_names row.change.opens) names
         (containers-blocks row.change.opens) blocks))
 
-    apart : (row.front ++ inside ++ (ends ++ ending)) ++ events ≡ row.front ++ (inside ++ (ends ++ (ending ++ events)))
+    apart : (front ++ inside ++ (ends ++ ending)) ++ events ≡ front ++ (inside ++ (ends ++ (ending ++ events)))
     apart = simp append_assoc
 
 -- before text parts are read
@@ -193,8 +193,8 @@ unread-by_groups : (options : ParseOptions) (bytes : List ℕ) → ByGroups opti
 unread-by_groups options bytes = record {
   none = λ p blocks. tt;
   group = λ names kept p group gs o keeps on blocks.
-      group-held options bytes names kept p group (group_unread options bytes group) (listed_groups options bytes gs)
-      o keeps blocks o.leaf.1.unread_nested o.leaf.1.unread_unlisted on;
+      group-held options bytes names kept p group (first_row group).front (group_unread options bytes group)
+      (listed_groups options bytes gs) o.front keeps blocks o.leaf.1.unread_nested o.leaf.1.unread_unlisted on;
 }
 
 -- and once they are
@@ -205,37 +205,29 @@ read-by_groups : (options : ParseOptions) (bytes : List ℕ) → ByGroups option
 read-by_groups options bytes = record {
   none = λ p blocks. tt;
   group = λ names kept p group gs o keeps on blocks.
-      group-held options bytes names kept p group (group_done options bytes group) (groups_events options bytes gs)
-      o keeps blocks o.leaf.1.nested o.leaf.1.unlisted on;
+      group-held options bytes names kept p group (front_done bytes (first_row group)) (group_done options bytes group)
+      (groups_events options bytes gs) o.front_read.is keeps blocks o.leaf.1.nested o.leaf.1.unlisted on;
 }
 
--- The events of a text, with its mark.
+-- The events of a text, with its front.
 
-mark-opens : (bytes : List ℕ) → open_after [] (mark_events bytes) ≡ []
-mark-opens bytes = go (has_mark bytes)
-  where
-    go : (mark : Bool) → open_after [] (cond mark (pair n.ByteOrderMark first_point mark_end) []) ≡ []
-    go true = refl
-    go false = refl
+front-held : (bytes : List ℕ) (p : Point) (front es : List Event) → FrontPart bytes first_point p front →
+    ItemsHeld [] es → ItemsHeld [] (front ++ es)
+front-held bytes p front es part h =
+    held-through [] [] front es (unlisted-held [] front part.unlisted) part.nested.0.closed h
 
-mark-held : (bytes : List ℕ) (es : List Event) → ItemsHeld [] es → ItemsHeld [] (mark_events bytes ++ es)
-mark-held bytes es h =
-    held-through [] [] (mark_events bytes) es
-    (unlisted-held [] (mark_events bytes) (between-unlisted (mark_events bytes) (mark-between bytes)))
-    (mark-opens bytes) h
+pub blocks-held : (options : ParseOptions) (bytes : List ℕ) (p : Point) (front : List Event) (lines : List (List ℕ))
+    (rows : List Row) →
+    FrontPart bytes first_point p front → AreRows options bytes [] held_leaf.None p lines rows →
+    ItemsHeld [] (front ++ listed_groups options bytes (groups rows))
+blocks-held options bytes p front lines rows part are =
+    front-held bytes p front (listed_groups options bytes (groups rows)) part
+    (rows-hold options bytes (UnreadHeld options bytes) (unread-by_groups options bytes) p lines rows are tt)
 
-pub blocks-held : (options : ParseOptions) (bytes : List ℕ) (lines : List (List ℕ)) (rows : List Row) →
-    AreRows options bytes [] held_leaf.None (body_point bytes) lines rows →
-    ItemsHeld [] (mark_events bytes ++ listed_groups options bytes (groups rows))
-blocks-held options bytes lines rows are =
-    mark-held bytes (listed_groups options bytes (groups rows))
-    (rows-hold options bytes (UnreadHeld options bytes) (unread-by_groups options bytes) (body_point bytes)
-    lines rows are tt)
-
-pub events-held : (options : ParseOptions) (bytes : List ℕ) (lines : List (List ℕ)) (rows : List Row) →
-    AreRows options bytes [] held_leaf.None (body_point bytes) lines rows →
-    ItemsHeld [] (mark_events bytes ++ groups_events options bytes (groups rows))
-events-held options bytes lines rows are =
-    mark-held bytes (groups_events options bytes (groups rows))
-    (rows-hold options bytes (ReadHeld options bytes) (read-by_groups options bytes) (body_point bytes)
-    lines rows are tt)
+pub events-held : (options : ParseOptions) (bytes : List ℕ) (p : Point) (front : List Event) (lines : List (List ℕ))
+    (rows : List Row) →
+    FrontPart bytes first_point p front → AreRows options bytes [] held_leaf.None p lines rows →
+    ItemsHeld [] (front ++ groups_events options bytes (groups rows))
+events-held options bytes p front lines rows part are =
+    front-held bytes p front (groups_events options bytes (groups rows)) part
+    (rows-hold options bytes (ReadHeld options bytes) (read-by_groups options bytes) p lines rows are tt)

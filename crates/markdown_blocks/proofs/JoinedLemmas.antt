@@ -7,11 +7,15 @@ use Rattle.markdown_blocks.specs.Registry.{leaf}
 use Rattle.markdown_blocks.specs.Rows.{Headed, Span, Turned, is_further, is_last, onto_leaf, onto_underline, takes_head}
 use Rattle.markdown_blocks.specs.Rows.{behind_held}
 use Rattle.std.proofs.Common.{◌∙◌, subst, append_assoc}
-use Rattle.std.specs.Prelude.{Option, Some, None}
-use Rattle.std.proofs.lemmas.Bool.{and_right}
+use Rattle.std.specs.Prelude.{Option, Some, None, not}
+use Rattle.std.proofs.lemmas.Bool.{and_parts, and_right}
 use Rattle.md_engine.specs.declared.configuration.ParseOptions.{ParseOptions}
 use Rattle.md_engine.specs.declared.event.Content.{Content}
+use Rattle.md_engine.specs.declared.event.Content.TheVariants as content
 use Rattle.md_engine.specs.declared.event.Event.{Event}
+use Rattle.md_engine.specs.declared.event.Kind.{Kind}
+use Rattle.md_engine.specs.declared.event.Kind.TheVariants.{Enter, Exit}
+use Rattle.md_engine.specs.declared.event.Link.{Link}
 use Rattle.md_engine.specs.declared.event.Name.{Name}
 use Rattle.md_engine.specs.declared.event.Name.TheVariants as n
 use Rattle.md_engine.specs.declared.event.Point.{Point}
@@ -23,21 +27,21 @@ use Rattle.md_seam.specs.Events.Inline.{is_line_ending}
 use Rattle.md_seam.specs.Events.Nested.{enter_link, exit, pair, is_enter, is_exit}
 use Rattle.md_definition.specs.State.{Container}
 use Rattle.md_seam.specs.Events.Prefix.{is_prefix}
+use Rattle.md_seam.specs.Substituted.{wanted, wanted_at}
 use Rattle.markdown_blocks.specs.Change.{ends_of, is_none, open_behind}
 use Rattle.markdown_blocks.specs.Rows.{BlankRow, Group, Held, Lines, Row, RowKind, Single, TextRow}
 use Rattle.markdown_blocks.specs.Rows.{behind_row, ending_events, ending_of, groups, held_at, inside_of}
 use Rattle.markdown_blocks.specs.Rows.{last_row, leaf_events, onto_groups, row_events, row_events_by}
 use Rattle.markdown_blocks.specs.Rows.{row_kind, rows_at, rows_by, rows_events, tail_events, LeafRow}
 use Rattle.markdown_blocks.specs.Unread.{joined_groups, linked_lines}
-use Rattle.markdown_blocks.proofs.FrontNames.{HasFront, ends-are, ends-first, front-content, fronts-are}
+use Rattle.markdown_blocks.proofs.FrontNames.{HasFront, ends-first, front-content, fronts-are}
 use Rattle.markdown_blocks.proofs.FrontNames.{fronts-prefixes, fronts-stop, prefixes-content}
 pub use Rattle.markdown_blocks.proofs.Span.Cuts.{ending-is}
-use Rattle.markdown_blocks.proofs.SubstitutedLemmas.{no_link-unwanted}
 use Rattle.markdown_blocks.proofs.Registry.{laws}
 use Rattle.markdown_blocks.proofs.TextGroups.{HeadsNone, NoHeads, groups-unheaded, onto_text}
 pub use Rattle.markdown_blocks.proofs.TextGroups.{lines-first, text-onto, text_group}
 use Rattle.markdown_blocks.proofs.ContentFacts.{NoContent, WantsContent, is_told, no_content-append, nothing, nothing-wanted, told-content}
-use Rattle.markdown_blocks.proofs.PrefixNames.{AreFront}
+use Rattle.markdown_blocks.proofs.PrefixNames.{AreFront, is_alone, is_string}
 use Rattle.markdown_blocks.proofs.ContainerNames.{container-facts, end-stops}
 use Rattle.markdown_blocks.specs.Registry.{container_name}
 use Rattle.markdown_blocks.specs.Rows.{is_blank_by}
@@ -100,19 +104,41 @@ ending-no_content wants name row h = go row.after
     go None = tt
     go (Some q) = (refl, h, (refl, h, tt))
 
--- what stands in front of a line
-pub front-no_content : (wants : Content → Bool) (es : List Event) → AreFront es → NoContent wants es
-front-no_content wants [] h = tt
-front-no_content wants (e ∷ es) h =
-    (no_link-unwanted wants e h.0.1, front-content e.name h.0.0, front-no_content wants es h.1)
+-- a chunk that is read as a string is no content
+alone-unwanted : (wants : Content → Bool) → WantsContent wants → (e : Event) → is_alone e.link ≡ true →
+    wanted wants e ≡ None
+alone-unwanted wants w e h = go e.kind e.link h
+  where
+    string : (link : Link) → (c : Content) → link.content ≡ c → is_string c ≡ true → wants c ≡ false
+    string link content.String e h = w.string
+    string link content.Text e h = cc
+    string link content.Flow e h = cc
+    string link content.Content e h = cc
 
-pub has_front-no_content : (wants : Content → Bool) (bytes : List ℕ) (row : Row) → HasFront bytes row →
-    NoContent wants row.front
-has_front-no_content wants bytes row h =
-    front-no_content wants row.front (fronts-are bytes row.change.opens h.0 row.first row.front h.1)
+    go : (kind : Kind) (link : Option Link) → is_alone link ≡ true → wanted_at wants kind link ≡ None
+    go Exit link h = refl
+    go Enter None h = refl
+    go Enter (Some link) h =
+        ap (λ (x : Bool). cond x (Some link.content) None)
+        (string link link.content refl (and_parts (is_string link.content) (not link.previous) h).0)
+
+-- what stands in front of a line
+pub front-no_content : (wants : Content → Bool) → WantsContent wants → (es : List Event) → AreFront es →
+    NoContent wants es
+front-no_content wants w [] h = tt
+front-no_content wants w (e ∷ es) h =
+    (alone-unwanted wants w e h.0.1, front-content e.name h.0.0, front-no_content wants w es h.1)
+
+pub has_front-no_content : (wants : Content → Bool) → WantsContent wants → (bytes : List ℕ) (row : Row) →
+    HasFront bytes row → NoContent wants row.front
+has_front-no_content wants w bytes row h =
+    front-no_content wants w row.front (fronts-are bytes row.change.opens h.0 row.first row.front h.1)
 
 pub ends-no_content : (wants : Content → Bool) (cs : List Container) (p : Point) → NoContent wants (ends_of cs p)
-ends-no_content wants cs p = front-no_content wants (ends_of cs p) (ends-are cs p)
+ends-no_content wants [] p = tt
+ends-no_content wants (c ∷ cs) p =
+    no_content-append wants (ends_of cs p) (exit (container_name c) p ∷ []) (ends-no_content wants cs p)
+    (refl, front-content (container_name c) (container-facts c).front, tt)
 
 -- and behind it
 pub tail-no_content : (wants : Content → Bool) (name : Name) (row : Row) → is_told name ≡ false →
@@ -267,7 +293,7 @@ text-apart bytes row es front h =
     let text = text_events row in
     ap joined
     (ap (λ (l : List Event). l ++ es) (append_assoc row.front text tail) ∙ append_assoc row.front (text ++ tail) es)
-    ∙ joined-passes row.front ((text ++ tail) ++ es) (has_front-no_content nothing bytes row front)
+    ∙ joined-passes row.front ((text ++ tail) ++ es) (has_front-no_content nothing nothing-wanted bytes row front)
     ∙ ap (λ (l : List Event). row.front ++ l) (text-ends row es h)
     ∙ sym
     (ap (λ (l : List Event). l ++ joined es) (append_assoc row.front text tail)
@@ -289,7 +315,7 @@ other-behind bytes row rows ends front h kind e other =
     (λ (k : RowKind).
     content_behind (row.front ++ ((leaf_events k row ++ tail_events (ending_of k row) row) ++ rows_events rows))) e
     ∙ behind-passes row.front ((leaf_events kind row ++ tail_events (ending_of kind row) row) ++ rows_events rows)
-    (has_front-no_content nothing bytes row front) (go kind other)
+    (has_front-no_content nothing nothing-wanted bytes row front) (go kind other)
   where
     ending : (kind : RowKind) (rows : List Row) → EachEnds (row ∷ rows) →
         content_behind (ending_events (ending_of kind row) row ++ rows_events rows) ≡ false
@@ -396,7 +422,8 @@ text-lines bytes o row below more rows gs q after front under text same =
         ap joined
         (ap (λ (l : List Event). l ++ es) (append_assoc row.front (text_events row) tail)
         ∙ append_assoc row.front (text_events row ++ tail) es)
-        ∙ joined-passes row.front ((text_events row ++ tail) ++ es) (has_front-no_content nothing bytes row front)
+        ∙ joined-passes row.front ((text_events row ++ tail) ++ es)
+        (has_front-no_content nothing nothing-wanted bytes row front)
         ∙ ap (λ (l : List Event). row.front ++ joined ((text_events row ++ l) ++ es))
         (ap (λ (leaves : List Container). ends_of leaves row.end ++ ending_events n.LineEnding row) none
         ∙ ending-is n.LineEnding row q after)
@@ -571,7 +598,7 @@ joined-rows bytes (row ∷ []) fronts ends h none = go row.kind refl
         joined (row_events row ++ []) ≡ joined_groups bytes (Single row ∷ [])
     other kind e apart =
         single-rows bytes row []
-        (events-no_content nothing row kind e apart (has_front-no_content nothing bytes row fronts.0)
+        (events-no_content nothing row kind e apart (has_front-no_content nothing nothing-wanted bytes row fronts.0)
         (h.0 nothing nothing-wanted)) refl
 
     go : (kind : RowKind) → row.kind ≡ kind → joined (row_events row ++ []) ≡ joined_groups bytes (onto_groups row kind [])
@@ -586,7 +613,7 @@ joined-rows bytes (row ∷ below ∷ rows) fronts ends h none =
         joined (row_events row ++ rows_events (below ∷ rows)) ≡ joined_groups bytes (Single row ∷ groups (below ∷ rows))
     other same kind e apart =
         single-rows bytes row (below ∷ rows)
-        (events-no_content nothing row kind e apart (has_front-no_content nothing bytes row fronts.0)
+        (events-no_content nothing row kind e apart (has_front-no_content nothing nothing-wanted bytes row fronts.0)
         (h.0 nothing nothing-wanted)) same
 
     go : joined (rows_events (below ∷ rows)) ≡ joined_groups bytes (groups (below ∷ rows)) → (kind : RowKind) →

@@ -5,3 +5,6 @@ pub mod Leaves
 pub mod Text
 pub mod Groups
 pub mod Rows
+pub mod Footnotes
+pub mod Kept
+pub mod Off

@@ -3,22 +3,16 @@
 -- The frame joins what stands in front of a line, its leaf and what stands behind it, and needs no more of a leaf than
 -- stands here. A blank line is such a leaf too, without a block.
 use Rattle.std.proofs.Common.{◌≡◌, ℕ, Bool, true, false, List, [], ◌∷◌, ◌+◌, length, ◌≤◌}
-use Rattle.std.specs.Prelude.{◌==◌, IsTrue, Option, Some, None, slice_range}
-use Rattle.std.specs.List.{list_all}
-use Rattle.md_engine.specs.declared.event.Content.TheVariants as content
+use Rattle.std.specs.Prelude.{Option, Some, None, slice_range}
 use Rattle.md_engine.specs.declared.event.Event.{Event}
 use Rattle.md_engine.specs.declared.event.Point.{Point}
 use Rattle.md_containers.proofs.UnlistedLemmas.{NoListing, StandsTo, among}
-use Rattle.md_seam.specs.declared.inline.Chunk.{Chunk}
-use Rattle.md_seam.specs.declared.inline.PartKind.TheVariants.{String, Text}
 use Rattle.md_seam.specs.Events.Endings.{Spot, line_start}
 use Rattle.md_seam.specs.Events.Grammar.{blocks, plain_text, unread_text}
-use Rattle.md_seam.specs.Events.Inline.{are_lines, plain_events}
 use Rattle.md_seam.specs.Events.Places.{past_text}
 use Rattle.md_seam.specs.Events.Spelled.{Reading, add_block, read}
 use Rattle.md_definition.specs.Rest.{Rest}
 use Rattle.md_definition.specs.Tree.{Block}
-use Rattle.md_seam.specs.Substituted.{Readings}
 use Rattle.md_outline.specs.Between.{is_between}
 use Rattle.md_seam.proofs.EndingsLemmas as ending
 use Rattle.md_seam.proofs.GrammarLemmas as grammar
@@ -33,21 +27,8 @@ use Rattle.markdown_blocks.proofs.PartsStand.{Stands}
 use Rattle.markdown_blocks.proofs.PieceFacts.{CutsFirst, Stood}
 use Rattle.markdown_blocks.proofs.PiecesLemmas.{Tiled}
 use Rattle.markdown_blocks.proofs.PlainFacts.{ArePlain}
+pub use Rattle.markdown_blocks.proofs.ReadAs.{ReadsString, ReadsText}
 use Rattle.markdown_blocks.proofs.SpanLemmas.{Nested_in}
-
--- a reader of text gives for chunks that are lines, none of which ends within a tab, what the plain layer does
-abbrev pub ReadsText : List ℕ → Readings → Type 0
-ReadsText bytes reads =
-    (chunks : List Chunk) (answer : List Event) → reads content.Text chunks answer → (end : Point) →
-    IsTrue (are_lines bytes end chunks) → IsTrue (list_all (λ (chunk : Chunk). chunk.after.vs == 0) chunks) →
-    answer ≡ plain_events bytes (record { kind = Text; chunks = chunks })
-
--- and one of strings
-abbrev pub ReadsString : List ℕ → Readings → Type 0
-ReadsString bytes reads =
-    (chunks : List Chunk) (answer : List Event) → reads content.String chunks answer → (end : Point) →
-    IsTrue (are_lines bytes end chunks) → IsTrue (list_all (λ (chunk : Chunk). chunk.after.vs == 0) chunks) →
-    answer ≡ plain_events bytes (record { kind = String; chunks = chunks })
 
 -- a rest of a line, as it stands in a text: its bytes, a tab that a prefix has cut among them, and where it begins and
 -- ends

@@ -1,6 +1,6 @@
 -- What stands between blocks or in a leaf leaves open what is open: so lists are told behind it as in front of it. And
 -- it has no item and no list.
-use Rattle.std.proofs.Common.{◌≡◌, ℕ, Bool, true, false, cond, List, [], ◌∷◌, ◌++◌, refl}
+use Rattle.std.proofs.Common.{◌≡◌, ℕ, Bool, true, false, List, [], ◌∷◌, ◌++◌, refl}
 use Rattle.std.specs.Prelude.{None, Option, Some}
 use Rattle.md_engine.specs.declared.event.Event.{Event}
 use Rattle.md_engine.specs.declared.event.Kind.{Kind}
@@ -11,14 +11,11 @@ use Rattle.md_engine.specs.declared.event.Point.{Point}
 use Rattle.md_containers.specs.ItemsStand.{InLeaf, Inner, IsPart, MayStand, Site, site_after}
 use Rattle.md_containers.specs.Unlisted.{in_place}
 use Rattle.md_containers.proofs.UnlistedLemmas.{NoListing, StandsTo, among, stands-append}
-use Rattle.md_engine.specs.Place.{first_point}
-use Rattle.md_definition.specs.Preamble.{has_mark}
-use Rattle.md_seam.specs.Events.Nested.{around, enter, exit, pair}
+use Rattle.md_seam.specs.Events.Nested.{around, enter, exit}
 use Rattle.md_seam.specs.Events.Spelled.{Holds, IsEnding, IsPrefix, IsQuiet, LeafKind, Opens, Role, Tells}
 use Rattle.md_seam.specs.Events.Spelled.{role}
 use Rattle.md_seam.proofs.SpelledLemmas.{Between, Quiet, Roles}
 use Rattle.markdown_blocks.specs.LineFlags.{ending_name}
-use Rattle.markdown_blocks.specs.Document.{mark_end, mark_events}
 use Rattle.markdown_blocks.specs.Rows.{Row, ending_events}
 
 -- What is open.
@@ -159,10 +156,3 @@ ending-roles P name row h = go row.after
 pub ending-between : (blank : Bool) (row : Row) → Roles Between (ending_events (ending_name blank) row)
 ending-between true row = ending-roles Between n.BlankLineEnding row tt
 ending-between false row = ending-roles Between n.LineEnding row tt
-
-pub mark-between : (bytes : List ℕ) → Roles Between (mark_events bytes)
-mark-between bytes = go (has_mark bytes)
-  where
-    go : (mark : Bool) → Roles Between (cond mark (pair n.ByteOrderMark first_point mark_end) [])
-    go true = (tt, (tt, tt))
-    go false = tt

@@ -1,4 +1,7 @@
 pub mod Goods
+pub mod FullLines
+pub mod FrontAgrees
+pub mod Frontmatter
 pub mod States
 pub mod FlowStays
 pub mod FlowCalls
@@ -25,6 +28,7 @@ pub mod SpannedFacts
 pub mod UnturnedFacts
 pub mod BetweenFacts
 pub mod PartedFacts
+pub mod ReadAs
 pub mod Reached
 pub mod PlainFacts
 pub mod PlainLaws
@@ -43,6 +47,7 @@ pub mod PrefixNames
 pub mod PrefixFacts
 pub mod BlockQuote
 pub mod ListItem
+pub mod GfmFootnoteDefinition
 pub mod FrontLemmas
 pub mod FrontStands
 pub mod FrontPlaces
@@ -71,7 +76,8 @@ pub mod FlowSteps
 pub mod HeadsRead
 pub mod FlowReads
 pub mod ListedRead
-pub mod ListedMark
+pub mod Begun
+pub mod ListedFront
 pub mod SubstitutedLemmas
 pub mod OutsideLemmas
 pub mod Registers

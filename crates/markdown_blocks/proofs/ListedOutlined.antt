@@ -14,12 +14,14 @@ use Rattle.md_engine.specs.declared.event.Point.{Point}
 use Rattle.md_definition.specs.Texts.{first_byte}
 use Rattle.md_definition.specs.Containers.{is_bullet}
 use Rattle.md_seam.specs.Events.Nested.{Nested, enter, exit}
-use Rattle.md_seam.specs.Events.Spelled.{AsDigits, AsItemMarker, Holds, IsQuiet, ItemShape, OrderedShape, Role, Shape}
+use Rattle.md_seam.specs.Events.Spelled.{AsDigits, AsFootnoteLabel, AsItemMarker, FootnoteShape, Holds, IsEnding}
+use Rattle.md_seam.specs.Events.Spelled.{IsPrefix, IsQuiet, ItemShape, OrderedShape, Role, Shape}
 use Rattle.md_seam.specs.Events.Spelled.{Tells, UnorderedShape, byte_at, is_ordered, role, spelled}
 use Rattle.md_containers.specs.ItemsHeld.{ItemsHeld}
 use Rattle.md_containers.specs.ItemsStand as stand
 use Rattle.md_containers.specs.ItemsStand.{AmongBlocks, InFront, InLabel, InLeaf, InText, Inner, IsMarkerAt}
-use Rattle.md_containers.specs.ItemsStand.{ItemsStand, MayBegin, MayStand, Site, inner_in, is_list_marker, root}
+use Rattle.md_containers.specs.ItemsStand.{ItemsStand, MayBegin, MayEnd, MayStand, Site, inner_behind, inner_in}
+use Rattle.md_containers.specs.ItemsStand.{is_list_marker, root}
 use Rattle.md_containers.specs.ItemsStand.{site_after}
 use Rattle.md_containers.specs.Listed.{Begins, Ends, Place, Stays, Turn, given, given_by, goes_on, is_item, list_begin}
 use Rattle.md_containers.specs.Listed.{list_end, list_name, listed, listed_from, marker_ahead, marker_by, next_item}
@@ -34,8 +36,8 @@ use Rattle.md_outline.specs.Between.{is_between}
 use Rattle.md_outline.specs.HeadingDepths.{are_shallow}
 use Rattle.md_outline.specs.LinesStand as lined
 use Rattle.md_outline.specs.LinesStand.{LinesStand, site_by}
-use Rattle.md_outline.specs.ListsBegin.{AllTold, AtItem, AtMarker, InMarker, ListsBegin, MayFollow, Stage, marks}
-use Rattle.md_outline.specs.ListsBegin.{stage_by}
+use Rattle.md_outline.specs.ListsBegin.{AllTold, AtItem, AtLabel, AtMarker, InMarker, ListsBegin, MayFollow, Stage}
+use Rattle.md_outline.specs.ListsBegin.{marks, stage_by}
 use Rattle.md_outline.specs.Outlined.{IsOutlined, IsUnlisted, TextSpan as Span, are_parted, has_shown_name, is_unparted}
 use Rattle.md_outline.specs.Outlined.{parts_by, span_by, tells_between}
 use Rattle.md_outline.specs.Roles.{is_shown, is_told}
@@ -276,25 +278,33 @@ lines-kept bytes site place (e ∷ es) h =
         by true = k
         by false = list-outside bytes Exit m e.point rest k
 
--- Lists begin with an item that begins with its marker.
+-- Lists begin with an item that begins with its marker, and footnote definitions with their label.
 
--- what is to come of a list, by what is innermost and the marker ahead
+-- what is to come of a list or a footnote definition, by what is innermost and the marker ahead
 abbrev IsAt : List ℕ → Stage → Inner → ℕ → Type 0
+IsAt bytes AllTold InLabel ahead = ⊥
 IsAt bytes AllTold inner ahead = Unit {0}
+IsAt bytes AtLabel InLabel ahead = Unit {0}
 IsAt bytes (AtMarker shape) InFront ahead = shape ≡ list_shape ahead
 IsAt bytes (InMarker shape p) (stand.InMarker q) ahead =
     (p ≡ q) × IsMarkerAt bytes q × (shape ≡ list_shape (get_or bytes q.index 0))
 IsAt bytes _ _ ahead = ⊥
 
--- no event is of a list
-no-list : (bytes : List ℕ) (held : List Bool) (inner : Inner) (kind : Kind) (x : Role) (p : Point) →
-    MayStand bytes (record { held = held; inner = inner }) kind x p → stage_by AllTold kind x p ≡ AllTold
-no-list bytes held AmongBlocks Enter (Holds OrderedShape) p may = absurd may
-no-list bytes held AmongBlocks Enter (Holds UnorderedShape) p may = absurd may
-no-list bytes held _ Enter (Holds OrderedShape) p may = absurd may
-no-list bytes held _ Enter (Holds UnorderedShape) p may = absurd may
-no-list bytes held _ Enter _ p may = refl
-no-list bytes held _ Exit _ p may = refl
+-- no event is of a list, and the label of a footnote definition stands in front of its blocks alone
+told-passed : (bytes : List ℕ) (held : List Bool) (inner : Inner) (kind : Kind) (x : Role) (p : Point)
+    (ahead behind : ℕ) → MayStand bytes (record { held = held; inner = inner }) kind x p →
+    IsAt bytes AllTold inner ahead →
+    MayFollow bytes AllTold kind x p
+    × IsAt bytes (stage_by AllTold kind x p) (site_after (record { held = held; inner = inner }) kind x p).inner behind
+told-passed bytes held InLabel kind x p ahead behind may at = absurd at
+told-passed bytes held _ Enter (Tells AsFootnoteLabel) p ahead behind may at = absurd may
+told-passed bytes held _ Exit (Tells AsFootnoteLabel) p ahead behind may at = absurd may
+told-passed bytes held AmongBlocks Enter (Holds (FootnoteShape label)) p ahead behind may at = (tt, tt)
+told-passed bytes held _ Enter (Holds (FootnoteShape label)) p ahead behind may at = absurd may
+told-passed bytes held _ Enter (Holds OrderedShape) p ahead behind may at = absurd may
+told-passed bytes held _ Enter (Holds UnorderedShape) p ahead behind may at = absurd may
+told-passed bytes held _ Enter _ p ahead behind may at = (tt, tt)
+told-passed bytes held _ Exit _ p ahead behind may at = (tt, tt)
 
 -- the byte at a marker is one of the list that it names
 marks-shape : (b : ℕ) → is_list_marker b ≡ true → marks (list_shape b) b ≡ true
@@ -318,11 +328,17 @@ at-passed : (bytes : List ℕ) (stage : Stage) (held : List Bool) (inner : Inner
     IsAt bytes stage inner (marker_by kind x (get_or bytes p.index 0) behind) →
     MayFollow bytes stage kind x p ×
     IsAt bytes (stage_by stage kind x p) (site_after (record { held = held; inner = inner }) kind x p).inner behind
-at-passed bytes AllTold held inner kind x p behind may passes at = (
-  tt,
-  subst (λ stage. IsAt bytes stage (site_after (record { held = held; inner = inner }) kind x p).inner behind)
-      (sym (no-list bytes held inner kind x p may)) tt,
-)
+at-passed bytes AllTold held inner kind x p behind may passes at =
+    told-passed bytes held inner kind x p (marker_by kind x (get_or bytes p.index 0) behind) behind may at
+at-passed bytes AtLabel held InLabel Enter IsPrefix p behind may passes at = (tt, tt)
+at-passed bytes AtLabel held InLabel Exit IsPrefix p behind may passes at = (tt, tt)
+at-passed bytes AtLabel held InLabel Enter IsEnding p behind may passes at = (tt, tt)
+at-passed bytes AtLabel held InLabel Exit IsEnding p behind may passes at = (tt, tt)
+at-passed bytes AtLabel held InLabel Enter IsQuiet p behind may passes at = (tt, tt)
+at-passed bytes AtLabel held InLabel Exit IsQuiet p behind may passes at = (tt, tt)
+at-passed bytes AtLabel held InLabel Enter (Tells AsFootnoteLabel) p behind may passes at = (tt, tt)
+at-passed bytes AtLabel held InLabel Exit (Tells AsFootnoteLabel) p behind may passes at = (tt, tt)
+at-passed bytes AtLabel held InLabel _ _ p behind may passes at = absurd may
 at-passed bytes (AtMarker shape) held InFront Enter IsQuiet p behind may passes at = (tt, at)
 at-passed bytes (AtMarker shape) held InFront Exit IsQuiet p behind may passes at = (tt, at)
 at-passed bytes (AtMarker shape) held InFront Enter (Tells AsDigits) p behind may passes at = (tt, at)
@@ -340,6 +356,8 @@ at-item : (bytes : List ℕ) (stage : Stage) (held : List Bool) (inner : Inner) 
     IsAt bytes stage inner ahead →
     AllTold ≡ stage
 at-item bytes AllTold held inner kind p ahead may at = refl
+at-item bytes AtLabel held InLabel Enter p ahead may at = absurd may
+at-item bytes AtLabel held InLabel Exit p ahead may at = absurd may
 at-item bytes (AtMarker shape) held InFront Enter p ahead may at = absurd may
 at-item bytes (AtMarker shape) held InFront Exit p ahead may at = absurd may
 at-item bytes (InMarker shape q) held (stand.InMarker r) Enter p ahead may at = absurd may
@@ -351,7 +369,24 @@ in-front : (bytes : List ℕ) (inner : Inner) (p : Point) → MayBegin bytes p i
 in-front bytes AmongBlocks p may = refl
 in-front bytes _ p may = absurd may
 
+item-ends : (bytes : List ℕ) (held : List Bool) (inner : Inner) (p : Point) (ahead : ℕ) →
+    MayEnd held p inner (Holds (ItemShape 0 [])) →
+    IsAt bytes AllTold (inner_behind inner (Holds (ItemShape 0 []))) ahead
+item-ends bytes held AmongBlocks p ahead may = tt
+item-ends bytes held _ p ahead may = absurd may
+
 -- the begin and the end of a list
+list-follows : (bytes : List ℕ) (m : ℕ) (kind : Kind) (p : Point) →
+    MayFollow bytes AllTold kind (role (list_name m)) p
+list-follows bytes m kind p = go kind (is_ordered m)
+  where
+    go : (kind : Kind) (x : Bool) →
+        MayFollow bytes AllTold kind (role (if x then n.ListOrdered else n.ListUnordered)) p
+    go Enter true = tt
+    go Enter false = tt
+    go Exit true = tt
+    go Exit false = tt
+
 list-stage : (m : ℕ) (p : Point) → AtItem (list_shape m) ≡ stage_by AllTold Enter (role (list_name m)) p
 list-stage m p = go (is_ordered m)
   where
@@ -384,7 +419,7 @@ lists-begun bytes stage site place (e ∷ es) stands at =
       tt,
       ends place.markers (listed_from bytes (place_behind place (next_item bytes es)) es)
           (lists-begun bytes AllTold (site_after site Exit item e.point) (place_behind place (next_item bytes es)) es
-          stands.1 tt),
+          stands.1 (item-ends bytes site.held site.inner e.point (marker_ahead bytes es) stands.0)),
     ))
     (λ kind name i stands at.
     let now =
@@ -408,9 +443,14 @@ lists-begun bytes stage site place (e ∷ es) stands at =
         ListsBegin bytes AllTold
         ((list_begin within (marker_ahead bytes es) e.point ++ record e { kind = Enter; name = n.ListItem } ∷ [])
         ++ listed_from bytes inside es)
-    begins true may go = (tt, go AllTold tt)
-    begins false may go = (
+    begins true may go = (
       tt,
+      go AllTold
+          (subst (λ (inner : Inner). IsAt bytes AllTold inner (marker_ahead bytes es))
+          (in-front bytes site.inner e.point may) tt),
+    )
+    begins false may go = (
+      list-follows bytes (marker_ahead bytes es) Enter e.point,
       subst
           (λ (s : Stage).
           ListsBegin bytes s (record e { kind = Enter; name = n.ListItem } ∷ listed_from bytes inside es))
@@ -431,7 +471,7 @@ lists-begun bytes stage site place (e ∷ es) stands at =
       where
         by : (x : Bool) → ListsBegin bytes AllTold ((if x then [] else exit (list_name m) e.point ∷ []) ++ rest)
         by true = k
-        by false = (tt, k)
+        by false = (list-follows bytes m Exit e.point, k)
 
 -- All of it.
 

@@ -22,10 +22,11 @@ use Rattle.markdown_blocks.specs.Change.{Change, ends_of, is_none, open_behind}
 use Rattle.markdown_blocks.specs.Fronted.{contained, rest_from, rest_line}
 use Rattle.markdown_blocks.specs.Rows.{Headed, Span, Turned, is_further, is_last, onto_leaf, final_row, first_row}
 use Rattle.markdown_blocks.specs.Rows.{LeafRow, BlankRow, Group, Lines, Row, RowKind, Single, TextRow}
-use Rattle.markdown_blocks.specs.Rows.{behind_row, closes_before, ending_events, goes_on, groups, groups_events}
+use Rattle.markdown_blocks.specs.Rows.{behind_row, closes_before, ending_events, front_done, goes_on, groups}
+use Rattle.markdown_blocks.specs.Rows.{groups_events}
 use Rattle.markdown_blocks.specs.Rows.{group_done, last_row, onto_groups, tail_events, takes_head}
 use Rattle.markdown_blocks.proofs.ContainedLemmas.{contained-shapes, none-nil}
-use Rattle.markdown_blocks.proofs.FrontFacts.{LinePrefix}
+use Rattle.markdown_blocks.proofs.FrontFacts.{LinePrefix, ReadFront}
 use Rattle.markdown_blocks.proofs.FrontLemmas.{Turns, ends-spans, ends-turn, fronts-spans, fronts-turn, names-append}
 use Rattle.markdown_blocks.proofs.FrontLemmas.{shapes-names}
 use Rattle.markdown_blocks.proofs.JoinedLemmas.{behind-is, behind-none}
@@ -46,6 +47,7 @@ use Rattle.markdown_blocks.proofs.Underlines.{further-quiet}
 -- What stands in a group whose first line begins at a point, and its ending: the points never go back.
 pub record Ordered (options : ParseOptions) (bytes : List ℕ) (p : Point) (group : Group) : Type 0 where
   pub front : LinePrefix bytes (first_row group).change.opens p (first_row group).first (first_row group).front
+  pub front_read : ReadFront bytes (first_row group).change.opens p (first_row group).first (first_row group).front
   pub leaf : IsGroupLeaf options bytes group
   pub ends : IsTrue (at_or_before (final_row group).end (behind_row (final_row group)))
 
@@ -54,32 +56,33 @@ abbrev pub Keeps : List Name → Group → List Name → Type 0
 Keeps names group kept =
     open_names (first_row group).change.opens ++ names ≡ open_names (final_row group).leaves ++ kept
 
--- a group in front of events that end what it keeps open, with what stands in its place
+-- a group in front of events that end what it keeps open, with what stands in its place, and in front of it
 pub under-group : (options : ParseOptions) (bytes : List ℕ) (names kept : List Name) (p : Point) (group : Group)
-    (inside events : List Event) →
-    Ordered options bytes p group →
+    (front inside events : List Event) →
+    LinePrefix bytes (first_row group).change.opens p (first_row group).first front →
+    IsTrue (at_or_before (final_row group).end (behind_row (final_row group))) →
     Keeps names group kept → Nested_in (first_row group).first (final_row group).end inside →
     Under kept (behind_row (final_row group)) events →
     Under names p
-    (((first_row group).front ++ inside ++ tail_events (group_ending group) (final_row group)) ++ events)
-under-group options bytes names kept p group inside events o keeps h on =
+    ((front ++ inside ++ tail_events (group_ending group) (final_row group)) ++ events)
+under-group options bytes names kept p group front inside events is order keeps h on =
     let row : Row = first_row group in
     let last : Row = final_row group in
     let all : List Name = open_names row.change.opens ++ names in
     let ends : List Event = ends_of last.leaves last.end in
     let ending : List Event = ending_events (group_ending group) last in
-    let apart : (row.front ++ inside ++ (ends ++ ending)) ++ events ≡
-    row.front ++ (inside ++ (ends ++ (ending ++ events))) = simp append_assoc in
+    let apart : (front ++ inside ++ (ends ++ ending)) ++ events ≡
+    front ++ (inside ++ (ends ++ (ending ++ events))) = simp append_assoc in
     subst (Under names p) (sym apart)
-    (under-turn names all p row.first row.front (inside ++ (ends ++ (ending ++ events)))
-    (fronts-turn bytes row.change.opens names p row.first row.front o.front)
-    (fronts-spans bytes row.change.opens p row.first row.front o.front)
+    (under-turn names all p row.first front (inside ++ (ends ++ (ending ++ events)))
+    (fronts-turn bytes row.change.opens names p row.first front is)
+    (fronts-spans bytes row.change.opens p row.first front is)
     (under-before all row.first last.end inside (ends ++ (ending ++ events)) h
     (under-turn all kept last.end last.end ends (ending ++ events)
     (subst (λ (l : List Name). Turns l kept ends) (sym keeps) (ends-turn last.leaves kept last.end))
     (ends-spans last.leaves last.end)
     (under-before kept last.end (behind_row last) ending events
-    (ending-nested (group_ending group) last o.ends) on))))
+    (ending-nested (group_ending group) last order) on))))
 
 -- What holds of no groups where nothing is open, and group by group, of the names that are open where they begin
 -- (behind the ends of the containers that end before the line), and of the point where they begin.
@@ -94,6 +97,7 @@ pub record ByGroups (options : ParseOptions) (bytes : List ℕ) (P : List Name �
 record Lined (options : ParseOptions) (bytes : List ℕ) (P : List Name → Point → List Group → Type 0) (names : List Name)
     (p : Point) (row : Row) (rows : List Row) (gs : List Group) : Type 0 where
   front : LinePrefix bytes row.change.opens p row.first row.front
+  front_read : ReadFront bytes row.change.opens p row.first row.front
   are : AreLines options bytes row rows
   ends : IsTrue (at_or_before (last_row row rows).end (behind_row (last_row row rows)))
   kept : List Name
@@ -104,6 +108,7 @@ record Lined (options : ParseOptions) (bytes : List ℕ) (P : List Name → Poin
 record UnderLined (options : ParseOptions) (bytes : List ℕ) (P : List Name → Point → List Group → Type 0)
     (names : List Name) (p : Point) (row : Row) (rows : List Row) (under : Row) (gs : List Group) : Type 0 where
   front : LinePrefix bytes row.change.opens p row.first row.front
+  front_read : ReadFront bytes row.change.opens p row.first row.front
   are : AreLines options bytes row rows
   is : IsUnder options bytes (last_row row rows) under
   leaves : Leaves options bytes row rows are
@@ -116,6 +121,7 @@ record UnderLined (options : ParseOptions) (bytes : List ℕ) (P : List Name →
 record Spanned (options : ParseOptions) (bytes : List ℕ) (P : List Name → Point → List Group → Type 0)
     (names : List Name) (p : Point) (row : Row) (rows : List Row) (gs : List Group) : Type 0 where
   front : LinePrefix bytes row.change.opens p row.first row.front
+  front_read : ReadFront bytes row.change.opens p row.first row.front
   are : AreSpan options bytes row rows
   ends : IsTrue (at_or_before (last_row row rows).end (behind_row (last_row row rows)))
   kept : List Name
@@ -142,6 +148,7 @@ record IsBegun (options : ParseOptions) (bytes line : List ℕ) (names kept : Li
     (row : Row) : Type 0 where
   is : IsRow options bytes line row
   front : LinePrefix bytes row.change.opens p row.first row.front
+  front_read : ReadFront bytes row.change.opens p row.first row.front
   ends : IsTrue (at_or_before row.end (behind_row row))
   keeps : Keeps names (Single row) kept
 
@@ -165,6 +172,7 @@ onto-holds options bytes line P by names kept p q row gs begun ended first below
       λ begins. by.group names kept p (Single row) gs
           (record {
             front = begun.front;
+            front_read = begun.front_read;
             leaf = single-leaf options bytes line row begun.is other ends;
             ends = begun.ends;
           })
@@ -176,7 +184,12 @@ onto-holds options bytes line P by names kept p q row gs begun ended first below
         Both_of (Lines row rows ∷ gs)
     text rows gs lined = (
       λ begins. by.group names lined.kept p (Lines row rows) gs
-          (record { front = lined.front; leaf = text-leaf options bytes row rows lined.are; ends = lined.ends })
+          (record {
+            front = lined.front;
+            front_read = lined.front_read;
+            leaf = text-leaf options bytes row rows lined.are;
+            ends = lined.ends;
+          })
           lined.keeps lined.more,
       lined,
     )
@@ -187,6 +200,7 @@ onto-holds options bytes line P by names kept p q row gs begun ended first below
       λ begins. by.group names lined.kept p (Turned row rows under) gs
           (record {
             front = lined.front;
+            front_read = lined.front_read;
             leaf =
                 turned-leaf options bytes row rows under lined.are lined.is
                 (leaves-left options bytes row rows lined.are lined.leaves begins);
@@ -202,6 +216,7 @@ onto-holds options bytes line P by names kept p q row gs begun ended first below
       λ begins. by.group names spanned.kept p (Span row rows) gs
           (record {
             front = spanned.front;
+            front_read = spanned.front_read;
             leaf = span-group options bytes row rows spanned.are begins;
             ends = spanned.ends;
           })
@@ -220,6 +235,7 @@ onto-holds options bytes line P by names kept p q row gs begun ended first below
         text [] gs
         (record {
           front = begun.front;
+          front_read = begun.front_read;
           are = (line, begun.is, e);
           ends = begun.ends;
           kept = kept;
@@ -257,7 +273,7 @@ onto-holds options bytes line P by names kept p q row gs begun ended first below
           name = l;
           kind = e;
           open_leaf = k;
-          front = (p, begun.front);
+          front = (p, begun.front, begun.front_read);
         }
 
         one : (gs : List Group) → P kept (behind_row row) gs → Both_of (Span row [] ∷ gs)
@@ -265,6 +281,7 @@ onto-holds options bytes line P by names kept p q row gs begun ended first below
             span [] gs
             (record {
               front = begun.front;
+              front_read = begun.front_read;
               are = is;
               ends = begun.ends;
               kept = kept;
@@ -291,6 +308,7 @@ onto-holds options bytes line P by names kept p q row gs begun ended first below
                 let met = first.met f in
                 span (next ∷ rows) gs (record {
                   front = begun.front;
+                  front_read = begun.front_read;
                   are = (
                     is,
                     ended.0,
@@ -341,6 +359,7 @@ onto-holds options bytes line P by names kept p q row gs begun ended first below
         let behind : IsBehind bytes ended.0 row next = below_ending next ended.0 ended.1 below.front first in
         turned [] next gs (record {
           front = begun.front;
+          front_read = begun.front_read;
           are = (line, begun.is, e);
           is =
               text-under options bytes line row ended.0 next ended.1 ended.2 behind f headless is
@@ -365,6 +384,7 @@ onto-holds options bytes line P by names kept p q row gs begun ended first below
           λ begins. by.group names below.kept p (Headed row next rows) gs
               (record {
                 front = begun.front;
+                front_read = begun.front_read;
                 leaf = headed-leaf options bytes row next rows head below.are;
                 ends = below.ends;
               })
@@ -391,6 +411,7 @@ onto-holds options bytes line P by names kept p q row gs begun ended first below
             let opens : next.change.opens ≡ [] = none-nil next.change.opens parts.1 in
             turned (next ∷ rows) under gs (record {
               front = begun.front;
+              front_read = begun.front_read;
               are = longer e next rows gs ended opens below.front below.are;
               is = below.is;
               leaves =
@@ -428,6 +449,7 @@ onto-holds options bytes line P by names kept p q row gs begun ended first below
             let opens : next.change.opens ≡ [] = none-nil next.change.opens parts.1 in
             text (next ∷ rows) gs (record {
               front = begun.front;
+              front_read = begun.front_read;
               are = longer e next rows gs ended opens below.front below.are;
               ends = below.ends;
               kept = below.kept;
@@ -500,6 +522,7 @@ line-holds options bytes P by cs still p q line row rows kept is ends left ended
     (open_names row.change.stays) kept p row = record {
       is = is.is;
       front = is.front;
+      front_read = is.front_read;
       ends = ends;
       keeps = change-keeps options bytes line cs still p row kept is left;
     } in
@@ -572,8 +595,9 @@ nests-by_groups : (options : ParseOptions) (bytes : List ℕ) → ByGroups optio
 nests-by_groups options bytes = record {
   none = λ p. record { matches = tt; closed = refl; forward = tt };
   group =
-      λ names kept p group gs o keeps on. under-group options bytes names kept p group (group_done options bytes group)
-      (groups_events options bytes gs) o keeps o.leaf.1.nested on;
+      λ names kept p group gs o keeps on. under-group options bytes names kept p group
+      (front_done bytes (first_row group)) (group_done options bytes group)
+      (groups_events options bytes gs) o.front_read.is o.ends keeps o.leaf.1.nested on;
 }
 
 -- The groups of the lines of a text nest.

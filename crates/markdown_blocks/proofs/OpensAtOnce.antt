@@ -25,7 +25,8 @@ use Rattle.markdown_blocks.specs.AtOnce.{all_asked}
 use Rattle.markdown_blocks.specs.Containers.ListItem.{item_rules}
 use Rattle.markdown_blocks.specs.Flow.{new_before_transition, trial_code}
 use Rattle.markdown_blocks.specs.LineFlags.{asking}
-use Rattle.markdown_blocks.specs.Registry.{kind_number, may_open, next_opener, opener_front, openers, opens_with}
+use Rattle.markdown_blocks.specs.Registry.{kind_number, may_open, next_opener, opener_front, openers, openers_behind}
+use Rattle.markdown_blocks.specs.Registry.{opens_with}
 use Rattle.markdown_blocks.specs.States.{FlowStep}
 use Rattle.markdown_blocks.proofs.LinesAtOnce.{openers-refuse}
 use Rattle.markdown_blocks.proofs.ListItem.Plain.{has-item}
@@ -85,7 +86,7 @@ bullet-opens is_name is_end s v w came seen within plain =
     is = bullet-seen w seen plain
 
     none : State
-    none = Next (n.Document document.ContainersAfter)
+    none = Next (n.Document (next_opener kind.ListItem))
 
     b : World
     b = asking (container_of kind.ListItem) w
@@ -95,7 +96,7 @@ bullet-opens is_name is_end s v w came seen within plain =
 
     at_item : CameTo T is_end s v (n.Document item_rules.before) a
     at_item =
-        openers-refuse is_name is_end s v in_front (kind.ListItem ∷ []) w refl
+        openers-refuse is_name is_end s v in_front (kind.ListItem ∷ openers_behind kind.ListItem) w refl
         (record { byte = marker; here = is; none = bullets-refused marker plain.bullet }) seen within came
 
     begun : new_before_transition kind.ListItem a ≡

@@ -9,7 +9,6 @@ use Rattle.md_engine.specs.declared.event.Name.TheVariants as n
 use Rattle.md_engine.specs.declared.event.Point.{Point}
 use Rattle.md_seam.specs.Events.Nested.{around, exit, pair, is_enter}
 use Rattle.markdown_blocks.specs.LineFlags.{ending_name}
-use Rattle.markdown_blocks.proofs.ContainerNames.{is_front}
 use Rattle.markdown_blocks.proofs.EachEvent.{each-as}
 use Rattle.markdown_blocks.specs.Change.{ends_of}
 use Rattle.markdown_blocks.specs.Registry.{is_own, resolved}
@@ -19,7 +18,7 @@ use Rattle.markdown_blocks.proofs.FrontNames.{HasFront, ends-are, fronts-are}
 use Rattle.markdown_blocks.proofs.OutsideFacts.{AreOutside, outside-append, IsOutside}
 use Rattle.markdown_blocks.proofs.Registry.{front-own, outside-passes}
 use Rattle.markdown_blocks.proofs.SubstitutedLemmas.{EachPrefixed}
-use Rattle.markdown_blocks.proofs.PrefixNames.{AreFront, prefixes-front, IsNamed}
+use Rattle.markdown_blocks.proofs.PrefixNames.{AreFront, prefixes-front, IsFrontEvent}
 use Rattle.std.specs.Prelude.{Bool, true}
 
 -- where nothing is their own, resolvers change nothing
@@ -29,7 +28,7 @@ outside-same es h = ap resolved (sym (append-nil es)) ∙ outside-passes es [] h
 -- what stands in front of a line
 pub front-outside : (es : List Event) → AreFront es → AreOutside es
 front-outside es h =
-    each-as (IsNamed is_front) IsOutside
+    each-as IsFrontEvent IsOutside
     (λ e is. and_right (is_enter e.kind) (is_own e.name) (front-own e.name is.0)) es h
 
 pub has_front-outside : (bytes : List ℕ) (row : Row) → HasFront bytes row → AreOutside row.front

@@ -12,7 +12,7 @@ use Rattle.md_seam.proofs.SpelledLemmas.{Roles, roles-append}
 use Rattle.md_outline.specs.Outlined.{are_parted}
 use Rattle.markdown_blocks.specs.LineFlags.{ending_name}
 use Rattle.markdown_blocks.specs.Change.{ends_of}
-use Rattle.markdown_blocks.specs.Rows.{final_row, first_row, group_done, Group, Row}
+use Rattle.markdown_blocks.specs.Rows.{final_row, first_row, front_done, group_done, Group, Row}
 use Rattle.markdown_blocks.specs.Rows.{ending_events, groups, groups_events, tail_events}
 use Rattle.markdown_blocks.proofs.FrontLemmas.{ends-roles}
 use Rattle.markdown_blocks.proofs.FrontStands.{fronts-sit}
@@ -60,8 +60,9 @@ parted-by_groups options bytes = record {
   none = λ p. refl;
   group = λ names kept p group gs o keeps on.
       let row : Row = first_row group in
-      let front : Sits bytes row.front = fronts-sit bytes row.change.opens p row.first row.front o.front in
-      line-sits bytes (group_ending group) row.front (group_done options bytes group) (final_row group)
+      let front : Sits bytes (front_done bytes row) =
+      fronts-sit bytes row.change.opens p row.first (front_done bytes row) o.front_read.is in
+      line-sits bytes (group_ending group) (front_done bytes row) (group_done options bytes group) (final_row group)
       (ending-still (is_blank_group group)) front o.leaf.1.parted (groups_events options bytes gs) on;
 }
 

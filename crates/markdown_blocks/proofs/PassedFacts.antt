@@ -12,7 +12,7 @@ use Rattle.md_definition.proofs.TextsLemmas.{NoEnding}
 use Rattle.markdown_blocks.specs.Registry.{container_name}
 use Rattle.markdown_blocks.specs.Passed.{Passed}
 use Rattle.markdown_blocks.proofs.RegistryRead.{IsRead}
-use Rattle.markdown_blocks.proofs.PrefixFacts.{Continues, Opens}
+use Rattle.markdown_blocks.proofs.PrefixFacts.{Continues, OpensRead}
 
 -- what a container leaves of a line, by the cells of the line and by its bytes
 pub record HasPassed (line : Line) (text past : List ℕ) (end : Point) (stop cells : List Cell) (passed : Passed)
@@ -37,7 +37,7 @@ pub record HasOpening (line : Line) (text past : List ℕ) (p end : Point) (stop
   pub passes : HasPassed line text past end stop cells passed taken
   pub inside : List Event
   pub events : passed.events ≡ enter (container_name passed.container) p ∷ inside
-  pub opening : Opens text passed.container p passed.point inside
+  pub opening : OpensRead text passed.container p passed.point inside
   pub fewer : length passed.cells < length cells
 
 -- a container goes on, or opens, by the cells of a line where it does by its bytes

@@ -1,39 +1,36 @@
 -- The pieces of every text stand over their bytes, before its text is read and behind.
 use Rattle.md_engine.specs.declared.tokenizer.held_leaf.HeldLeaf.TheVariants as held_leaf
 use Rattle.md_engine.specs.declared.tokenizer.held_leaf.HeldLeaf.{HeldLeaf}
-use Rattle.std.proofs.Common.{◌≡◌, ℕ, Bool, true, false, cond, List, [], ◌∷◌, ◌++◌, slice_range, refl, ap, sym, subst}
+use Rattle.std.proofs.Common.{◌≡◌, ℕ, true, List, [], ◌∷◌, ◌++◌, sym, subst}
 use Rattle.markdown_blocks.specs.Rows.{Headed, Span, Turned}
-use Rattle.std.proofs.Common.{arith}
 use Rattle.std.specs.Prelude.{Option, Some, None}
 use Rattle.md_engine.specs.declared.configuration.ParseOptions.{ParseOptions}
 use Rattle.md_engine.specs.declared.event.Event.{Event}
 use Rattle.md_engine.specs.declared.event.Name.{Name}
-use Rattle.md_engine.specs.declared.event.Name.TheVariants as n
 use Rattle.md_engine.specs.declared.event.Point.{Point}
 use Rattle.md_seam.specs.Events.Inline.{pieces}
 use Rattle.md_seam.specs.Events.Nested.{exit, pair}
 use Rattle.md_seam.specs.Events.Pieces.{pieces_stand, stands_over}
 use Rattle.md_seam.specs.Events.Places.{first_point}
-use Rattle.md_definition.specs.Preamble.{has_mark}
 use Rattle.md_definition.specs.State.{Container}
 use Rattle.md_definition.proofs.TextsLemmas.{Ending, ending_bytes}
-use Rattle.md_definition.proofs.PreambleLemmas.{mark-bytes}
 use Rattle.markdown_blocks.specs.Registry.{container_name}
 use Rattle.markdown_blocks.specs.Change.{ends_of}
-use Rattle.markdown_blocks.specs.Document.{body_point, mark_end, mark_events}
 use Rattle.markdown_blocks.specs.Fronted.{contained, rest_from, rest_line}
-use Rattle.markdown_blocks.specs.Rows.{final_row, first_row, group_done, Group}
+use Rattle.markdown_blocks.specs.Rows.{final_row, first_row, front_done, group_done, Group}
 use Rattle.markdown_blocks.specs.Rows.{Lines, Row, Single, ending_events, group_events, groups}
 use Rattle.markdown_blocks.specs.Rows.{groups_events, tail_events}
 use Rattle.markdown_blocks.specs.Unread.{group_unread, listed_group, listed_groups}
 use Rattle.markdown_blocks.proofs.EachRow.{EachGroup, EachRow, OfGroup, groups-each, last-each}
+use Rattle.markdown_blocks.proofs.FrontFacts.{LinePrefix}
 use Rattle.markdown_blocks.proofs.FrontStands.{fronts-stood}
-use Rattle.markdown_blocks.proofs.PieceFacts.{Stood, over-stands, stood-append, stood-exit, stood-none, stood-pair}
+use Rattle.markdown_blocks.proofs.PieceFacts.{Stood, stood-append, stood-exit, stood-none, stood-pair}
 use Rattle.markdown_blocks.proofs.ChunkFacts.{ending-stands}
 use Rattle.markdown_blocks.proofs.EndingFacts.{ending-named}
 use Rattle.markdown_blocks.proofs.RowFacts.{AreRows, IsEnding, IsLine, IsRow, behind_line}
-use Rattle.markdown_blocks.proofs.NestedRows.{ByGroups, Ordered, rows-hold}
+use Rattle.markdown_blocks.proofs.NestedRows.{ByGroups, rows-hold}
 use Rattle.markdown_blocks.specs.Rows.{group_ending, is_blank_group}
+use Rattle.markdown_blocks.proofs.Frontmatter.Whole.{FrontPart}
 
 -- Containers.
 
@@ -108,14 +105,14 @@ final-stands bytes (Headed row next rows) h = last-each (LineStands bytes) next 
 final-stands bytes (Span row rows) h = last-each (LineStands bytes) row rows h.0 h.1
 
 -- what stands in front of the first line of a group, in its place, and behind it
-group-stood : (options : ParseOptions) (bytes : List ℕ) (p : Point) (group : Group) (es : List Event) →
-    Ordered options bytes p group →
+group-stood : (bytes : List ℕ) (p : Point) (group : Group) (front es : List Event) →
+    LinePrefix bytes (first_row group).change.opens p (first_row group).first front →
     OfGroup (LineStands bytes) group → Stood bytes es →
-    Stood bytes ((first_row group).front ++ es ++ tail_events (group_ending group) (final_row group))
-group-stood options bytes p group es o h stood =
+    Stood bytes (front ++ es ++ tail_events (group_ending group) (final_row group))
+group-stood bytes p group front es is h stood =
     let row : Row = first_row group in
-    stood-append bytes (row.front ++ es) (tail_events (group_ending group) (final_row group))
-    (stood-append bytes row.front es (fronts-stood bytes row.change.opens p row.first row.front o.front) stood)
+    stood-append bytes (front ++ es) (tail_events (group_ending group) (final_row group))
+    (stood-append bytes front es (fronts-stood bytes row.change.opens p row.first front is) stood)
     ((final-stands bytes group h).tail (group_ending group) (ending-named (is_blank_group group)))
 
 -- groups of such lines, before texts are read
@@ -127,7 +124,8 @@ unread-by_groups options bytes = record {
   none = λ p h. stood-none bytes;
   group = λ names kept p group gs o keeps on h.
       stood-append bytes (listed_group options bytes group) (listed_groups options bytes gs)
-      (group-stood options bytes p group (group_unread options bytes group) o h.0 o.leaf.1.unread_stood) (on h.1);
+      (group-stood bytes p group (first_row group).front (group_unread options bytes group) o.front h.0
+      o.leaf.1.unread_stood) (on h.1);
 }
 
 -- and once they are
@@ -139,43 +137,32 @@ stood-by_groups options bytes = record {
   none = λ p h. stood-none bytes;
   group = λ names kept p group gs o keeps on h.
       stood-append bytes (group_events options bytes group) (groups_events options bytes gs)
-      (group-stood options bytes p group (group_done options bytes group) o h.0 o.leaf.1.stood) (on h.1);
+      (group-stood bytes p group (front_done bytes (first_row group)) (group_done options bytes group) o.front_read.is
+      h.0 o.leaf.1.stood) (on h.1);
 }
 
--- With a mark in front.
-
--- the mark of a text, if it has one
-mark-stood : (bytes : List ℕ) → Stood bytes (mark_events bytes)
-mark-stood bytes = go (has_mark bytes) refl
-  where
-    slice : has_mark bytes ≡ true → slice_range bytes first_point.index mark_end.index ≡ 239 ∷ 187 ∷ 191 ∷ []
-    slice e = ap (λ (l : List ℕ). slice_range l first_point.index mark_end.index) (mark-bytes bytes e)
-
-    go : (x : Bool) → has_mark bytes ≡ x → Stood bytes (cond x (pair n.ByteOrderMark first_point mark_end) [])
-    go true e =
-        stood-pair bytes n.ByteOrderMark first_point mark_end
-        (over-stands bytes n.ByteOrderMark first_point mark_end (239 ∷ 187 ∷ 191 ∷ [])
-        (record { some = omega arith; whole = refl; slice = slice e }) refl refl)
-    go false e = stood-none bytes
+-- With the front of a text before them.
 
 -- The pieces of a text stand, before its texts are read,
-pub blocks-pieces : (options : ParseOptions) (bytes : List ℕ) (lines : List (List ℕ)) (rows : List Row) →
-    AreRows options bytes [] held_leaf.None (body_point bytes) lines rows →
-    pieces_stand bytes (pieces (mark_events bytes ++ listed_groups options bytes (groups rows))) ≡ true
-blocks-pieces options bytes lines rows are =
-    (stood-append bytes (mark_events bytes) (listed_groups options bytes (groups rows)) (mark-stood bytes)
-    (rows-hold options bytes (UnreadStood options bytes) (unread-by_groups options bytes) (body_point bytes)
+pub blocks-pieces : (options : ParseOptions) (bytes : List ℕ) (p : Point) (front : List Event) (lines : List (List ℕ))
+    (rows : List Row) →
+    FrontPart bytes first_point p front → AreRows options bytes [] held_leaf.None p lines rows →
+    pieces_stand bytes (pieces (front ++ listed_groups options bytes (groups rows))) ≡ true
+blocks-pieces options bytes p front lines rows part are =
+    (stood-append bytes front (listed_groups options bytes (groups rows)) part.stood
+    (rows-hold options bytes (UnreadStood options bytes) (unread-by_groups options bytes) p
     lines rows are
     (groups-each (LineStands bytes) rows
-    (rows-stand options bytes [] held_leaf.None (body_point bytes) lines rows are)))).stand
+    (rows-stand options bytes [] held_leaf.None p lines rows are)))).stand
 
 -- and once they are.
-pub events-pieces : (options : ParseOptions) (bytes : List ℕ) (lines : List (List ℕ)) (rows : List Row) →
-    AreRows options bytes [] held_leaf.None (body_point bytes) lines rows →
-    pieces_stand bytes (pieces (mark_events bytes ++ groups_events options bytes (groups rows))) ≡ true
-events-pieces options bytes lines rows are =
-    (stood-append bytes (mark_events bytes) (groups_events options bytes (groups rows)) (mark-stood bytes)
-    (rows-hold options bytes (GroupsStood options bytes) (stood-by_groups options bytes) (body_point bytes)
+pub events-pieces : (options : ParseOptions) (bytes : List ℕ) (p : Point) (front : List Event) (lines : List (List ℕ))
+    (rows : List Row) →
+    FrontPart bytes first_point p front → AreRows options bytes [] held_leaf.None p lines rows →
+    pieces_stand bytes (pieces (front ++ groups_events options bytes (groups rows))) ≡ true
+events-pieces options bytes p front lines rows part are =
+    (stood-append bytes front (groups_events options bytes (groups rows)) part.stood
+    (rows-hold options bytes (GroupsStood options bytes) (stood-by_groups options bytes) p
     lines rows are
     (groups-each (LineStands bytes) rows
-    (rows-stand options bytes [] held_leaf.None (body_point bytes) lines rows are)))).stand
+    (rows-stand options bytes [] held_leaf.None p lines rows are)))).stand

@@ -22,7 +22,7 @@ use Rattle.md_outline.specs.Outlined.{IsUnlisted, tells_between}
 use Rattle.md_outline.proofs.LinesPass.{passes-all}
 use Rattle.markdown_blocks.specs.Change.{Change, ends_of}
 use Rattle.markdown_blocks.specs.Fronted.{contained, rest_from, rest_line}
-use Rattle.markdown_blocks.specs.Rows.{final_row, first_row, group_done, Group}
+use Rattle.markdown_blocks.specs.Rows.{final_row, first_row, front_done, group_done, Group}
 use Rattle.markdown_blocks.specs.Rows.{Lines, Row, Single, ending_events, group_events, groups}
 use Rattle.markdown_blocks.specs.Rows.{groups_events, tail_events}
 use Rattle.markdown_blocks.specs.Registry.{container_name, shape_of}
@@ -127,9 +127,10 @@ plain-by_groups options bytes = record {
   group = λ names kept p group gs o keeps on h.
       let row : Row = first_row group in
       plain-append bytes (group_events options bytes group) (groups_events options bytes gs)
-      (plain-line bytes (group_ending group) row.front (group_done options bytes group) (final_row group)
+      (plain-line bytes (group_ending group) (front_done bytes row) (group_done options bytes group) (final_row group)
       (ending-untold (is_blank_group group))
-      (final-plain bytes group h.0).leaves (plain-front bytes row.change.opens p row.first row.front o.front)
+      (final-plain bytes group h.0).leaves
+      (plain-front bytes row.change.opens p row.first (front_done bytes row) o.front_read.is)
       (o.leaf.1.plain (first-plain bytes group h.0).first))
       (on h.1);
 }
@@ -189,7 +190,7 @@ tells-clear : (bytes : List ℕ) (told : Bool) (p : Point) → (not told || clea
 tells-clear bytes false p h k = refl
 tells-clear bytes true p h k = clear-between bytes p h k
 
-all-tell : (bytes : List ℕ) (events : List Event) → list_all (is_clear bytes) events ≡ true →
+pub all-tell : (bytes : List ℕ) (events : List Event) → list_all (is_clear bytes) events ≡ true →
     list_all (λ (e : Event). is_between bytes e.point.index) events ≡ true →
     list_all (tells_between bytes) events ≡ true
 all-tell bytes [] h k = refl

@@ -13,7 +13,8 @@ use Rattle.md_seam.specs.Events.Nested.{around, enter, exit, pair}
 use Rattle.md_seam.specs.Events.Places.{past_byte, past_text, same_place}
 use Rattle.md_seam.specs.Events.Spelled.{AsCell, AsDelimiter, AsDestination, AsHeading, AsInfo, AsLabel, AsLine, AsMeta}
 use Rattle.md_seam.specs.Events.Spelled.{AsTitle, IsCell, IsFence, IsQuiet, IsRow, IsTitle, OfCode, OfDefinition}
-use Rattle.md_seam.specs.Events.Spelled.{OfFence, OfHeadingSetext, OfHtml, OfMath, OfTable, Opens, Role, Tells, role}
+use Rattle.md_seam.specs.Events.Spelled.{OfFence, OfFrontmatter, OfHeadingSetext, OfHtml, OfMath, OfTable, Opens}
+use Rattle.md_seam.specs.Events.Spelled.{Role, Tells, role}
 use Rattle.md_seam.proofs.SpelledLemmas.{Quiet, Roles}
 use Rattle.md_outline.specs.LinesStand.{Outside, Site}
 use Rattle.md_outline.specs.Outlined.{has_unlisted_name}
@@ -95,6 +96,7 @@ unlisted-plain (Opens OfHtml) h = refl
 unlisted-plain (Opens OfHeadingSetext) h = refl
 unlisted-plain (Opens OfDefinition) h = refl
 unlisted-plain (Opens OfTable) h = refl
+unlisted-plain (Opens OfFrontmatter) h = refl
 unlisted-plain IsFence h = refl
 unlisted-plain IsTitle h = refl
 unlisted-plain IsRow h = refl

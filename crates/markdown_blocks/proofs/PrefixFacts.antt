@@ -27,8 +27,10 @@ use Rattle.markdown_blocks.proofs.SpanLemmas.{Nested_in}
 use Rattle.markdown_blocks.proofs.PieceFacts.{Stood}
 use Rattle.markdown_blocks.proofs.PartedFacts.{Sits, clear}
 use Rattle.markdown_blocks.proofs.PlainFacts.{ArePlain}
+use Rattle.markdown_blocks.proofs.PartFacts.{NoLinks, NoParts}
 use Rattle.markdown_blocks.proofs.Reached.{PartsText}
-use Rattle.markdown_blocks.proofs.ContainerNames.{TakesPrefixes}
+use Rattle.markdown_blocks.proofs.ReadAs.{ReadAs, Same}
+use Rattle.markdown_blocks.proofs.ContainerNames.{TakesData, TakesPrefixes}
 use Rattle.md_outline.specs.Roles.{is_plain}
 
 -- a container begins in what is read
@@ -74,7 +76,7 @@ pub record Continues (bytes : List ℕ) (p q : Point) (es : List Event) : Type 0
   pub collects : (ys : List Event) (end : ℕ) (all : List ℕ) → Collects bytes ys (byte_at q) end all →
       (white : List ℕ) × (is_blank white ≡ true) × Collects bytes (es ++ ys) (byte_at p) end (white ++ all)
 
--- where it opens, behind its begin
+-- where it opens, behind its begin, be the text parts of these events read or not
 pub record Opens (bytes : List ℕ) (c : Container) (p q : Point) (es : List Event) : Type 0 where
   pub common : PrefixFacts bytes p q es
   pub names : AreFront es
@@ -82,7 +84,7 @@ pub record Opens (bytes : List ℕ) (c : Container) (p q : Point) (es : List Eve
   pub plain : ArePlain bytes es
   pub sits : Sits bytes es
   -- with the begin of the container, they keep the grammar of events without lists
-  pub leads : (text : Expression) →
+  pub leads : (text : Expression) → TakesData text →
       Unlists text (blocks ∷ []) (blocks ∷ behind_block ∷ []) (enter (container_name c) p ∷ es)
   -- blocks may stand in it behind them, and an item tells its marker
   pub stands : (held : List Bool) →
@@ -95,3 +97,16 @@ pub record Opens (bytes : List ℕ) (c : Container) (p q : Point) (es : List Eve
   pub shown : is_plain (Holds (shape_of c)) ≡ true
   -- there are some
   pub some : es ≢ []
+
+-- where it opens, before its text parts are read, and once they are
+pub record OpensRead (bytes : List ℕ) (c : Container) (p q : Point) (es : List Event) : Type 0 where
+  pub unread : Opens bytes c p q es
+  pub done : List Event
+  pub read : Opens bytes c p q done
+  pub reads : ReadAs bytes es done
+
+-- where none of them is read later
+pub opens-same : (bytes : List ℕ) (c : Container) (p q : Point) (es : List Event) → Opens bytes c p q es →
+    NoLinks es → NoParts es → OpensRead bytes c p q es
+opens-same bytes c p q es is unlinked no_parts =
+    record { unread = is; done = es; read = is; reads = Same es unlinked no_parts }

@@ -1,7 +1,10 @@
 -- Events with names of prefixes, or of prefixes and containers.
-use Rattle.std.proofs.Common.{◌≡◌, true, List, [], ◌∷◌, refl, Bool, false}
-use Rattle.std.specs.Prelude.{None}
+use Rattle.std.proofs.Common.{◌≡◌, true, List, [], ◌∷◌, refl, Bool, false, ap, ◌&&◌, not}
+use Rattle.std.specs.Prelude.{Option, Some, None}
+use Rattle.md_engine.specs.declared.event.Content.{Content}
+use Rattle.md_engine.specs.declared.event.Content.TheVariants as content
 use Rattle.md_engine.specs.declared.event.Event.{Event}
+use Rattle.md_engine.specs.declared.event.Link.{Link}
 use Rattle.md_engine.specs.declared.event.Name.{Name}
 use Rattle.md_engine.specs.declared.event.Name.TheVariants as n
 use Rattle.md_seam.specs.Events.Spelled as spelled
@@ -21,25 +24,39 @@ IsNamed is_name e = (name : is_name e.name ≡ true) × (e.link ≡ None)
 abbrev pub ArePrefixes : List Event → Type 0
 ArePrefixes es = Each (IsNamed is_prefix) es
 
+-- whether what begins a chunk, if anything does, begins one that is read as a string, and is alone
+abbrev pub is_string : Content → Bool
+is_string content.String = true
+is_string _ = false
+
+abbrev pub is_alone : Option Link → Bool
+is_alone None = true
+is_alone (Some link) = is_string link.content && not link.previous
+
+-- an event that may stand in front of a line, where a label may be a chunk
+abbrev pub IsFrontEvent : Event → Type 0
+IsFrontEvent e = (name : is_front e.name ≡ true) × (is_alone e.link ≡ true)
+
 -- with names of prefixes or of containers
 abbrev pub AreFront : List Event → Type 0
-AreFront es = Each (IsNamed is_front) es
+AreFront es = Each IsFrontEvent es
 
 pub prefixes-front : (es : List Event) → ArePrefixes es → AreFront es
-prefixes-front es h = each-as (IsNamed is_prefix) (IsNamed is_front) (λ e is. (front-name e.name is.0, is.1)) es h
+prefixes-front es h =
+    each-as (IsNamed is_prefix) IsFrontEvent (λ e is. (front-name e.name is.0, ap is_alone is.1)) es h
 
--- Nothing of them is read later, and none begins or ends a text part.
+-- Of prefixes nothing is read later, and none begins or ends a text part.
 
-pub names-unlinked : (es : List Event) → AreFront es → NoLinks es
-names-unlinked es h = each-as (IsNamed is_front) IsUnlinked (λ e is. is.1) es h
+pub names-unlinked : (es : List Event) → ArePrefixes es → NoLinks es
+names-unlinked es h = each-as (IsNamed is_prefix) IsUnlinked (λ e is. is.1) es h
 
--- no name of a prefix or of a container is that of a text part: each name is tested
-no_part-name : (name : Name) → is_front name ≡ true → part_kind name ≡ None
+-- no name of a prefix is that of a text part: each name is tested
+no_part-name : (name : Name) → is_prefix name ≡ true → part_kind name ≡ None
 no_part-name n.Data h = refl
 no_part-name _ h = cc
 
-pub names-no_parts : (es : List Event) → AreFront es → NoParts es
-names-no_parts es h = each-as (IsNamed is_front) IsNoPart (λ e is. no_part-name e.name is.0) es h
+pub names-no_parts : (es : List Event) → ArePrefixes es → NoParts es
+names-no_parts es h = each-as (IsNamed is_prefix) IsNoPart (λ e is. no_part-name e.name is.0) es h
 
 -- What is read of prefixes is quiet, or a prefix.
 

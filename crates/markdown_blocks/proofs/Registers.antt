@@ -122,11 +122,13 @@ closes keep at cs events p names h = record {
   names_are = h.names_are;
   no_content =
       λ k. no_ends-put is_content at (ends_at (drop keep cs) q) events
-      (no_ends-containers is_content (held-names (λ (name : Name). is_content name ≡ false) refl refl) (drop keep cs) q)
+      (no_ends-containers is_content (held-names (λ (name : Name). is_content name ≡ false) refl refl refl)
+      (drop keep cs) q)
       (h.no_content k);
   no_own =
       λ k. no_ends-put is_own at (ends_at (drop keep cs) q) events
-      (no_ends-containers is_own (held-names (λ (name : Name). is_own name ≡ false) refl refl) (drop keep cs) q) (h.no_own k);
+      (no_ends-containers is_own (held-names (λ (name : Name). is_own name ≡ false) refl refl refl) (drop keep cs) q)
+      (h.no_own k);
 }
   where
     q : Point

@@ -25,6 +25,7 @@ use Rattle.md_engine.specs.declared.state.document.State.{State as DocumentState
 use Rattle.md_engine.specs.declared.state.document.State.TheVariants as document
 use Rattle.md_engine.specs.declared.state.flow.State.{State as FlowState}
 use Rattle.md_engine.specs.declared.state.flow.State.TheVariants as flow
+use Rattle.md_engine.specs.declared.state.gfm_footnote_definition.State.TheVariants as footnote
 use Rattle.md_engine.specs.declared.state.list_item.State.TheVariants as item
 use Rattle.md_engine.specs.declared.state.State.TheVariants.{Next}
 use Rattle.md_engine.specs.declared.tokenizer.container.name.ContainerKind.{ContainerKind}
@@ -35,8 +36,11 @@ use Rattle.md_engine.specs.Scheme.{After, Spot, after_all, spot}
 use Rattle.md_engine.specs.World.{World, looks}
 use Rattle.md_engine.proofs.Local.{fits}
 use Rattle.md_engine.proofs.StepOf.{Sees}
+use Rattle.md_containers.specs.Footnote.{footnote_scheme}
 use Rattle.md_containers.specs.Item.{item_scheme}
 use Rattle.md_containers.specs.Quote.{quote_scheme}
+use Rattle.md_containers.proofs.FootnoteGoods.{FootnoteFits, footnote_does}
+use Rattle.md_containers.proofs.FootnoteSteps.{footnote_steps}
 use Rattle.md_containers.proofs.ItemGoods.{ItemFits, item_does}
 use Rattle.md_containers.proofs.ItemSteps.{item_steps}
 use Rattle.md_containers.proofs.QuoteGoods.{QuoteFits, quote_does}
@@ -80,7 +84,6 @@ use Rattle.markdown_blocks.specs.Leaf.GfmTable.{may_be_table, table_leaf}
 use Rattle.markdown_blocks.specs.Leaf.HeadingAtx.{heading_leaf}
 use Rattle.markdown_blocks.specs.Leaf.HeadingSetext.{setext_leaf}
 use Rattle.markdown_blocks.specs.Leaf.ThematicBreak.{break_leaf, is_ruled}
-use Rattle.markdown_blocks.specs.Parsed.{IsBuilt}
 use Rattle.markdown_blocks.specs.Registry.{CodeFurther, CodeIndented, Fence, FenceFurther, HeadingAtx, HeadingSetext}
 use Rattle.markdown_blocks.specs.Registry.{GfmTable, HtmlFlow}
 use Rattle.markdown_blocks.specs.Registry.{HtmlFurther, LeafName}
@@ -108,6 +111,9 @@ use Rattle.markdown_blocks.proofs.Fence.Registers.{fence-registers}
 use Rattle.markdown_blocks.proofs.FenceFurther.Definition.{opening-fence}
 use Rattle.markdown_blocks.proofs.FenceFurther.Laws.{fence_further-laws}
 use Rattle.markdown_blocks.proofs.FenceSpan.Laws.{fence-span}
+use Rattle.markdown_blocks.proofs.GfmFootnoteDefinition.Laws.{footnote-laws}
+use Rattle.markdown_blocks.proofs.GfmFootnoteDefinition.Plain.{footnote-plain}
+use Rattle.markdown_blocks.proofs.GfmFootnoteDefinition.Registers.{footnote-registers}
 use Rattle.markdown_blocks.proofs.GfmTable.Laws.{table-laws}
 use Rattle.markdown_blocks.proofs.GfmTable.Registers.{table-registers}
 use Rattle.markdown_blocks.proofs.GfmTable.Span.{table-begins, table-span}
@@ -821,16 +827,19 @@ front-own name h = front-heading name h
 pub container-laws : (k : ContainerKind) → ContainerLaws k (container_rules k)
 container-laws kind.BlockQuote = quote-laws
 container-laws kind.ListItem = item-laws
+container-laws kind.GfmFootnoteDefinition = footnote-laws
 
 pub plain-laws : (k : ContainerKind) → PlainLaws (container_rules k)
 plain-laws kind.BlockQuote = quote-plain
 plain-laws kind.ListItem = item-plain
+plain-laws kind.GfmFootnoteDefinition = footnote-plain
 
 -- each is tried at the state in front of it alone
 pub opener-before : (state : DocumentState) (k : ContainerKind) → opener_at state ≡ Some k →
     (container_rules k).before ≡ state
 opener-before document.ContainerNewBefore kind.BlockQuote e = refl
 opener-before document.ContainerNewBeforeNotBlockQuote kind.ListItem e = refl
+opener-before document.ContainerNewBeforeNotList kind.GfmFootnoteDefinition e = refl
 opener-before _ _ e = cc
 
 -- those behind a container are tried behind the first of them, but for it
@@ -850,6 +859,15 @@ pub record ContainerStates (k : ContainerKind) : Type 1 where
   pub goes_on_is : (bytes : List ℕ) (options : ParseOptions) (next : Rule) (cells : List Cell) (h : Here) →
       flow_behaves_by bytes options next (container_rules k).further cells h ≡
       (container_rules k).continues options cells h
+
+-- a further line of an item, and of a footnote definition
+item_further : ContainerFits flow_table_scheme IsWithin (n.ListItem item.ContStart)
+item_further = record {
+  own = item_scheme;
+  starts = fits flow_owner (n.ListItem item.ContStart);
+  level = omega arith;
+  ready = λ x K rest here ends. ((rest, ends), here);
+}
 
 pub container-states : (k : ContainerKind) → ContainerStates k
 container-states kind.BlockQuote = record {
@@ -872,7 +890,7 @@ container-states kind.BlockQuote = record {
 }
 container-states kind.ListItem = record {
   tried = refl;
-  next = tt;
+  next = refl;
   begins = record {
     own = item_scheme;
     starts = fits flow_owner (n.ListItem item.Start);
@@ -880,32 +898,39 @@ container-states kind.ListItem = record {
     ready = λ x K rest here ends. (rest, ends);
   };
   begins_is = λ bytes options next cells h. refl;
-  goes_on = record {
-    own = item_scheme;
-    starts = fits flow_owner (n.ListItem item.ContStart);
+  goes_on = item_further;
+  goes_on_is = λ bytes options next cells h. refl;
+}
+container-states kind.GfmFootnoteDefinition = record {
+  tried = refl;
+  next = tt;
+  begins = record {
+    own = footnote_scheme;
+    starts = fits flow_owner (n.GfmFootnoteDefinition footnote.Start);
     level = omega arith;
-    ready = λ x K rest here ends. ((rest, ends), here);
+    ready = λ x K rest here ends. (rest, ends);
   };
+  begins_is = λ bytes options next cells h. refl;
+  goes_on = item_further;
   goes_on_is = λ bytes options next cells h. refl;
 }
 
--- Of the containers of the line definition the first of these opens, where the others are off.
+-- Of the containers of the line definition the first of these opens.
 
 abbrev pub found_by : ParseOptions → Bool → Rest → List ContainerKind → Option Taken
 found_by options interrupting r [] = None
 found_by options interrupting r (k ∷ ks) =
     option_or ((container_rules k).found options interrupting r) (found_by options interrupting r ks)
 
-footnote-off : (options : ParseOptions) (r : Rest) → options.constructs.gfm_footnote_definition ≡ false →
-    opens_footnote options r ≡ None
-unfolding opens_footnote
-footnote-off options r off = rw off refl
+or-none : (o : Option Taken) → o ≡ option_or o None
+or-none None = refl
+or-none (Some t) = refl
 
-pub opens-found : (options : ParseOptions) (interrupting : Bool) (r : Rest) → IsBuilt options →
+pub opens-found : (options : ParseOptions) (interrupting : Bool) (r : Rest) →
     opens options interrupting r ≡ found_by options interrupting r openers
-opens-found options interrupting r built =
+opens-found options interrupting r =
     ap (λ (o : Option Taken). option_or (opens_quote options r) (option_or (opens_item options interrupting r) o))
-    (footnote-off options r built.gfm_footnote_definition)
+    (or-none (opens_footnote options r))
 
 -- States.
 
@@ -947,6 +972,9 @@ item_fits = record {
   each = λ state. fits flow_owner (n.ListItem state);
 }
 
+footnote_fits : FootnoteFits flow_table_scheme
+footnote_fits = record { white = white_fits; each = λ state. fits flow_owner (n.GfmFootnoteDefinition state) }
+
 pub white_has : (bytes : List ℕ) (options : ParseOptions) (next : Rule) → HasWhite (flow_behaves_by bytes options next)
 white_has bytes options next = record { each = λ _ _ _. refl }
 
@@ -956,6 +984,8 @@ pub construct-does : (is_name : ResolveName → ResolveName → Bool) (name : St
     Does flow_table_scheme name w (construct_transition is_name name w)
 construct-does is_name (n.BlockQuote state) w c at = quote_does flow_table_scheme state w quote_fits c at
 construct-does is_name (n.CodeIndented state) w c at = code_does flow_table_scheme state w code_fits c at
+construct-does is_name (n.GfmFootnoteDefinition state) w c at =
+    footnote_does flow_table_scheme state w footnote_fits c at
 construct-does is_name (n.GfmTable state) w c at = table_does flow_table_scheme state w table_fits c at
 construct-does is_name (n.HeadingAtx state) w c at =
     heading_does flow_table_scheme (is_name r.HeadingAtx) state w heading_fits c at
@@ -979,6 +1009,9 @@ construct-steps is_name feed next (n.BlockQuote state) w s c at =
 construct-steps is_name feed next (n.CodeIndented state) w s c at =
     code_steps _ feed state w
     (record { white = white_has w.setting.bytes w.setting.options next; each = λ _ _ _. refl }) s at.0
+construct-steps is_name feed next (n.GfmFootnoteDefinition state) w s c at =
+    footnote_steps _ feed state w _
+    (record { white = white_has w.setting.bytes w.setting.options next; each = λ _ _ _. refl }) s at
 construct-steps is_name feed next (n.GfmTable state) w s c at =
     table_steps _ feed state w _
     (record { white = white_has w.setting.bytes w.setting.options next; each = λ _ _ _. refl }) s at
@@ -1011,6 +1044,7 @@ pub construct-registers : (name : StateName) (w : World) → Registers w →
     Registers (construct_transition same_name name w).world
 construct-registers (n.BlockQuote state) w h = quote-registers state w h
 construct-registers (n.CodeIndented state) w h = code-registers state w h
+construct-registers (n.GfmFootnoteDefinition state) w h = footnote-registers state w h
 construct-registers (n.GfmTable state) w h = table-registers state w h
 construct-registers (n.HeadingAtx state) w h = heading-registers state w h
 construct-registers (n.HeadingSetext state) w h = setext-registers state w h

@@ -20,7 +20,6 @@ use Rattle.md_definition.specs.State.{Container, container_block}
 use Rattle.md_definition.specs.Tree.{Blocks}
 use Rattle.md_outline.specs.HeadingDepths.{are_shallow, is_shallow}
 use Rattle.md_seam.proofs.RestCells.{past_rest, rest_cells}
-use Rattle.markdown_blocks.specs.Parsed.{IsBuilt}
 use Rattle.markdown_blocks.specs.Passed.{Passed, passed_by, passed_over}
 use Rattle.markdown_blocks.specs.Registry.{IsOf, MatchesContainer, begins_at, container_name, container_rules}
 use Rattle.markdown_blocks.specs.Registry.{continues_at, goes_at, goes_by, goes_over, container_kind, openers, opens_at, opens_by}
@@ -185,12 +184,12 @@ goes-agrees options c read line text past r stop p is h k short = go (container_
     go (Some j) e read = (container-laws j).goes_agrees options c e line text past r stop p is h k short
 
 -- a container opens by the cells where it does by the bytes
-pub opens-agrees : (options : ParseOptions) (interrupting : Bool) → IsBuilt options → ByRest (λ line text past r stop p.
+pub opens-agrees : (options : ParseOptions) (interrupting : Bool) → ByRest (λ line text past r stop p.
     let cells = rest_cells line r p ++ stop in
     Agree (HasOpening line text past p (past_rest r p) stop cells) (opens_at options interrupting cells p)
     (opens options interrupting r))
-opens-agrees options interrupting built line text past r stop p is h k short =
-    subst (Agree Has (opens_at options interrupting cells p)) (sym (opens-found options interrupting r built))
+opens-agrees options interrupting line text past r stop p is h k short =
+    subst (Agree Has (opens_at options interrupting cells p)) (sym (opens-found options interrupting r))
     (each openers)
   where
     cells : List Cell
@@ -217,10 +216,10 @@ opens-agrees options interrupting built line text past r stop p is h k short =
 -- By the bytes of a line alone.
 
 -- a container that opens is one that flow reads
-pub opens-read : (options : ParseOptions) (interrupting : Bool) (r : Rest) → IsBuilt options →
+pub opens-read : (options : ParseOptions) (interrupting : Bool) (r : Rest) →
     IsReadTaken (opens options interrupting r)
-opens-read options interrupting r built =
-    subst IsReadTaken (sym (opens-found options interrupting r built))
+opens-read options interrupting r =
+    subst IsReadTaken (sym (opens-found options interrupting r))
     (each openers)
   where
     each : (ks : List ContainerKind) → IsReadTaken (found_by options interrupting r ks)

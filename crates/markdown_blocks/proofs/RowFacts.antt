@@ -16,7 +16,7 @@ use Rattle.md_definition.specs.Rest.{Rest, is_blank}
 use Rattle.markdown_blocks.specs.Fronted.{contained, rest_from, rest_line}
 use Rattle.markdown_blocks.specs.Rows.{BlankRow, LeafRow, Row, TextRow, blank_line, is_empty_row, line_behind}
 use Rattle.markdown_blocks.specs.Rows.{line_kind, stays_blank}
-use Rattle.markdown_blocks.proofs.FrontFacts.{LinePrefix}
+use Rattle.markdown_blocks.proofs.FrontFacts.{LinePrefix, ReadFront}
 use Rattle.markdown_blocks.proofs.PieceFacts.{CutsFirst}
 
 -- the rest of a line without its ending, behind the prefixes of its containers, as a row
@@ -68,6 +68,7 @@ pub record IsLine (options : ParseOptions) (bytes : List ℕ) (open_before : Lis
   pub is : IsRow options bytes (rest_line (contained options open_before still (rest_from p line)).rest) row
   pub rest_is : is.rest ≡ (contained options open_before still (rest_from p line)).rest
   pub front : LinePrefix bytes row.change.opens p row.first row.front
+  pub front_read : ReadFront bytes row.change.opens p row.first row.front
   pub change : row.change ≡ (contained options open_before still (rest_from p line)).change
   pub on : row.on ≡ (contained options open_before still (rest_from p line)).on
   -- where the line begins no tab is cut

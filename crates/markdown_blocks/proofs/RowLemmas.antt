@@ -234,6 +234,7 @@ has-row options bytes behind said open_before still line p stop built room read 
             is = (row below).0;
             rest_is = (row below).1;
             front = held.front;
+            front_read = held.front_read;
             change = held.change;
             on = held.on;
             whole = whole;

@@ -9,7 +9,7 @@ use Rattle.md_leaves.proofs.SpannedLines.{NoLines, Pass}
 use Rattle.md_seam.specs.Events.Spelled.{role}
 use Rattle.markdown_blocks.proofs.ContainerNames.{is_front}
 use Rattle.markdown_blocks.proofs.EachEvent.{Each, each-as}
-use Rattle.markdown_blocks.proofs.PrefixNames.{AreFront, IsNamed}
+use Rattle.markdown_blocks.proofs.PrefixNames.{AreFront, IsFrontEvent}
 
 -- an event that no line of such a leaf begins or ends with, and that has the same name behind one
 abbrev pub IsUnspanned : Event → Type 0
@@ -41,4 +41,4 @@ front-unspanned n.CodeFlowChunk h = cc
 front-unspanned _ h = refl
 
 pub fronts-unspanned : (es : List Event) → AreFront es → AreUnspanned es
-fronts-unspanned es h = each-as (IsNamed is_front) IsUnspanned (λ e is. front-unspanned e.name is.0) es h
+fronts-unspanned es h = each-as IsFrontEvent IsUnspanned (λ e is. front-unspanned e.name is.0) es h

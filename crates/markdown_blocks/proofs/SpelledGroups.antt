@@ -17,7 +17,7 @@ use Rattle.markdown_blocks.proofs.UnderNames.{further-text, heads-table}
 use Rattle.markdown_blocks.specs.HeldLeaf.{kind_of_leaf, left_by, may_go_on, takes_lazy}
 use Rattle.markdown_blocks.specs.Registry.{further_of}
 use Rattle.markdown_blocks.specs.LineFlags.{ending_name}
-use Rattle.markdown_blocks.specs.Rows.{is_blank_row}
+use Rattle.markdown_blocks.specs.Rows.{front_done, is_blank_row}
 use Rattle.markdown_blocks.specs.Rows.{Headed, headed_done, is_further, is_last, onto_span, span_done, takes_head}
 use Rattle.markdown_blocks.specs.Leaf.GfmTable.{table_leaf}
 use Rattle.markdown_blocks.specs.Leaf.Paragraph.{held_of}
@@ -60,6 +60,7 @@ use Rattle.markdown_blocks.specs.Rows.{last_row, line_kind, onto_groups, tail_ev
 use Rattle.markdown_blocks.specs.Stands.{IsPlain, around_of, containers_of, still_of}
 use Rattle.markdown_blocks.specs.Stands.{reading, reading_on}
 use Rattle.markdown_blocks.proofs.FrontFacts.{Behind, Begins, LinePrefix, Goes}
+use Rattle.markdown_blocks.proofs.FrontNames.{fronts-done}
 use Rattle.markdown_blocks.proofs.FrontPlaces.{fronts-grow}
 use Rattle.markdown_blocks.proofs.JoinedLemmas.{text-onto, text_group}
 use Rattle.markdown_blocks.proofs.LineSteps.{longer, renewed, renewed-spot, spot_by}
@@ -600,7 +601,7 @@ apart-head options bytes p row next gs last starts =
 -- a table is read, with what stands in front of it
 pub heads-read : (options : ParseOptions) (bytes : List ℕ) (o : Path) (row : Row) (gs : List Group) (last : Reading) →
     StartsHead options bytes o row gs last → IsOfText options (spot o).leaf →
-    (opens : List Container) (a : Point) → LinePrefix bytes opens a row.first row.front →
+    (opens : List Container) (a : Point) → LinePrefix bytes opens a row.first (front_done bytes row) →
     (start : Reading) → start.text ≡ None → enters opens start ≡ reading options o →
     read bytes start (groups_events options bytes gs) ≡ last
 heads-read options bytes o row gs last starts of_text opens a front start text same =
@@ -610,9 +611,10 @@ heads-read options bytes o row gs last starts of_text opens a front start text s
     let new : Reading = reading options
     (head_path options bytes row starts.next starts.rows starts.are (longer o (kept starts.is.rest ∷ []))) in
     ap (λ (gs : List Group). read bytes start (groups_events options bytes gs)) starts.groups_are
-    ∙ ap (read bytes start) (append_assoc (row.front ++ whole) tail more ∙ append_assoc row.front whole (tail ++ more))
-    ∙ read-from bytes start (enters opens start) row.front (whole ++ (tail ++ more))
-    (read-fronts bytes opens a row.first row.front start front text)
+    ∙ ap (read bytes start)
+    (append_assoc (front_done bytes row ++ whole) tail more ∙ append_assoc (front_done bytes row) whole (tail ++ more))
+    ∙ read-from bytes start (enters opens start) (front_done bytes row) (whole ++ (tail ++ more))
+    (read-fronts bytes opens a row.first (front_done bytes row) start front text)
     ∙ ap (λ (r : Reading). read bytes r (whole ++ (tail ++ more))) same
     ∙ read-from bytes (reading options o) new whole (tail ++ more)
     (head-read options bytes starts.line o row starts.next starts.rows starts.at starts.is starts.text starts.are
@@ -663,7 +665,8 @@ starts-lines options bytes line p row gs last is text (inr (inr (inr joins))) = 
         ∙ ap (λ (cs : List Container). close_containers (length cs) s) joins.leaves)
         ∙ heads-read options bytes q joins.next gs last joins.starts
         (subst (IsOfText options) (sym (longer-spot p (kept is.rest ∷ [])))
-        (text-of_text options (held_of (spot p).leaf ++ kept is.rest ∷ []))) [] joins.after joins.fronts s refl refl;
+        (text-of_text options (held_of (spot p).leaf ++ kept is.rest ∷ []))) [] joins.after
+        (fronts-done bytes joins.after joins.next.first joins.next.front joins.fronts) s refl refl;
   };
 })
 starts-lines options bytes line p row gs last is text (inr (inl joins)) =
@@ -709,20 +712,20 @@ read-open options p c row shapes same =
 pub single-reads : (options : ParseOptions) (bytes : List ℕ) (p : Path) (c : Contained) (row : Row) (gs : List Group)
     (last : Reading) (new : Path) (name : Name) (leaf : List Event) →
     AreShapes c.change.stays c.change.closes p →
-    row.change ≡ c.change → (a : Point) → LinePrefix bytes row.change.opens a row.first row.front →
+    row.change ≡ c.change → (a : Point) → LinePrefix bytes row.change.opens a row.first (front_done bytes row) →
     ((e : Reading) → e ≡ reading options (open_path options p c) → read bytes e leaf ≡ reading options new) →
     Between (role name) → Reads options bytes new row.leaves gs last →
     read bytes (close_containers (length row.change.closes) (reading options p))
-    ((row.front ++ leaf ++ tail_events name row) ++ groups_events options bytes gs) ≡
+    ((front_done bytes row ++ leaf ++ tail_events name row) ++ groups_events options bytes gs) ≡
     last
 single-reads options bytes p c row gs last new name leaf shapes change a fronts found between reads =
     let start : Reading = close_containers (length row.change.closes) (reading options p) in
     let begin : Reading = enters row.change.opens start in
     let text = close_containers-between (length row.change.closes) (reading options p) refl refl in
     read-parts bytes start begin (reading options new)
-    (close_containers (length row.leaves) (reading options new)) last row.front leaf (tail_events name row)
+    (close_containers (length row.leaves) (reading options new)) last (front_done bytes row) leaf (tail_events name row)
     (groups_events options bytes gs)
-    (read-fronts bytes row.change.opens a row.first row.front start fronts text.0)
+    (read-fronts bytes row.change.opens a row.first (front_done bytes row) start fronts text.0)
     (found begin (read-open options p c row shapes change))
     (read-tail bytes name row (reading options new) between refl refl) reads
 
@@ -978,7 +981,7 @@ begun-reads options bytes l o row gs last ends is begins none begin same spans =
 pub starts-read : (options : ParseOptions) (bytes : List ℕ) (l : LeafName) (o : Path) (row : Row) (gs : List Group)
     (last : Reading) →
     (leaf l).ends ≡ false → (is : IsLineOf options bytes (leaf l) row) → (leaf l).further row.on ≡ false →
-    (spot o).leaf ≡ NoLeaf → (a : Point) → LinePrefix bytes row.change.opens a row.first row.front →
+    (spot o).leaf ≡ NoLeaf → (a : Point) → LinePrefix bytes row.change.opens a row.first (front_done bytes row) →
     (start : Reading) → start.text ≡ None → enters row.change.opens start ≡ reading options o →
     ReadsSpan options bytes (further_of l) o ((leaf l).comes options NoLeaf is.rest) row gs last →
     read bytes start (groups_events options bytes gs) ≡ last
@@ -987,9 +990,9 @@ starts-read options bytes l o row gs last ends is begins none a front start text
     let tail : List Event = span_tail row spans.rows in
     ap (λ (gs : List Group). read bytes start (groups_events options bytes gs)) spans.groups_are
     ∙ ap (read bytes start)
-    (append_assoc (row.front ++ whole) tail (groups_events options bytes spans.below)
-    ∙ append_assoc row.front whole (tail ++ groups_events options bytes spans.below))
-    ∙ read-from bytes start (enters row.change.opens start) row.front
+    (append_assoc (front_done bytes row ++ whole) tail (groups_events options bytes spans.below)
+    ∙ append_assoc (front_done bytes row) whole (tail ++ groups_events options bytes spans.below))
+    ∙ read-from bytes start (enters row.change.opens start) (front_done bytes row)
     (whole ++ (tail ++ groups_events options bytes spans.below))
-    (read-fronts bytes row.change.opens a row.first row.front start front text)
+    (read-fronts bytes row.change.opens a row.first (front_done bytes row) start front text)
     ∙ begun-reads options bytes l o row gs last ends is begins none (enters row.change.opens start) same spans

@@ -13,7 +13,7 @@ use Rattle.markdown_blocks.proofs.SpelledGroups.{IsTurnLeft}
 use Rattle.markdown_blocks.specs.HeldLeaf.{kind_of_leaf, may_go_on}
 use Rattle.markdown_blocks.specs.Leaf.Paragraph.{open_lines, then_front}
 use Rattle.markdown_blocks.specs.Registry.{further_of}
-use Rattle.markdown_blocks.specs.Rows.{group_done, is_further, is_last, onto_span}
+use Rattle.markdown_blocks.specs.Rows.{front_done, group_done, is_further, is_last, onto_span}
 use Rattle.markdown_blocks.proofs.GroupsAre.{AreLines, kept-of, line-begins, line-of}
 use Rattle.markdown_blocks.proofs.LineSteps.{come_by, renewed-spot, with_came}
 use Rattle.markdown_blocks.proofs.OpenSpan.{TurnsText}
@@ -88,7 +88,7 @@ use Rattle.md_parts.specs.Progress.{progress_of}
 text-parts : (options : ParseOptions) (bytes : List ℕ) (row : Row) (rows : List Row) (turn : Option Row)
     (gs : List Group) →
     groups_events options bytes (text_group turn row rows ∷ gs) ≡
-    (row.front ++ group_done options bytes (text_group turn row rows) ++ text_tail (last_row row rows) turn)
+    (front_done bytes row ++ group_done options bytes (text_group turn row rows) ++ text_tail (last_row row rows) turn)
     ++ groups_events options bytes gs
 text-parts options bytes row rows None gs = refl
 text-parts options bytes row rows (Some under) gs = refl
@@ -220,7 +220,7 @@ row-means options bytes p a line row gs last over built plain is in_text follows
         Reads options bytes p row.change.closes (Single row ∷ gs) last
     single other ends further =
         single-reads options bytes p c row gs last (to row.kind) (ending_of row.kind row)
-        (leaf_done bytes row.kind row) shapes is.change a is.front
+        (leaf_done bytes row.kind row) shapes is.change a is.front_read.is
         (λ s same.
         ap (λ (x : Reading). read bytes x (leaf_done bytes row.kind row)) same
         ∙ (row-facts options bytes (rest_line c.rest) row is.is other ends).reads (reading options o)
@@ -238,7 +238,7 @@ row-means options bytes p a line row gs last over built plain is in_text follows
     text-reads (inr starts) =
         let start : Reading = close_containers (length row.change.closes) (reading options p) in
         heads-read options bytes o row (onto_groups row TextRow gs) last starts
-        (subst (IsOfText options) (sym none) (none-of_text options)) row.change.opens a is.front start
+        (subst (IsOfText options) (sym none) (none-of_text options)) row.change.opens a is.front_read.is start
         (close_containers-between (length row.change.closes) (reading options p) refl refl).0
         (read-open options p c row shapes is.change)
     text-reads (inl starts) =
@@ -255,10 +255,10 @@ row-means options bytes p a line row gs last over built plain is in_text follows
         ap (λ (l : List Group). read bytes start (groups_events options bytes l)) starts.groups_are
         ∙ ap (read bytes start)
         (text-parts options bytes row starts.rows starts.turn starts.below
-        ∙ append_assoc (row.front ++ whole) tail (groups_events options bytes starts.below))
-        ∙ read-from bytes start new (row.front ++ whole) (tail ++ groups_events options bytes starts.below)
-        (read-from bytes start begin row.front whole
-        (read-fronts bytes row.change.opens a row.first row.front start is.front text.0)
+        ∙ append_assoc (front_done bytes row ++ whole) tail (groups_events options bytes starts.below))
+        ∙ read-from bytes start new (front_done bytes row ++ whole) (tail ++ groups_events options bytes starts.below)
+        (read-from bytes start begin (front_done bytes row) whole
+        (read-fronts bytes row.change.opens a row.first (front_done bytes row) start is.front_read.is text.0)
         ∙ ap (λ (x : Reading). read bytes x whole) (read-open options p c row shapes is.change)
         ∙ text-whole options bytes o row starts.rows starts.turn none reads.are reads.turned reads.left)
         ∙ reads.behind
@@ -267,7 +267,14 @@ row-means options bytes p a line row gs last over built plain is in_text follows
     line-is-of : (l : LeafName) → row.kind ≡ LeafRow l → (leaf l).ends ≡ false → IsLineOf options bytes (leaf l) row
     line-is-of l e ends =
         line-of options bytes row
-        (record { line = rest_line c.rest; is = is.is; name = l; kind = e; open_leaf = ends; front = (a, is.front) })
+        (record {
+          line = rest_line c.rest;
+          is = is.is;
+          name = l;
+          kind = e;
+          open_leaf = ends;
+          front = (a, is.front, is.front_read);
+        })
 
     -- a leaf of several lines is read with the lines that go on it
     span-reads : (l : LeafName) → row.kind ≡ LeafRow l → (leaf l).ends ≡ false → goes_further options c ≡ false →
@@ -280,7 +287,7 @@ row-means options bytes p a line row gs last over built plain is in_text follows
         ap to e ∙ sym (came-none options heads o ((leaf l).comes options NoLeaf c.rest) none)
         ∙ ap (λ (r : Rest). with_came options heads o ((leaf l).comes options NoLeaf r)) (sym is.rest_is) in
         starts-read options bytes l o row (onto_span row gs) last ends (line-is-of l e ends)
-        (sym (ap (λ (k : RowKind). is_further k row.on) e) ∙ same-further ∙ begins) none a is.front
+        (sym (ap (λ (k : RowKind). is_further k row.on) e) ∙ same-further ∙ begins) none a is.front_read.is
         (close_containers (length row.change.closes) (reading options p))
         (close_containers-between (length row.change.closes) (reading options p) refl refl).0
         (read-open options p c row shapes is.change)

@@ -14,17 +14,18 @@ use Rattle.md_seam.specs.Events.Nested.{enter, exit}
 use Rattle.md_seam.specs.Events.Spelled.{role}
 use Rattle.md_seam.proofs.SpelledLemmas.{Between}
 use Rattle.markdown_blocks.specs.Change.{ends_of}
-use Rattle.markdown_blocks.specs.Document.{body_point, mark_events}
 use Rattle.markdown_blocks.specs.Registry.{container_name, shape_of}
-use Rattle.markdown_blocks.specs.Rows.{Group, Row, ending_events, final_row, first_row, group_done}
+use Rattle.markdown_blocks.specs.Rows.{Group, Row, ending_events, final_row, first_row, front_done, group_done}
 use Rattle.markdown_blocks.specs.Rows.{groups, groups_events}
 use Rattle.markdown_blocks.proofs.ContainerNames.{container-facts, open_names}
 use Rattle.markdown_blocks.proofs.FrontFacts.{Begins, Behind, Goes, LinePrefix}
-use Rattle.markdown_blocks.proofs.LeafStands.{between-stand, ending-between, mark-between, moves-stand}
+use Rattle.markdown_blocks.proofs.LeafStands.{between-stand, ending-between, moves-stand}
 use Rattle.markdown_blocks.proofs.NestedRows.{ByGroups, Keeps, Ordered, rows-hold}
 use Rattle.markdown_blocks.proofs.PrefixNames.{prefixes-roles}
 use Rattle.markdown_blocks.proofs.RowFacts.{AreRows}
 use Rattle.markdown_blocks.specs.Rows.{group_ending, is_blank_group}
+use Rattle.markdown_blocks.proofs.Frontmatter.Whole.{FrontPart}
+use Rattle.md_engine.specs.Place.{first_point}
 
 -- What is open.
 
@@ -95,8 +96,8 @@ group-stands : (options : ParseOptions) (bytes : List ℕ) (names kept : List Na
     GroupsStand options bytes names p (group ∷ gs)
 group-stands options bytes names kept p group gs o keeps on =
     subst (ItemsStand bytes (under names)) (sym apart)
-    (stand-through bytes (under names) (under all) row.front (leaf ++ (ends ++ (ending ++ events)))
-    (fronts-stand bytes row.change.opens names p row.first row.front o.front)
+    (stand-through bytes (under names) (under all) front (leaf ++ (ends ++ (ending ++ events)))
+    (fronts-stand bytes row.change.opens names p row.first front o.front_read.is)
     (stand-through bytes (under all) (under all) leaf (ends ++ (ending ++ events)) (o.leaf.1.stands (items_of all))
     (stand-through bytes (under all) (under kept) ends (ending ++ events)
     (subst (λ (l : List Name). StandsTo bytes (under l) (under kept) ends) (sym keeps)
@@ -125,7 +126,10 @@ group-stands options bytes names kept p group gs o keeps on =
     events : List Event
     events = groups_events options bytes gs
 
-    apart : (row.front ++ leaf ++ (ends ++ ending)) ++ events ≡ row.front ++ (leaf ++ (ends ++ (ending ++ events)))
+    front : List Event
+    front = front_done bytes row
+
+    apart : (front ++ leaf ++ (ends ++ ending)) ++ events ≡ front ++ (leaf ++ (ends ++ (ending ++ events)))
     apart = simp append_assoc
 
 stands-by_groups : (options : ParseOptions) (bytes : List ℕ) → ByGroups options bytes (GroupsStand options bytes)
@@ -134,12 +138,18 @@ stands-by_groups options bytes = record {
   group = λ names kept p group gs o keeps on. group-stands options bytes names kept p group gs o keeps on;
 }
 
--- The events of a text, with its mark.
-pub events-stand : (options : ParseOptions) (bytes : List ℕ) (lines : List (List ℕ)) (rows : List Row) →
-    AreRows options bytes [] held_leaf.None (body_point bytes) lines rows →
-    ItemsStand bytes root (mark_events bytes ++ groups_events options bytes (groups rows))
-events-stand options bytes lines rows are =
-    stand-through bytes root root (mark_events bytes) (groups_events options bytes (groups rows))
-    (between-stand bytes [] (mark_events bytes) (mark-between bytes))
-    (rows-hold options bytes (GroupsStand options bytes) (stands-by_groups options bytes) (body_point bytes)
-    lines rows are)
+-- The events of the lines,
+pub rows-stand : (options : ParseOptions) (bytes : List ℕ) (p : Point) (lines : List (List ℕ)) (rows : List Row) →
+    AreRows options bytes [] held_leaf.None p lines rows →
+    ItemsStand bytes root (groups_events options bytes (groups rows))
+rows-stand options bytes p lines rows are =
+    rows-hold options bytes (GroupsStand options bytes) (stands-by_groups options bytes) p lines rows are
+
+-- and those of a text, with its front.
+pub events-stand : (options : ParseOptions) (bytes : List ℕ) (p : Point) (front : List Event) (lines : List (List ℕ))
+    (rows : List Row) →
+    FrontPart bytes first_point p front → AreRows options bytes [] held_leaf.None p lines rows →
+    ItemsStand bytes root (front ++ groups_events options bytes (groups rows))
+events-stand options bytes p front lines rows part are =
+    stand-through bytes root root front (groups_events options bytes (groups rows)) part.stands
+    (rows-stand options bytes p lines rows are)

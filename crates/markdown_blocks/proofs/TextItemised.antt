@@ -5,21 +5,19 @@ use Rattle.md_engine.specs.declared.configuration.ParseOptions.{ParseOptions}
 use Rattle.md_engine.specs.declared.event.Event.{Event}
 use Rattle.md_definition.specs.Ascii.{plus}
 use Rattle.md_definition.specs.Label.{labels}
-use Rattle.md_definition.specs.Lines.{lines_of}
 use Rattle.md_definition.specs.Meaning.{tree}
 use Rattle.md_seam.specs.Events.Spelled.{spelled}
 use Rattle.md_definition.specs.Tree.{Blocks, End, Item, ListOf, More}
 use Rattle.md_definition.specs.Wrapped.{itemised}
 use Rattle.md_definition.proofs.ListLaw.{list-labels, list-law}
-use Rattle.markdown_blocks.specs.Parsed.{IsBuilt, IsItemable}
-use Rattle.markdown_blocks.proofs.TreeRows.{front-off}
+use Rattle.markdown_blocks.specs.Parsed.{IsItemable}
 
-pub text-itemised : (options : ParseOptions) (text : List ℕ) (events : List Event) → IsBuilt options →
-    spelled events text ≡ tree options text → options.constructs.list_item ≡ true → IsItemable text →
+pub text-itemised : (options : ParseOptions) (text : List ℕ) (events : List Event) →
+    spelled events text ≡ tree options text → options.constructs.list_item ≡ true → IsItemable options text →
     (wraps : tree options (itemised text) ≡ More (ListOf plus (More (Item plus [] (spelled events text)) End)) End)
     × (labels (tree options (itemised text)) ≡ labels (spelled events text))
-text-itemised options text events built is on may =
-    let front = front-off options (lines_of text) built.frontmatter in (
+text-itemised options text events is on may =
+    let front = may.no_front in (
       list-law options text on may.first may.no_tab may.no_mark front
           ∙ ap (λ (bs : Blocks). More (ListOf plus (More (Item plus [] bs) End)) End) (sym is),
       list-labels options text on may.first may.no_tab may.no_mark front ∙ ap labels (sym is),

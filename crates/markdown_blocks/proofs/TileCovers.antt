@@ -10,18 +10,15 @@ use Rattle.std.proofs.lemmas.Bool.{and_from, eq-eqb}
 use Rattle.md_engine.specs.declared.configuration.ParseOptions.{ParseOptions}
 use Rattle.md_engine.specs.declared.event.Event.{Event}
 use Rattle.md_engine.specs.declared.event.Name.{Name}
-use Rattle.md_engine.specs.declared.event.Name.TheVariants as n
 use Rattle.md_engine.specs.declared.event.Point.{Point}
 use Rattle.md_seam.specs.Events.Inline.{Covers, pieces}
-use Rattle.md_seam.specs.Events.Nested.{exit, pair}
+use Rattle.md_seam.specs.Events.Nested.{exit}
 use Rattle.md_seam.specs.Events.Places.{first_point, same_place}
-use Rattle.md_definition.specs.Preamble.{has_mark}
 use Rattle.md_definition.specs.State.{Container}
 use Rattle.md_seam.specs.Events.Tiles.{end_point}
 use Rattle.md_seam.proofs.InlineLemmas.{same-refl}
 use Rattle.markdown_blocks.specs.Registry.{leaf, container_name}
 use Rattle.markdown_blocks.specs.Change.{ends_of}
-use Rattle.markdown_blocks.specs.Document.{body_point, mark_end, mark_events}
 use Rattle.markdown_blocks.specs.Rows.{Headed, Span, Turned, final_row, first_row, group_ending, is_further, onto_leaf}
 use Rattle.markdown_blocks.specs.Rows.{LeafRow, takes_head}
 use Rattle.markdown_blocks.specs.Rows.{BlankRow, Group, Lines, Row, RowKind, Single, TextRow, behind_row}
@@ -172,20 +169,11 @@ groups-cover options bytes p lines rows are =
     (rows-hold options bytes (Laid options bytes) (laid-by_groups options bytes) p lines rows are)
     (record { ends = refl; covers = groups-reach options bytes [] held_leaf.None p lines rows are }))
 
--- So do the events of a text with its mark.
-mark-tiled : (bytes : List ℕ) → Tiled first_point (body_point bytes) (mark_events bytes)
-mark-tiled bytes = go (has_mark bytes)
-  where
-    go : (t : Bool) →
-        Tiled first_point (cond t mark_end first_point) (cond t (pair n.ByteOrderMark first_point mark_end) [])
-    go true = tiled-pair n.ByteOrderMark first_point mark_end
-    go false = tiled-none first_point first_point refl
-
-pub blocks-cover : (options : ParseOptions) (bytes : List ℕ) (lines : List (List ℕ)) (rows : List Row) →
-    AreRows options bytes [] held_leaf.None (body_point bytes) lines rows →
-    Covers first_point (pieces (mark_events bytes ++ listed_groups options bytes (groups rows))) (end_point bytes)
-blocks-cover options bytes lines rows are =
-    (follows-append first_point (body_point bytes) (end_point bytes) (mark_events bytes)
-    (listed_groups options bytes (groups rows))
-    (follows-tiled first_point (body_point bytes) (mark_events bytes) (mark-tiled bytes))
-    (groups-cover options bytes (body_point bytes) lines rows are)).covers
+-- So do the events of a text with its front.
+pub blocks-cover : (options : ParseOptions) (bytes : List ℕ) (p : Point) (front : List Event) (lines : List (List ℕ))
+    (rows : List Row) →
+    Tiled first_point p front → AreRows options bytes [] held_leaf.None p lines rows →
+    Covers first_point (pieces (front ++ listed_groups options bytes (groups rows))) (end_point bytes)
+blocks-cover options bytes p front lines rows tiled are =
+    (follows-append first_point p (end_point bytes) front (listed_groups options bytes (groups rows))
+    (follows-tiled first_point p front tiled) (groups-cover options bytes p lines rows are)).covers

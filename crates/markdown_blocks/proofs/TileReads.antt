@@ -1,39 +1,41 @@
 -- The events of a text are its block list, with what the plain layer reads in the place of each chunk.
 use Rattle.md_engine.specs.declared.tokenizer.held_leaf.HeldLeaf.TheVariants as held_leaf
 use Rattle.md_engine.specs.declared.tokenizer.held_leaf.HeldLeaf.{HeldLeaf}
-use Rattle.std.proofs.Common.{◌≡◌, ℕ, suc, Bool, true, false, cond, List, [], ◌∷◌, ◌++◌, length, refl, ap, sym, ◌∙◌}
+use Rattle.std.proofs.Common.{◌≡◌, ℕ, suc, false, List, [], ◌∷◌, ◌++◌, length, refl, ap, sym, ◌∙◌}
 use Rattle.markdown_blocks.specs.Registry.{insider, shuts_out}
 use Rattle.std.proofs.Common.{subst, append-nil}
 use Rattle.std.specs.Prelude.{Option, Some, None}
 use Rattle.md_engine.specs.declared.configuration.ParseOptions.{ParseOptions}
 use Rattle.md_engine.specs.declared.event.Event.{Event}
 use Rattle.md_engine.specs.declared.event.Name.{Name}
-use Rattle.md_engine.specs.declared.event.Name.TheVariants as n
 use Rattle.md_engine.specs.declared.event.Point.{Point}
 use Rattle.md_engine.specs.Meaning.{Cell}
 use Rattle.md_engine.specs.Place.{first_point}
-use Rattle.md_engine.specs.TextFeed.{text_feed}
 use Rattle.md_seam.specs.Events.Inline.{Part, together}
 use Rattle.md_seam.specs.Events.Nested.{pair}
-use Rattle.md_definition.specs.Preamble.{has_mark}
 use Rattle.md_definition.specs.State.{Container}
 use Rattle.md_seam.specs.Events.Tiles.{EachRead, filled, filled_from, part_kind, parts, plain_lists, plain_read}
 use Rattle.markdown_blocks.specs.Change.{ends_of}
-use Rattle.markdown_blocks.specs.Document.{body_point, mark_end, mark_events}
 use Rattle.markdown_blocks.specs.FlowReads.{text_cells, text_rows}
 use Rattle.markdown_blocks.specs.Parsed.{reads_plain}
-use Rattle.markdown_blocks.specs.Rows.{final_row, first_row, group_done, Group, Row}
+use Rattle.markdown_blocks.specs.Rows.{final_row, first_row, front_done, group_done, Group, Row}
 use Rattle.markdown_blocks.specs.Rows.{ending_events, group_events, groups, groups_events, held_at, tail_events}
 use Rattle.markdown_blocks.specs.Unread.{group_unread, listed_group, listed_groups}
 use Rattle.markdown_blocks.proofs.GroupLemmas.{AreGroups, HasFront, groups-are}
 use Rattle.markdown_blocks.proofs.JoinedLemmas.{EachNoContent, rows_at-no_content}
 use Rattle.markdown_blocks.proofs.GroupFacts.{group-front, group-leaf, more-groups}
+use Rattle.markdown_blocks.proofs.ReadAs.{read_as-fill}
 use Rattle.markdown_blocks.proofs.RowFacts.{AreRows}
 use Rattle.markdown_blocks.proofs.TextProgress.{IsShut}
 use Rattle.markdown_blocks.proofs.TileParts.{ending-no_part}
 use Rattle.markdown_blocks.proofs.FillFacts.{Fill, fill-append, fill-same}
-use Rattle.markdown_blocks.proofs.FrontNames.{ends-no_parts, ends-unlinked, fronts-no_parts, fronts-unlinked}
+use Rattle.markdown_blocks.proofs.FrontNames.{ends-no_parts, ends-unlinked}
 use Rattle.markdown_blocks.specs.Rows.{group_ending, is_blank_group}
+use Rattle.std.proofs.Common.{◌≤◌, ◌<◌, ◌^◌, arith}
+use Rattle.md_seam.proofs.FeedLines.{feed-none}
+use Rattle.markdown_blocks.specs.Front.{body_point, front_events, text_front}
+use Rattle.markdown_blocks.specs.Rows.{rows_at}
+use Rattle.markdown_blocks.specs.TextRows.{text_setting}
 
 -- events that are those of a block list, with what is read in the place of each chunk
 pub record IsFilled (bytes : List ℕ) (blocks events : List Event) : Type 0 where
@@ -72,14 +74,13 @@ fill-ending bytes name row other = go row.after
 -- what stands in a line, with what stands in front of it, and behind it or a further line
 fill-line : (bytes : List ℕ) (name : Name) (row last : Row) (xs zs : List Event) → part_kind name ≡ None →
     HasFront bytes row → Fill bytes xs zs →
-    Fill bytes (row.front ++ xs ++ tail_events name last) (row.front ++ zs ++ tail_events name last)
+    Fill bytes (row.front ++ xs ++ tail_events name last) (front_done bytes row ++ zs ++ tail_events name last)
 fill-line bytes name row last xs zs other front h =
     let ends : List Event = ends_of last.leaves last.end in
     let ending : List Event = ending_events name last in
-    fill-append bytes (row.front ++ xs) (row.front ++ zs) (ends ++ ending) (ends ++ ending)
-    (fill-append bytes row.front row.front xs zs
-    (fill-same bytes row.front (fronts-unlinked bytes row.change.opens front.0 row.first row.front front.1)
-    (fronts-no_parts bytes row.change.opens front.0 row.first row.front front.1)) h)
+    fill-append bytes (row.front ++ xs) (front_done bytes row ++ zs) (ends ++ ending) (ends ++ ending)
+    (fill-append bytes row.front (front_done bytes row) xs zs
+    (read_as-fill bytes row.front (front_done bytes row) front.2.reads) h)
     (fill-append bytes ends ends ending ending
     (fill-same bytes ends (ends-unlinked last.leaves last.end) (ends-no_parts last.leaves last.end))
     (fill-ending bytes name last other))
@@ -98,49 +99,81 @@ fill-groups options bytes (group ∷ gs) are =
     (group-leaf options bytes group gs are).1.filled)
     (fill-groups options bytes gs (more-groups options bytes group gs are))
 
-fill-mark : (bytes : List ℕ) → Fill bytes (mark_events bytes) (mark_events bytes)
-fill-mark bytes = go (has_mark bytes)
-  where
-    go : (x : Bool) → let mark : List Event =
-        cond x (pair n.ByteOrderMark first_point mark_end) [] in Fill bytes mark mark
-    go true = fill-same bytes (pair n.ByteOrderMark first_point mark_end) (refl, (refl, tt)) (refl, (refl, tt))
-    go false = fill-same bytes [] tt tt
-
--- The same with a mark in front.
+-- The same with the front of a text before them.
 pub blocks-filled : (options : ParseOptions) (bytes : List ℕ) (open_before : List Container) (still : HeldLeaf)
-    (p : Point) (lines : List (List ℕ)) (rows : List Row) →
-    IsShut still → AreRows options bytes open_before still p lines rows → EachNoContent rows →
-    IsFilled bytes (mark_events bytes ++ listed_groups options bytes (groups rows))
-    (mark_events bytes ++ groups_events options bytes (groups rows))
-blocks-filled options bytes open_before still p lines rows shut are quiet =
-    let mark : List Event = mark_events bytes in
-    fill-all bytes (mark ++ listed_groups options bytes (groups rows))
-    (mark ++ groups_events options bytes (groups rows))
-    (fill-append bytes mark mark (listed_groups options bytes (groups rows)) (groups_events options bytes (groups rows))
-    (fill-mark bytes)
+    (p : Point) (front : List Event) (lines : List (List ℕ)) (rows : List Row) →
+    Fill bytes front front → IsShut still → AreRows options bytes open_before still p lines rows →
+    EachNoContent rows →
+    IsFilled bytes (front ++ listed_groups options bytes (groups rows))
+    (front ++ groups_events options bytes (groups rows))
+blocks-filled options bytes open_before still p front lines rows filled shut are quiet =
+    fill-all bytes (front ++ listed_groups options bytes (groups rows))
+    (front ++ groups_events options bytes (groups rows))
+    (fill-append bytes front front (listed_groups options bytes (groups rows))
+    (groups_events options bytes (groups rows))
+    filled
     (fill-groups options bytes (groups rows) (groups-are options bytes open_before still p lines rows shut are quiet)))
 
 -- So it is with the lines that flow reads.
-pub text-filled : (options : ParseOptions) (bytes : List ℕ) (p : Point) (lines : List (List ℕ)) →
-    AreRows options bytes [] held_leaf.None p lines (text_rows options bytes p) →
-    IsFilled bytes (mark_events bytes ++ listed_groups options bytes (groups (text_rows options bytes p)))
-    (mark_events bytes ++ groups_events options bytes (groups (text_rows options bytes p)))
-text-filled options bytes p lines are =
+pub text-filled : (options : ParseOptions) (bytes : List ℕ) (p : Point) (front : List Event) (lines : List (List ℕ)) →
+    Fill bytes front front → AreRows options bytes [] held_leaf.None p lines (text_rows options bytes p) →
+    IsFilled bytes (front ++ listed_groups options bytes (groups (text_rows options bytes p)))
+    (front ++ groups_events options bytes (groups (text_rows options bytes p)))
+text-filled options bytes p front lines filled are =
     let cells : List Cell = text_cells bytes options p in
-    blocks-filled options bytes [] held_leaf.None p lines (text_rows options bytes p) (refl, refl) are
+    blocks-filled options bytes [] held_leaf.None p front lines (text_rows options bytes p) filled (refl, refl) are
     (rows_at-no_content options (suc (length cells)) [] held_leaf.None cells p)
 
--- The empty text has no events.
+-- Where the text ends, no events stand.
+
+-- where there are no cells, for a line that is empty
+none-read : (options : ParseOptions) (bytes : List ℕ) (p : Point) (cells : List Cell) → cells ≡ [] →
+    groups_events options bytes (groups (rows_at options (suc (length cells)) [] held_leaf.None cells p)) ≡ []
+unfolding held_at insider shuts_out
+none-read options bytes p [] e = refl
+none-read options bytes p (c ∷ cells) e = absurd (cc)
+
+none-unread : (options : ParseOptions) (bytes : List ℕ) (p : Point) (cells : List Cell) → cells ≡ [] →
+    listed_groups options bytes (groups (rows_at options (suc (length cells)) [] held_leaf.None cells p)) ≡ []
+unfolding held_at insider shuts_out
+none-unread options bytes p [] e = refl
+none-unread options bytes p (c ∷ cells) e = absurd (cc)
+
+pub end-read : (options : ParseOptions) (bytes : List ℕ) (p : Point) → length bytes < 2 ^ 61 →
+    length bytes ≤ p.index → groups_events options bytes (groups (text_rows options bytes p)) ≡ []
+end-read options bytes p small over =
+    none-read options bytes p (text_cells bytes options p)
+    (feed-none (text_setting bytes options p) p small over)
+
+pub end-unread : (options : ParseOptions) (bytes : List ℕ) (p : Point) → length bytes < 2 ^ 61 →
+    length bytes ≤ p.index → listed_groups options bytes (groups (text_rows options bytes p)) ≡ []
+end-unread options bytes p small over =
+    none-unread options bytes p (text_cells bytes options p)
+    (feed-none (text_setting bytes options p) p small over)
+
+-- So the empty text has none.
+none-front : (options : ParseOptions) → front_events options [] ≡ []
+unfolding text_front
+none-front options = refl
+
+none-point : (options : ParseOptions) → body_point options [] ≡ first_point
+unfolding text_front
+none-point options = refl
 
 empty-none : (options : ParseOptions) →
-    mark_events [] ++ groups_events options [] (groups (text_rows options [] (body_point []))) ≡ []
-unfolding text_feed held_at insider shuts_out
-empty-none options = refl
+    front_events options [] ++ groups_events options [] (groups (text_rows options [] (body_point options []))) ≡ []
+empty-none options =
+    ap
+    (λ (es : List Event).
+    es ++ groups_events options [] (groups (text_rows options [] (body_point options [])))) (none-front options)
+    ∙ end-read options [] (body_point options []) (omega arith) (omega arith)
 
 pub groups-empty : (options : ParseOptions) (bytes : List ℕ) → bytes ≡ [] →
-    mark_events bytes ++ groups_events options bytes (groups (text_rows options bytes (body_point bytes))) ≡ []
+    front_events options bytes
+    ++ groups_events options bytes (groups (text_rows options bytes (body_point options bytes))) ≡
+    []
 groups-empty options bytes e =
     subst
     (λ (l : List ℕ).
-    mark_events l ++ groups_events options l (groups (text_rows options l (body_point l))) ≡ []) (sym e)
-    (empty-none options)
+    front_events options l ++ groups_events options l (groups (text_rows options l (body_point options l))) ≡ [])
+    (sym e) (empty-none options)

@@ -16,13 +16,12 @@ use Rattle.std.proofs.lemmas.List.{map-append}
 use Rattle.std.proofs.lemmas.List.Sums.{take_while-cons}
 use Rattle.md_engine.specs.declared.configuration.ParseOptions.{ParseOptions}
 use Rattle.md_engine.specs.declared.event.Point.{Point}
-use Rattle.md_engine.specs.Place.{first_point}
 use Rattle.md_definition.specs.Containers.{Taken, continues, opens}
 use Rattle.md_definition.specs.Grouped.{grouped}
 use Rattle.md_definition.specs.Lines.{begins_with, ends_line, full_lines_of, is_ending, lines_of, without_ending}
 use Rattle.md_definition.specs.Meaning.{tree, with_frontmatter}
-use Rattle.md_definition.specs.Preamble.{Preamble, first_column, front_of, has_mark, preamble, preamble_by, rest_at}
-use Rattle.md_definition.specs.Preamble.{rests_at, without_mark}
+use Rattle.md_definition.specs.Preamble.{Preamble, rest_at}
+use Rattle.md_definition.specs.Preamble.{rests_at}
 use Rattle.md_definition.specs.Rest.{Rest}
 use Rattle.md_seam.specs.Events.Spelled.{spelled}
 use Rattle.md_definition.specs.State.{At, Container, Kept, Leaf, Path, Spot, Within, closed, container_block, kept}
@@ -32,7 +31,6 @@ use Rattle.md_definition.specs.Texts.{split_lines}
 use Rattle.md_definition.specs.Tree.{Blocks, End}
 use Rattle.md_definition.proofs.LinesLemmas.{without_ending-onto}
 use Rattle.markdown_blocks.specs.Change.{change_by, interrupts, others_of}
-use Rattle.markdown_blocks.specs.Document.{body_point, mark_end}
 use Rattle.markdown_blocks.specs.Fed.{rests_from}
 use Rattle.markdown_blocks.specs.Fronted.{Contained, Prefixed, contained, no_prefix, one_more, prefixes_new}
 use Rattle.markdown_blocks.specs.Fronted.{prefixes_on}
@@ -55,7 +53,6 @@ use Rattle.markdown_blocks.proofs.ContainedLemmas.{contained-still, lines-open}
 use Rattle.markdown_blocks.specs.HeldLeaf.{has_lines, takes_lazy}
 use Rattle.markdown_blocks.specs.Change.{Change}
 use Rattle.markdown_blocks.specs.Fronted.{contained_behind, contained_of}
-use Rattle.markdown_blocks.proofs.MarkLemmas.{without-mark}
 use Rattle.markdown_blocks.proofs.RowFacts as f
 use Rattle.markdown_blocks.proofs.SpelledRows.{spelled-rows}
 use Rattle.markdown_blocks.proofs.Registry.{text-laws}
@@ -66,6 +63,8 @@ use Rattle.markdown_blocks.proofs.RegistryRead.{AreRead, IsRead, IsReadTaken, ki
 use Rattle.markdown_blocks.proofs.RegistryContainers.{opens-read, over-empty, read-shallow}
 use Rattle.md_outline.specs.HeadingDepths.{are_shallow}
 use Rattle.md_seam.specs.Events.Spelled.{without_last}
+use Rattle.markdown_blocks.proofs.Begun.{IsBegun}
+use Rattle.md_engine.specs.declared.event.Event.{Event}
 
 -- Containers that flow reads alone are open: those that stay on a line,
 read-stay : (options : ParseOptions) (p : Path) (r : Rest) → AreRead (containers_of p) →
@@ -80,7 +79,7 @@ read-new : (options : ParseOptions) (interrupting : Bool) (n : ℕ) (r : Rest) �
     AreRead (prefixes_new options interrupting n r).containers
 read-new options interrupting zero r built = tt
 read-new options interrupting (suc n) r built =
-    go (λ s. read-new options false n s built) (opens options interrupting r) (opens-read options interrupting r built)
+    go (λ s. read-new options false n s built) (opens options interrupting r) (opens-read options interrupting r)
   where
     by : Option Taken → Prefixed
     by o = elim o [ None ↦ no_prefix r | Some t ↦ one_more t.container (prefixes_new options false n t.rest) ]
@@ -556,54 +555,35 @@ come-split options column split lines built (inr e) =
 
 -- The tree of a text.
 
-pub front-off : (options : ParseOptions) (lines : List (List ℕ)) → options.constructs.frontmatter ≡ false →
-    front_of options lines ≡ None
-unfolding front_of
-front-off options [] off = refl
-front-off options (line ∷ lines) off = rw off refl
+-- what the lines of a body that begins at this point come to; its tree has lists around their items
+abbrev pub body_of : ParseOptions → List ℕ → Point → Blocks
+body_of options bytes p = come options (rests_at (p.column - 1) (lines_of (drop p.index bytes)))
 
-preamble-off : (options : ParseOptions) (text : List ℕ) → options.constructs.frontmatter ≡ false →
-    preamble options text ≡ record { front = None; body = rests_at (first_column text) (lines_of (without_mark text)) }
-preamble-off options text off =
-    let lines = lines_of (without_mark text) in ap (preamble_by (first_column text) lines) (front-off options lines off)
-
--- what the lines of a text come to, behind a byte order mark; its tree has lists around their items
-abbrev pub body_of : ParseOptions → List ℕ → Blocks
-body_of options bytes = come options (rests_at (first_column bytes) (lines_of (without_mark bytes)))
-
-pub tree-body : (options : ParseOptions) (bytes : List ℕ) → IsBuilt options →
-    tree options bytes ≡ grouped (body_of options bytes)
-tree-body options bytes built =
-    ap (λ (p : Preamble). with_frontmatter p.front (grouped (closed options (steps options (At (spot_of End)) p.body))))
-    (preamble-off options bytes built.frontmatter)
+-- the tree of a text has its frontmatter in front
+pub tree-body : (options : ParseOptions) (bytes : List ℕ) (p : Point) (front : List Event) →
+    (begun : IsBegun options bytes p front) →
+    tree options bytes ≡ with_frontmatter begun.block (grouped (body_of options bytes p))
+tree-body options bytes p front begun =
+    ap
+    (λ (b : Preamble). with_frontmatter b.front (grouped (closed options (steps options (At (spot_of End)) b.body))))
+    begun.preamble_is
 
 -- They are not too deep for an outline.
-pub body-shallow : (options : ParseOptions) (bytes : List ℕ) → IsBuilt options →
-    are_shallow (body_of options bytes) ≡ true
-body-shallow options bytes built =
-    shallow-come options (rests_at (first_column bytes) (lines_of (without_mark bytes))) built
-
-body-first : (bytes : List ℕ) → (body_point bytes).column - 1 ≡ first_column bytes
-body-first bytes = go (has_mark bytes)
-  where
-    go : (x : Bool) → (cond x mark_end first_point).column - 1 ≡ cond x 3 0
-    go true = refl
-    go false = refl
+pub body-shallow : (options : ParseOptions) (bytes : List ℕ) (p : Point) → IsBuilt options →
+    are_shallow (body_of options bytes p) ≡ true
+body-shallow options bytes p built =
+    shallow-come options (rests_at (p.column - 1) (lines_of (drop p.index bytes))) built
 
 rests-at : (p : Point) (lines : List (List ℕ)) → rests_from p lines ≡ rests_at (p.column - 1) lines
 rests-at p [] = refl
 rests-at p (line ∷ lines) = refl
 
 -- The events of the lines of a text are read as what the lines come to.
-pub body-rows : (options : ParseOptions) → IsBuilt options → (bytes : List ℕ) (rows : List Row) →
-    f.AreRows options bytes [] held_leaf.None (body_point bytes)
-    (split_lines (drop (body_point bytes).index bytes)) rows →
-    spelled (groups_events options bytes (groups rows)) bytes ≡ body_of options bytes
-body-rows options built bytes rows are =
-    let p : Point = body_point bytes in
-    let text : List ℕ = without_mark bytes in
-    spelled-rows options bytes p (split_lines (drop p.index bytes)) rows built are
-    ∙ ap (come_over options) (rests-at p (split_lines (drop p.index bytes)))
-    ∙ ap (λ (k : ℕ). come_over options (rests_at k (split_lines (drop p.index bytes)))) (body-first bytes)
-    ∙ ap (λ (l : List ℕ). come_over options (rests_at (first_column bytes) (split_lines l))) (sym (without-mark bytes))
-    ∙ come-split options (first_column bytes) (split_lines text) (lines_of text) built (split-or_empty text)
+pub body-rows : (options : ParseOptions) → IsBuilt options → (bytes : List ℕ) (p : Point) (rows : List Row) →
+    f.AreRows options bytes [] held_leaf.None p (split_lines (drop p.index bytes)) rows →
+    spelled (groups_events options bytes (groups rows)) bytes ≡ body_of options bytes p
+body-rows options built bytes p rows are =
+    let text : List ℕ = drop p.index bytes in
+    spelled-rows options bytes p (split_lines text) rows built are
+    ∙ ap (come_over options) (rests-at p (split_lines text))
+    ∙ come-split options (p.column - 1) (split_lines text) (lines_of text) built (split-or_empty text)

@@ -6,7 +6,7 @@ use Rattle.md_engine.specs.declared.event.Name.TheVariants as n
 use Rattle.md_leaves.specs.Turned.{is_paragraph, is_underline, passes}
 use Rattle.markdown_blocks.proofs.ContainerNames.{is_front}
 use Rattle.markdown_blocks.proofs.EachEvent.{Each, each-as}
-use Rattle.markdown_blocks.proofs.PrefixNames.{AreFront, IsNamed}
+use Rattle.markdown_blocks.proofs.PrefixNames.{AreFront, IsFrontEvent}
 
 abbrev pub IsUnturned : Event → Type 0
 IsUnturned e = passes e ≡ true
@@ -22,4 +22,4 @@ front-unturned n.HeadingSetextUnderline h = cc
 front-unturned _ h = refl
 
 pub fronts-unturned : (es : List Event) → AreFront es → AreUnturned es
-fronts-unturned es h = each-as (IsNamed is_front) IsUnturned (λ e is. front-unturned e.name is.0) es h
+fronts-unturned es h = each-as IsFrontEvent IsUnturned (λ e is. front-unturned e.name is.0) es h

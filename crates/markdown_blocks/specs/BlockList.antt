@@ -1,9 +1,10 @@
 -- The events of a text, one for one, before its text parts are read.
 --
--- They are those of its byte order mark, if it has one, and then those of its lines. A line adds, from left to right:
--- what stands in front of it (the begins and the prefixes of its containers, from the outermost in), its leaf, the ends
--- of the containers that end behind it, and its ending. Lines of text that belong together are one leaf: a chunk for
--- each line, with its ending but the last, and in front of each further chunk what stands in front of its line.
+-- They are those of its front, its byte order mark and its frontmatter, and then those of its lines. A line adds, from
+-- left to right: what stands in front of it (the begins and the prefixes of its containers, from the outermost in), its
+-- leaf, the ends of the containers that end behind it, and its ending. Lines of text that belong together are one leaf:
+-- a chunk for each line, with its ending but the last, and in front of each further chunk what stands in front of its
+-- line.
 --
 -- What the lines are (`Row`), which of them are one text (`groups`), and which definitions stand at its front
 -- (`cut_at_most`), stands in `Rows`; the events of each leaf in its own file of `Leaf`.
@@ -15,10 +16,11 @@ use Rattle.md_engine.specs.declared.event.Name.{Name}
 use Rattle.md_engine.specs.declared.event.Name.TheVariants as n
 use Rattle.md_containers.specs.Listed.{listed}
 use Rattle.md_seam.specs.Events.Nested.{around, enter_link, exit}
-use Rattle.markdown_blocks.specs.Document.{body_point, mark_events}
+use Rattle.markdown_blocks.specs.Front.{body_point, front_events}
 use Rattle.markdown_blocks.specs.Registry.{text_leaf}
 use Rattle.markdown_blocks.specs.Rows.{Group, Headed, Lines, Row, Span, Turned, final_row, first_row, RowKind, Single}
-use Rattle.markdown_blocks.specs.Rows.{behind_row, cut_at_most, defined_unread, group_ending, headed_unread, turned_by, span_by}
+use Rattle.markdown_blocks.specs.Rows.{behind_row, cut_at_most, defined_unread, group_ending, headed_unread, turned_by}
+use Rattle.markdown_blocks.specs.Rows.{span_by}
 use Rattle.markdown_blocks.specs.Rows.{ending_of, groups, last_row, leaf_unread, tail_events}
 use Rattle.markdown_blocks.specs.TextRows.{text_rows}
 
@@ -73,7 +75,9 @@ abbrev pub listed_groups : ParseOptions → List ℕ → List Group → List Eve
 listed_groups options bytes [] = []
 listed_groups options bytes (group ∷ groups) = listed_group options bytes group ++ listed_groups options bytes groups
 
--- The block list of a text: its mark, and then its lines, with the lists around their items.
+-- The block list of a text: its front, and then its lines, with the lists around their items.
 unfoldable pub block_list : ParseOptions → List ℕ → List Event
 block_list options text =
-    listed text (mark_events text ++ listed_groups options text (groups (text_rows options text (body_point text))))
+    listed text
+    (front_events options text
+    ++ listed_groups options text (groups (text_rows options text (body_point options text))))

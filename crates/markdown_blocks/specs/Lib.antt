@@ -5,6 +5,7 @@ pub mod Parsed
 pub mod Resolved
 pub mod RestLine
 pub mod LineColumns
+pub mod Front
 pub mod FlowRule
 pub mod Change
 pub mod HeldLeaf
@@ -25,6 +26,7 @@ pub mod TextRows
 pub mod BlockList
 pub mod Fed
 pub mod FlowReads
+pub mod Footnotes
 pub mod Unread
 pub mod TextReads
 pub mod Document

@@ -1,6 +1,6 @@
 -- What a parse asks for, and what it gives.
 use Rattle.std.specs.Prelude.{◌≡◌, ◌≢◌, ℕ, ◌-◌, ◌/◌, ◌^◌, ◌<◌, ◌≤◌, ◌==◌, ◌||◌, true, false, not, IsTrue, List, []}
-use Rattle.std.specs.Prelude.{length, map}
+use Rattle.std.specs.Prelude.{None, length, map}
 use Rattle.std.specs.List.{list_all}
 use Rattle.std.specs.String.{string_bytes}
 use Rattle.md_engine.specs.declared.configuration.ParseOptions.{ParseOptions}
@@ -15,13 +15,13 @@ use Rattle.md_seam.specs.Events.Nested.{Nested}
 use Rattle.md_seam.specs.Events.On.{are_on}
 use Rattle.md_seam.specs.Events.Pieces.{pieces_stand}
 use Rattle.md_seam.specs.Events.Places.{are_placed}
-use Rattle.md_definition.specs.Preamble.{has_mark}
+use Rattle.md_definition.specs.Preamble.{front_of, has_mark}
 use Rattle.md_seam.specs.Events.Spelled.{spelled}
 use Rattle.md_seam.specs.Events.Tiles.{Tiles, plain_read}
 use Rattle.md_definition.specs.Ascii.{plus}
 use Rattle.md_definition.specs.Bytes.{begins}
 use Rattle.md_definition.specs.Label.{labels}
-use Rattle.md_definition.specs.Lines.{is_ending}
+use Rattle.md_definition.specs.Lines.{is_ending, lines_of}
 use Rattle.md_definition.specs.Rest.{is_white}
 use Rattle.md_definition.specs.Tree.{End, Item, ListOf, More, Quote}
 use Rattle.md_definition.specs.Wrapped.{itemised, quoted}
@@ -32,11 +32,8 @@ use Rattle.markdown_blocks.specs.BlockList.{block_list}
 abbrev pub IsSmall : List ℕ → Type 0
 IsSmall text = length text ≤ (2 ^ 64 - 1) / 8
 
--- the constructs that are asked for are there: block quotes, list items, indented and fenced code, math, HTML, headings,
--- breaks, tables and definitions alone
+-- the constructs that are asked for are there: all but those of MDX
 pub record IsBuilt (options : ParseOptions) : Type 0 where
-  pub frontmatter : options.constructs.frontmatter ≡ false
-  pub gfm_footnote_definition : options.constructs.gfm_footnote_definition ≡ false
   pub mdx_esm : options.constructs.mdx_esm ≡ false
   pub mdx_expression_flow : options.constructs.mdx_expression_flow ≡ false
   pub mdx_expression_text : options.constructs.mdx_expression_text ≡ false
@@ -47,18 +44,20 @@ pub record IsBuilt (options : ParseOptions) : Type 0 where
 abbrev pub reads_plain : List ℕ → Part → List Event → Type 0
 reads_plain text part events = events ≡ plain_events text part
 
--- a text that the quote law is about: it is not empty, and has neither a tab nor a byte order mark
-pub record IsQuotable (text : List ℕ) : Type 0 where
+-- a text that the quote law is about: it is not empty, and has neither a tab nor a byte order mark nor frontmatter
+pub record IsQuotable (options : ParseOptions) (text : List ℕ) : Type 0 where
   pub some : text ≢ []
   pub no_tab : list_all (λ b. not (b == 9)) text ≡ true
   pub no_mark : has_mark text ≡ false
+  pub no_front : front_of options (lines_of text) ≡ None
 
 -- a text that the list law is about: its first line is not empty and does not begin with whitespace, and it has neither a
--- tab nor a byte order mark
-pub record IsItemable (text : List ℕ) : Type 0 where
+-- tab nor a byte order mark nor frontmatter
+pub record IsItemable (options : ParseOptions) (text : List ℕ) : Type 0 where
   pub first : begins (λ b. not (is_white b || is_ending b)) text ≡ true
   pub no_tab : list_all (λ b. not (b == 9)) text ≡ true
   pub no_mark : has_mark text ≡ false
+  pub no_front : front_of options (lines_of text) ≡ None
 
 -- What is known of a text that was read: its events nest, stand at its points, spell its tree and tile it, and
 -- the labels are those of that tree.
@@ -70,12 +69,12 @@ pub record IsParsed (text : List ℕ) (options : ParseOptions) (events : List Ev
   -- each point is one of the text, with the right line and column
   pub placed : IsTrue (are_placed text events)
   -- with `> ` before each line, the text means one block quote with this tree in it, unchanged, and has the same labels
-  pub in_quote : options.constructs.block_quote ≡ true → IsQuotable text →
+  pub in_quote : options.constructs.block_quote ≡ true → IsQuotable options text →
       (wraps : tree options (quoted text) ≡ More (Quote (spelled events text)) End)
       × (labels (tree options (quoted text)) ≡ labels (spelled events text))
   -- with `+ ` before its first line and two spaces before each other, it means one list, whose one item has this tree in
   -- it, unchanged, and has the same labels
-  pub in_item : options.constructs.list_item ≡ true → IsItemable text →
+  pub in_item : options.constructs.list_item ≡ true → IsItemable options text →
       (wraps : tree options (itemised text) ≡ More (ListOf plus (More (Item plus [] (spelled events text)) End)) End)
       × (labels (tree options (itemised text)) ≡ labels (spelled events text))
   pub tree : spelled events text ≡ tree options text
@@ -97,6 +96,7 @@ pub record IsParsed (text : List ℕ) (options : ParseOptions) (events : List Ev
   pub endings : endings_stand events ≡ true
   -- `outline` shows that tree
   pub outlined : IsOutlined events text
-  -- the labels of its definitions, in their normal forms and in the order of the text, repeats kept; footnotes have none
+  -- the labels of its definitions, in their normal forms and in the order of the text, repeats kept, and those of its
+  -- footnote definitions
   pub definitions : map string_bytes state.definitions.items ≡ (labels (spelled events text)).definitions
-  pub footnotes : state.gfm_footnote_definitions.items ≡ []
+  pub footnotes : map string_bytes state.gfm_footnote_definitions.items ≡ (labels (spelled events text)).footnotes

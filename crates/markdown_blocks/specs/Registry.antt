@@ -25,6 +25,8 @@ use Rattle.md_engine.specs.declared.tokenizer.container.name.ContainerKind.TheVa
 use Rattle.md_engine.specs.Meaning.{Behaviour, Cell, Here, Outcome, Refuses}
 use Rattle.md_engine.specs.Scheme.{Rank, Scheme, nowhere, ranked}
 use Rattle.md_engine.specs.World.{World}
+use Rattle.md_containers.specs.Footnote.{footnote_scheme, footnote_transition}
+use Rattle.md_containers.specs.FootnoteRule.{footnote_behaves}
 use Rattle.md_containers.specs.Item.{item_scheme, item_transition}
 use Rattle.md_containers.specs.ItemRule.{item_behaves}
 use Rattle.md_containers.specs.Listed.{listed, passes as passes_lists}
@@ -56,6 +58,7 @@ use Rattle.md_tables.specs.Heads.{headed}
 use Rattle.md_tables.specs.Tabled.{tabled}
 use Rattle.markdown_blocks.specs.ContainerRules.{ContainerRules}
 use Rattle.markdown_blocks.specs.Containers.BlockQuote.{quote_rules}
+use Rattle.markdown_blocks.specs.Containers.GfmFootnoteDefinition.{footnote_rules}
 use Rattle.markdown_blocks.specs.Containers.ListItem.{item_rules}
 use Rattle.markdown_blocks.specs.Leaf.CodeIndented.{code_further, code_leaf, is_code}
 use Rattle.markdown_blocks.specs.Leaf.Fence.{fence_leaf}
@@ -271,26 +274,29 @@ kind_of_item (suc more) = Some kind.ListItem
 abbrev pub container_kind : Container → Option ContainerKind
 container_kind InQuote = Some kind.BlockQuote
 container_kind (InItem digits marker width starts_blank) = kind_of_item width
-container_kind (InFootnote label) = None
+container_kind (InFootnote label) = Some kind.GfmFootnoteDefinition
 
 abbrev pub container_rules : ContainerKind → ContainerRules
 container_rules kind.BlockQuote = quote_rules
 container_rules kind.ListItem = item_rules
+container_rules kind.GfmFootnoteDefinition = footnote_rules
 
 -- the order in which they are tried where one may open
 abbrev pub openers : List ContainerKind
-openers = kind.BlockQuote ∷ kind.ListItem ∷ []
+openers = kind.BlockQuote ∷ kind.ListItem ∷ kind.GfmFootnoteDefinition ∷ []
 
 -- the one that is tried at a state of the document; at no other is one
 abbrev pub opener_at : DocumentState → Option ContainerKind
 opener_at document.ContainerNewBefore = Some kind.BlockQuote
 opener_at document.ContainerNewBeforeNotBlockQuote = Some kind.ListItem
+opener_at document.ContainerNewBeforeNotList = Some kind.GfmFootnoteDefinition
 opener_at _ = None
 
 -- a number by which each is known
 abbrev pub kind_number : ContainerKind → ℕ
 kind_number kind.BlockQuote = 0
 kind_number kind.ListItem = 1
+kind_number kind.GfmFootnoteDefinition = 2
 
 -- those that are tried behind one, where it does not open
 abbrev pub openers_from : ℕ → List ContainerKind → List ContainerKind
@@ -316,6 +322,7 @@ abbrev pub low_opener : (k : ContainerKind) →
     (nat_lt (opener_weight k) 64 ≡ true) × (nat_lt (suc (opener_weight k)) 64 ≡ true)
 low_opener kind.BlockQuote = (refl, refl)
 low_opener kind.ListItem = (refl, refl)
+low_opener kind.GfmFootnoteDefinition = (refl, refl)
 
 abbrev pub opener_rank : Option ContainerKind → Rank
 opener_rank None = ranked 0 refl
@@ -381,6 +388,7 @@ goes_over held = (container_rules held.kind).over_empty held
 abbrev pub construct_owner : StateName → Scheme
 construct_owner (s.BlockQuote state) = quote_scheme
 construct_owner (s.CodeIndented state) = code_scheme
+construct_owner (s.GfmFootnoteDefinition state) = footnote_scheme
 construct_owner (s.GfmTable state) = table_scheme
 construct_owner (s.HeadingAtx state) = heading_scheme
 construct_owner (s.HeadingSetext state) = setext_scheme
@@ -393,6 +401,7 @@ construct_owner _ = nowhere
 abbrev pub construct_transition : (ResolveName → ResolveName → Bool) → StateName → World → Transition
 construct_transition is_name (s.BlockQuote state) w = quote_transition state w
 construct_transition is_name (s.CodeIndented state) w = code_transition state w
+construct_transition is_name (s.GfmFootnoteDefinition state) w = footnote_transition state w
 construct_transition is_name (s.GfmTable state) w = table_transition state w
 construct_transition is_name (s.HeadingAtx state) w = heading_transition (is_name r.HeadingAtx) state w
 construct_transition is_name (s.HeadingSetext state) w = setext_transition state w
@@ -405,6 +414,7 @@ construct_transition is_name _ w = record { to = Nok; world = w }
 abbrev pub construct_behaves : List ℕ → ParseOptions → Behaviour
 construct_behaves bytes options (s.BlockQuote state) cells h = quote_behaves options state cells h
 construct_behaves bytes options (s.CodeIndented state) cells h = code_behaves options state cells h
+construct_behaves bytes options (s.GfmFootnoteDefinition state) cells h = footnote_behaves options state cells h
 construct_behaves bytes options (s.GfmTable state) cells h = table_behaves options state cells h
 construct_behaves bytes options (s.HeadingAtx state) cells h = heading_behaves options state cells h
 construct_behaves bytes options (s.HeadingSetext state) cells h = setext_behaves options state cells h

@@ -311,9 +311,14 @@ leaf_done bytes BlankRow row = row.inside
 leaf_done bytes (LeafRow l) row = (leaf l).done bytes (row_line bytes row) row.first
 leaf_done bytes TextRow row = leaf_events TextRow row
 
+-- what stands in front of a line, once text parts are read: a footnote definition that opens on it has its label there
+abbrev pub front_done : List ℕ → Row → List Event
+front_done bytes row = plain_read bytes row.front
+
 -- the events of a line that is no text, once its parts are read
 abbrev pub single_events_by : List ℕ → RowKind → Row → List Event
-single_events_by bytes kind row = row.front ++ leaf_done bytes kind row ++ tail_events (ending_of kind row) row
+single_events_by bytes kind row =
+    front_done bytes row ++ leaf_done bytes kind row ++ tail_events (ending_of kind row) row
 
 -- Texts.
 
@@ -582,7 +587,8 @@ group_done options bytes (Span row rows) = span_done bytes row rows
 -- what stands in front of its first line, its leaf, and what stands behind its last line
 abbrev pub group_events : ParseOptions → List ℕ → Group → List Event
 group_events options bytes group =
-    (first_row group).front ++ group_done options bytes group ++ tail_events (group_ending group) (final_row group)
+    front_done bytes (first_row group) ++ group_done options bytes group
+    ++ tail_events (group_ending group) (final_row group)
 
 -- the events of a text, once all its parts are read
 abbrev pub groups_events : ParseOptions → List ℕ → List Group → List Event

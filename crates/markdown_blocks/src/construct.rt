@@ -4,7 +4,7 @@ pub mod document;
 pub mod flow;
 pub mod registry;
 
-pub use md_containers::{block_quote, list_item};
+pub use md_containers::{block_quote, gfm_footnote_definition, list_item};
 pub use md_content::{content, paragraph};
 pub use md_leaves::{
     blank_line, heading_atx, heading_setext, partial_bom, partial_non_lazy_continuation,

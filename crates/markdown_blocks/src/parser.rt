@@ -1,14 +1,15 @@
 // From a text to events.
 
-ghost use Rattle.std.specs.Prelude.{◌≡◌, ◌≤◌, ◌++◌, IfOk, OnOk, [], length};
+ghost use Rattle.std.specs.Prelude.{◌≡◌, ◌≤◌, ◌++◌, IfOk, OnOk, [], length, map, string_bytes};
 ghost use Rattle.std.specs.List.{prefix_len};
 ghost use Rattle.md_containers.specs.Listed.{listed};
 ghost use Rattle.md_engine.specs.Found.{found_in};
 ghost use Rattle.md_engine.specs.Place.{IsPlaced};
 ghost use Rattle.md_engine.specs.World.{fresh, world};
 ghost use Rattle.md_leaves.specs.Turned.{turned};
-ghost use Rattle.markdown_blocks.specs.Document.{ReadsMark};
+ghost use Rattle.markdown_blocks.specs.Document.{ReadsFront};
 ghost use Rattle.markdown_blocks.specs.FlowReads.{FlowReads, lines_joined, tables_set};
+ghost use Rattle.markdown_blocks.specs.Footnotes.{footnotes_listed};
 ghost use Rattle.markdown_blocks.specs.Parsed.{IsBuilt, IsParsed, IsSmall};
 ghost use Rattle.markdown_blocks.specs.Registry.{stays_alone};
 ghost use Rattle.markdown_blocks.specs.TextReads.{text_kind, wants_text};
@@ -17,6 +18,7 @@ use crate::construct::document::DocumentTable;
 use crate::construct::flow::FlowTable;
 use crate::construct::registry;
 use crate::resolve;
+use md_content::footnote_labels::footnote_labels;
 use md_engine::configuration::ParseOptions;
 use md_engine::event::{Content, Event, Point};
 use md_engine::message::Message;
@@ -82,16 +84,16 @@ impl<I: Inline> Reader for TextReader<'_, '_, I> {
     }
 }
 
-/// Takes the byte order mark at the front of a text, if there is one.
+/// Takes the byte order mark and the frontmatter at the front of a text, if they stand there.
 ///
 /// An `Err` says that memory ran out.
-fn read_mark<'a>(
+fn read_front<'a>(
     alloc: Global,
     bytes: &'a [u8],
     options: &'a ParseOptions,
 ) -> Result<Tokenizer<'a>, Message>
     requires { IsSmall bytes.now }
-    ensures { IfOk result (λ tokenizer. ReadsMark bytes.now (world tokenizer)) }
+    ensures { IfOk result (λ tokenizer. ReadsFront bytes.now options.now (world tokenizer)) }
 {
     let mut tokenizer = Tokenizer::new(alloc, FIRST_POINT, bytes, options);
     let start = State::Next(StateName::Document(DocumentState::Start));
@@ -232,24 +234,41 @@ fn read_flow<'a>(
     Ok((tokenizer, found))
 }
 
-/// The events of a text: those of its mark, and behind them all others.
-fn behind_mark(mut mark: Vec<Event>, mut body: Vec<Event>) -> Result<Vec<Event>, Message>
-    ensures { IfOk result (λ events. events.items ≡ mark.items ++ body.items) }
+/// The labels of the footnote definitions among the events of a text, where these are on.
+///
+/// An `Err` says that memory ran out.
+fn footnotes_of(
+    alloc: Global,
+    bytes: &[u8],
+    options: &ParseOptions,
+    events: &[Event],
+) -> Result<Vec<String>, Message>
+    ensures { IfOk result
+        (λ found. map string_bytes found.items ≡ footnotes_listed options.now bytes.now events.now) }
 {
-    if mark.is_empty() {
+    if options.constructs.gfm_footnote_definition {
+        return footnote_labels(alloc, bytes, events);
+    }
+    Ok(Vec::new(alloc))
+}
+
+/// The events of a text: those of its front, and behind them all others.
+fn behind_front(mut front: Vec<Event>, mut body: Vec<Event>) -> Result<Vec<Event>, Message>
+    ensures { IfOk result (λ events. events.items ≡ front.items ++ body.items) }
+{
+    if front.is_empty() {
         return Ok(body);
     }
-    if mark.append(&mut body).is_err() {
+    if front.append(&mut body).is_err() {
         return Err(Message);
     }
-    Ok(mark)
+    Ok(front)
 }
 
 /// Reads a text: its events, and what else is known of it.
 ///
-/// The text has at most `usize::MAX / 8` bytes, and of the constructs block quotes, list items, indented and fenced code,
-/// math, HTML, headings, breaks, tables and definitions alone may be on. A byte order mark in front of the text is taken
-/// as such. An `Err` says that memory ran out; then nothing is handed out.
+/// The text has at most `usize::MAX / 8` bytes, and the constructs of MDX are off. A byte order mark in front of the text
+/// is taken as such. An `Err` says that memory ran out; then nothing is handed out.
 pub fn parse<'a>(
     alloc: Global,
     value: &'a str,
@@ -260,13 +279,14 @@ pub fn parse<'a>(
     ensures { IfOk result (λ parsed. IsParsed value.now options.now parsed.0.items parsed.1) }
 {
     let bytes = value.as_bytes();
-    let front = read_mark(alloc, bytes, options)?;
+    let front = read_front(alloc, bytes, options)?;
     let (mut tokenizer, found) = read_flow(alloc, bytes, options, front.point)?;
+    let footnotes = footnotes_of(alloc, bytes, options, &tokenizer.events)?;
     let state = ParseState {
         options,
         bytes,
         definitions: found.definitions,
-        gfm_footnote_definitions: found.gfm_footnote_definitions,
+        gfm_footnote_definitions: footnotes,
     };
     let reader = TextReader {
         inline: &Plain,
@@ -274,6 +294,6 @@ pub fn parse<'a>(
     };
     let spare = tokenizer.take_spare();
     let body = subtokenize(alloc, &reader, &tokenizer.events, spare)?;
-    let events = behind_mark(front.events, body)?;
+    let events = behind_front(front.events, body)?;
     Ok((events, state))
 }

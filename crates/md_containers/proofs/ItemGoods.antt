@@ -24,6 +24,7 @@ use Rattle.md_containers.specs.Item.{indent_code, indent_ready, inside_code, is_
 use Rattle.md_containers.specs.Item.{item_ready, item_scheme, item_transition, item_tries, least_width, marker_code, may_break, refused}
 use Rattle.md_containers.specs.Item.{prefix_other_code, sees, unseen, value_code}
 use Rattle.md_containers.specs.Item.{whitespace_after_code, without_size}
+use Rattle.md_containers.proofs.LaterStart.{good-later_start}
 use Rattle.md_definition.specs.Containers.{is_bullet, is_digit}
 use Rattle.md_leaves.specs.Blank.{blank_scheme}
 use Rattle.md_leaves.specs.Break.{break_scheme}
@@ -31,9 +32,9 @@ use Rattle.md_leaves.specs.LeafStart as leaf
 use Rattle.md_leaves.proofs.BlankGoods.{BlankFits}
 use Rattle.md_leaves.proofs.BreakGoods.{BreakFits}
 use Rattle.md_seam.specs.Look.{looks_behind}
-use Rattle.md_seam.specs.Spaces.{IsRest, asking, calmed, ends_line, later_ready, rest_ready, sees_white, small_indent}
+use Rattle.md_seam.specs.Spaces.{IsRest, asking, calmed, ends_line, later_ready, rest_ready, sees_white}
 use Rattle.md_seam.specs.Transition.{entered, exited}
-use Rattle.md_seam.proofs.SpacesGoods.{Does, WhiteFits, rest-calm, rest-none, seen-in, white_try, white_try_later}
+use Rattle.md_seam.proofs.SpacesGoods.{Does, WhiteFits, rest-calm, seen-in, white_try}
 
 pub record ItemFits (T : Scheme) : Type 1 where
   pub white : WhiteFits T
@@ -45,18 +46,19 @@ pub record ItemFits (T : Scheme) : Type 1 where
 
 good_start : (T : Scheme) (w : World) (x y : Bool) → ItemFits T → later_ready (spot w) (after_all T w.frames) →
     Does T (n.ListItem its.Start) w (leaf.start_code parts.ListItem (n.ListItem its.Before) w x y)
-good_start T w false y has r = (refuses_later T _ w _ _ w.events w.scratch r.1 r.0, refl)
-good_start T w true true has r =
-    white_try_later T item_scheme _ (n.ListItem its.Before) w (entered w parts.ListItem).events w.scratch 0
-    (small_indent w.setting.options) IsRest IsRest has.white (has.each its.Start) (has.each its.Before)
-    (rest-none w.scratch r.0) (λ some. rest-calm w.scratch r.0) r.1
-    (λ q t up way. (rest-calm w.scratch r.0, passing_at _ _ (spot w) _ q t _ up way r.1)) (omega arith) (omega arith)
-    (λ t up. omega arith) (omega arith)
-good_start T w true false has r = (
-  turns T item_scheme _ _ w (entered w parts.ListItem).events w.scratch (has.each its.Start) (has.each its.Before) r
-      (omega arith) (omega arith),
-  refl,
-)
+good_start T w x y has r =
+    good-later_start T item_scheme parts.ListItem (n.ListItem its.Start) (n.ListItem its.Before) w x y
+    (record {
+      white = has.white;
+      start_fits = has.each its.Start;
+      next_fits = has.each its.Before;
+      ready = λ x K h. h;
+      level = omega arith;
+      some = omega arith;
+      falls = λ x. omega arith;
+      tries = λ x. omega arith;
+    })
+    r
 
 -- The check for a break.
 

@@ -1,6 +1,6 @@
 -- How the tokenizer holds a list item, and where one is refused or goes on at once.
-use Rattle.std.proofs.Common.{◌≡◌, ℕ, ◌-◌, ◌+◌, ◌≤◌, Bool, true, false, cond, not, ◌&&◌, ◌||◌, ◌⊎◌, inl, inr}
-use Rattle.std.proofs.Common.{List, [], ◌∷◌, ◌++◌, Option, Some, None, refl, sym, ◌∙◌, ap, arith, nat_eq, nat_lt}
+use Rattle.std.proofs.Common.{◌≡◌, ℕ, ◌-◌, ◌+◌, ◌≤◌, Bool, true, false, cond, not, ◌&&◌, ◌||◌}
+use Rattle.std.proofs.Common.{List, [], ◌∷◌, ◌++◌, Option, Some, None, refl, ◌∙◌, ap, arith, nat_eq, nat_lt}
 use Rattle.std.specs.Prelude.{◌==◌, nat_le}
 use Rattle.std.proofs.lemmas.Bool.{or_parts}
 use Rattle.std.proofs.lemmas.Bool.Decides.{nat_tests}
@@ -8,7 +8,6 @@ use Rattle.md_engine.specs.declared.configuration.ParseOptions.{ParseOptions}
 use Rattle.md_engine.specs.declared.event.Event.{Event}
 use Rattle.md_engine.specs.declared.event.Name.TheVariants.{ListItem, ListItemMarker, ListItemPrefix, ListItemValue}
 use Rattle.md_engine.specs.declared.event.Point.{Point}
-use Rattle.md_engine.specs.declared.tokenizer.Scratch.{Scratch}
 use Rattle.md_engine.specs.declared.tokenizer.container.Container.{Container as Held}
 use Rattle.md_engine.specs.Meaning.{Cell, Here, Refuses}
 use Rattle.md_containers.specs.Item.{at_least_one, ends_value, may_begin}
@@ -18,22 +17,17 @@ use Rattle.md_containers.specs.ItemPrefix.{item_holds, item_marked, item_new, it
 use Rattle.md_containers.specs.ItemPrefix.{padding}
 use Rattle.md_containers.specs.ItemRule.{behind_indent, digits_end, digits_rest, digits_size, item_at}
 use Rattle.md_containers.specs.QuoteRule.{indent_events}
+use Rattle.md_containers.proofs.StartLooked.{start-looked}
 use Rattle.md_seam.proofs.LostColumns.{lose-bare}
 use Rattle.md_definition.specs.Containers.{Taken, is_bullet, is_digit, item_continues}
 use Rattle.md_definition.specs.Leaves.{is_rule}
 use Rattle.md_definition.specs.Preamble.{rest_at}
 use Rattle.md_definition.specs.Rest.{is_blank, is_white}
 use Rattle.md_definition.specs.State.{InItem}
-use Rattle.md_leaves.specs.LeafStart.{entered_here}
-use Rattle.md_leaves.proofs.LeafStart.{at-none, at-off, at-white}
-use Rattle.md_seam.specs.Ahead.{begins_white, line_bytes, white_end, white_rest, white_size}
+use Rattle.md_seam.specs.Ahead.{line_bytes, white_end, white_rest, white_size}
 use Rattle.md_seam.specs.Events.Nested.{enter, pair}
 use Rattle.md_seam.specs.Look.{first_seen, seen_behind}
 use Rattle.md_seam.specs.Spaces.{IsRest, ends_line, small_indent}
-use Rattle.md_seam.proofs.AheadLemmas.{none-rest}
-use Rattle.md_seam.proofs.LookLemmas.{rest-begins}
-use Rattle.md_seam.proofs.SpacesGoods.{rest-calm}
-use Rattle.md_seam.proofs.WhiteSteps.{behind_white}
 
 -- What is held.
 
@@ -125,34 +119,14 @@ dark-refused options (c ∷ cs) h b e f =
     let digit : is_digit c.byte ≡ false = ap is_digit same ∙ parts.1 in
     rw (bullet, digit) refl
 
+white-dark : (c : ℕ) → is_white c ≡ true → may_begin c ≡ false
+white-dark c white = grind (arith, nat_tests)
+
 pub item-looked : (options : ParseOptions) (cells : List Cell) (h : Here) (b : ℕ) → IsRest h.scratch →
     seen_behind cells ≡ Some b → may_begin b ≡ false → item_at options cells h ≡ Refuses h.scratch h.flags
-item-looked options cells h b is seen e = go options.constructs.list_item (begins_white cells) refl refl
-  where
-    room : ℕ
-    room = small_indent options
-
-    first : (c : ℕ) × (first_seen (white_rest room cells) ≡ Some c) × ((is_white c ≡ true) ⊎ (c ≡ b))
-    first = rest-begins room cells b seen
-
-    dark : (c : ℕ) → (is_white c ≡ true) ⊎ (c ≡ b) → may_begin c ≡ false
-    dark c (inl white) = grind (arith, nat_tests)
-    dark c (inr same) = rw same e
-
-    refused : (k : Here) → behind_indent options (white_rest room cells) k ≡ Refuses k.scratch k.flags
-    refused k = dark-refused options (white_rest room cells) k first.0 first.1 (dark first.0 first.2)
-
-    go : (x y : Bool) → options.constructs.list_item ≡ x → begins_white cells ≡ y →
-        item_at options cells h ≡ Refuses h.scratch h.flags
-    go false y off k = at-off ListItem options.constructs.list_item (behind_indent options) options cells h off
-    go true true on k =
-        at-white ListItem options.constructs.list_item (behind_indent options) options cells h on k
-        ∙ refused (behind_white room cells (entered_here ListItem h))
-        ∙ ap (λ (s : Scratch). Refuses s h.flags) (rest-calm h.scratch is ∙ sym is)
-    go true false on k =
-        at-none ListItem options.constructs.list_item (behind_indent options) options cells h on k
-        ∙ ap (λ (l : List Cell). behind_indent options l (entered_here ListItem h)) (sym (none-rest room cells k))
-        ∙ refused (entered_here ListItem h)
+item-looked options cells h b is seen e =
+    start-looked ListItem options.constructs.list_item (behind_indent options) may_begin options cells h b
+    (dark-refused options) white-dark is seen e
 
 -- By the line definition an item goes on over an empty line, and takes nothing, unless it started blank.
 pub item-empty : (digits : List ℕ) (marker width : ℕ) (blank : Bool) (column : ℕ) →

@@ -1,12 +1,11 @@
 -- A list item opens by the cells of a line where it does by the definition of lines, and leaves what that says.
-use Rattle.std.proofs.Common.{◌≡◌, ℕ, zero, suc, ◌+◌, ◌^◌, ◌<◌, ◌≤◌, Bool, true, false, cond, not, ◌&&◌, ◌||◌}
+use Rattle.std.proofs.Common.{◌≡◌, ℕ, ◌+◌, ◌^◌, ◌<◌, ◌≤◌, Bool, true, false, cond, not, ◌&&◌, ◌||◌}
 use Rattle.std.proofs.Common.{List, [], ◌∷◌, ◌++◌, length, drop, Option, Some, None, refl, sym, ap, ap₂, ◌∙◌, subst}
 use Rattle.std.proofs.Common.{arith}
 use Rattle.std.proofs.Common.{append_assoc, nat_lt}
 use Rattle.std.specs.Prelude.{◌==◌, nat_le}
 use Rattle.std.specs.List.{list_all, take_while}
 use Rattle.std.proofs.lemmas.Bool.Decides.{nat_tests}
-use Rattle.std.proofs.lemmas.List.{length-append}
 use Rattle.std.proofs.lemmas.List.Sums.{take_while-cons}
 use Rattle.md_engine.specs.declared.configuration.ParseOptions.{ParseOptions}
 use Rattle.md_engine.specs.declared.event.Event.{Event}
@@ -19,6 +18,7 @@ use Rattle.md_containers.specs.ItemPrefix.{ItemPassed, digits_of, item_behind, i
 use Rattle.md_containers.specs.ItemPrefix.{item_valued}
 use Rattle.md_containers.specs.ItemRule.{digits_end, digits_rest, digits_size}
 use Rattle.md_containers.specs.QuoteRule.{indent_events}
+use Rattle.md_containers.proofs.BehindIndent.{IsBehind, behind-indent}
 use Rattle.md_containers.proofs.ItemBreak.{rule-spread}
 use Rattle.md_containers.proofs.ItemDigits.{HasDigits, TakesDigits, digits-walk, spread-one, starts, starts-spread}
 use Rattle.md_containers.proofs.ItemDigits.{starts-stop}
@@ -26,9 +26,7 @@ use Rattle.md_containers.proofs.ItemLines.{ItemAgrees, LeavesRest}
 use Rattle.md_containers.proofs.ItemMarker.{HasItemMarker, marked-agrees}
 use Rattle.md_containers.proofs.ItemShorter.{digits-length}
 use Rattle.md_containers.proofs.ItemSteps.{bullet-dark}
-use Rattle.md_containers.proofs.QuoteLines.{white-walk}
-use Rattle.md_seam.proofs.LostColumns.{White, lose-walk}
-use Rattle.md_seam.proofs.RestLines.{large-room, small-room}
+use Rattle.md_seam.proofs.LostColumns.{White}
 use Rattle.md_definition.specs.Containers.{Marker, Taken, is_bullet, is_digit, item_by, item_with, list_marker}
 use Rattle.md_definition.specs.Containers.{marker_behind, may_interrupt, opens_item}
 use Rattle.md_definition.specs.Leaves.{is_rule, is_rule_marker}
@@ -43,8 +41,8 @@ use Rattle.md_seam.specs.Events.Nested.{enter, exit, pair}
 use Rattle.md_seam.specs.Events.Places.{past_byte, past_text}
 use Rattle.md_seam.specs.Spaces.{small_indent}
 use Rattle.md_seam.proofs.FeedLines.{Stops, cell, past-next, spread}
-use Rattle.md_seam.proofs.RestCells.{Bare, RestAt, bare, cells_by, indent-length, indent-over, indent-taken}
-use Rattle.md_seam.proofs.RestCells.{lose-no_ending, past_cut, past_rest, rest_cells, white-length}
+use Rattle.md_seam.proofs.RestCells.{Bare, RestAt}
+use Rattle.md_seam.proofs.RestCells.{past_rest, rest_cells}
 
 abbrev rest : ℕ → List ℕ → Rest
 rest column bytes = record { column = column; spaces = 0; bytes = bytes }
@@ -100,7 +98,7 @@ white-digit b e = grind (arith, nat_tests)
 digit-no_end : (b : ℕ) → is_digit b ≡ true → ends_value b ≡ false
 digit-no_end b e = grind (arith, nat_tests)
 
-past-append : (xs ys : List ℕ) (p : Point) → past_text (xs ++ ys) p ≡ past_text ys (past_text xs p)
+pub past-append : (xs ys : List ℕ) (p : Point) → past_text (xs ++ ys) p ≡ past_text ys (past_text xs p)
 past-append [] ys p = refl
 past-append (x ∷ xs) ys p = past-append xs ys (past_byte x p)
 
@@ -619,23 +617,13 @@ pub opens-agrees : (options : ParseOptions) (interrupting : Bool) (line : Line) 
     ItemAgrees (OpensItem line text past p (past_rest r p) stop cells) (item_new options interrupting cells p)
     (opens_item options interrupting r)
 unfolding opens_item
-opens-agrees options interrupting line text past r stop p is h k short =
-    go options.constructs.list_item (has_small_indent options r) refl
+opens-agrees options interrupting line text past r stop p is h k short = go options.constructs.list_item
   where
-    room : ℕ
-    room = small_indent options
-
     cells : List Cell
     cells = rest_cells line r p ++ stop
 
-    left : List Cell
-    left = white_rest room cells
-
     q : Point
-    q = white_end room cells p
-
-    from : Rest
-    from = behind_indent r
+    q = white_end (small_indent options) cells p
 
     front : List Event
     front = enter n.ListItem p ∷ indent_events options cells p
@@ -643,95 +631,54 @@ opens-agrees options interrupting line text past r stop p is h k short =
     Agrees : Option ItemPassed → Option Taken → Type 0
     Agrees o t = ItemAgrees (OpensItem line text past p (past_rest r p) stop cells) o t
 
-    behind-it : Option ItemPassed
-    behind-it = item_behind options interrupting p front left q
+    new : List Cell → Point → Option ItemPassed
+    new left at = item_behind options interrupting p front left at
 
-    defined : Option Taken
-    defined = item_by options interrupting (indent r) from (list_marker from.bytes)
+    found : Rest → Option Taken
+    found from = item_by options interrupting (indent r) from (list_marker from.bytes)
 
-    large : has_small_indent options r ≡ false → Agrees behind-it None
-    large e =
-        let over = indent-over line text past room r p stop is (large-room options r e) in
-        subst (λ (o : Option ItemPassed). Agrees o None)
-        (sym
-        (behind-none options interrupting p front left q (white-no_bullet left over) (white-no_digit left over)))
-        tt
-
-    found : indent r ≤ room → (bytes : List ℕ) → RestAt text past (rest from.column bytes) q →
-        past_text bytes q ≡ past_rest r p → length (spread line bytes q ++ stop) ≤ length cells →
-        (o : Option ItemPassed) (t : Option Taken) →
+    whole : (bytes : List ℕ) → IsBehind line text past r p stop bytes q → (o : Option ItemPassed) (t : Option Taken) →
         ItemAgrees (HasItem line text past bytes q stop front) o t → Agrees o t
-    found fits bytes stands ends size None None item = tt
-    found fits bytes stands ends size None (Some t) item = absurd item
-    found fits bytes stands ends size (Some o) None item = absurd item
-    found fits bytes stands ends size (Some o) (Some t) item =
-        let walked = white-walk line text past (indent r) room r p stop is k refl fits in
-        record {
-          leaves = record {
-            container = item.leaves.container;
-            fed = item.leaves.fed;
-            stands = item.leaves.stands;
-            ends = item.leaves.ends ∙ ends;
-            no_ending = item.leaves.no_ending;
-            shorter = omega (arith, size, item.leaves.shorter);
-          };
-          fewer = omega (arith, size, item.fewer);
-          digits = item.digits;
-          byte = item.byte;
-          value = q;
-          more = item.more ++ past;
-          text_is =
-              stands.text_is ∙ ap (λ (l : List ℕ). l ++ past) item.bytes_are
-              ∙ append_assoc item.digits (item.byte ∷ item.more) past;
-          whole = stands.cut;
-          marker = item.marker;
-          item = item.item;
-          events =
-              item.events
-              ∙ ap
-              (λ (es : List Event). enter n.ListItem p ∷ (es ++ prefix_of item.digits item.byte q o.point))
-              walked.events;
-          white_before = walked.white;
-          white_behind = item.white;
-        }
+    whole bytes at None None item = tt
+    whole bytes at None (Some t) item = absurd item
+    whole bytes at (Some o) None item = absurd item
+    whole bytes at (Some o) (Some t) item = record {
+      leaves = record {
+        container = item.leaves.container;
+        fed = item.leaves.fed;
+        stands = item.leaves.stands;
+        ends = item.leaves.ends ∙ at.ends;
+        no_ending = item.leaves.no_ending;
+        shorter = let size = at.shorter in omega (arith, size, item.leaves.shorter);
+      };
+      fewer = let size = at.shorter in omega (arith, size, item.fewer);
+      digits = item.digits;
+      byte = item.byte;
+      value = q;
+      more = item.more ++ past;
+      text_is =
+          at.stands.text_is ∙ ap (λ (l : List ℕ). l ++ past) item.bytes_are
+          ∙ append_assoc item.digits (item.byte ∷ item.more) past;
+      whole = at.stands.cut;
+      marker = item.marker;
+      item = item.item;
+      events =
+          item.events
+          ∙ ap (λ (es : List Event). enter n.ListItem p ∷ (es ++ prefix_of item.digits item.byte q o.point))
+          at.walked.events;
+      white_before = at.walked.white;
+      white_behind = item.white;
+    }
 
-    small : has_small_indent options r ≡ true → Agrees behind-it defined
-    small e =
-        let most = indent-length line text past r p is in
-        let size = length-append (rest_cells line r p) stop in
-        let fits = small-room options r (length cells) e (omega (arith, most, size)) short in
-        let indented = indent-taken line text past room r p stop is k fits in
-        let lost = lose-walk line text past (indent r) r p stop is k in
-        let all = lost.all (omega arith) in
-        let columns = lost.column in
-        let place = indented.stands.column in
-        let start = is.column in
-        let less = white-length room cells in
-        by fits from.spaces from.bytes (bare from indented.none) indented.stands
-        (lose-no_ending (indent r) r h) indented.ends (omega (arith, columns, all, place, start))
-        indented.cells (omega (arith, less))
-      where
-        by : indent r ≤ room → (spaces : ℕ) (bytes : List ℕ) → Bare spaces bytes →
-            RestAt text past (record { column = from.column; spaces = spaces; bytes = bytes }) q → NoEnding bytes →
-            past_text bytes (past_cut spaces q) ≡ past_rest r p → q.column ≡ p.column + indent r →
-            left ≡ cells_by line spaces bytes q ++ stop → length left ≤ length cells →
-            Agrees behind-it
-            (item_by options interrupting (indent r)
-            (record { column = from.column; spaces = spaces; bytes = bytes }) (list_marker bytes))
-        by fits (suc m) bytes dark stands none ends at same less = absurd dark
-        by fits zero bytes dark stands none ends at same less =
-            let size = ap length same in
-            subst
-            (λ (l : List Cell).
-            Agrees (item_behind options interrupting p front l q)
-            (item_by options interrupting (indent r) (rest from.column bytes) (list_marker bytes)))
-            (sym same)
-            (found fits bytes stands ends (omega (arith, size, less)) _ _
-            (behind-agrees options interrupting line text past from.column bytes q stop p (indent r) front stands dark
-            none k at))
-
-    go : (x y : Bool) → has_small_indent options r ≡ y →
-        Agrees (cond x behind-it None) (cond (x && has_small_indent options r) defined None)
-    go false y e = tt
-    go true true e = subst (λ (t : Bool). Agrees behind-it (cond t defined None)) (sym e) (small e)
-    go true false e = subst (λ (t : Bool). Agrees behind-it (cond t defined None)) (sym e) (large e)
+    go : (x : Bool) →
+        Agrees (cond x (new (white_rest (small_indent options) cells) q) None)
+        (cond (x && has_small_indent options r) (found (behind_indent r)) None)
+    go false = tt
+    go true =
+        behind-indent options line text past r stop p Agrees new found is h k short tt
+        (λ left over.
+        behind-none options interrupting p front left q (white-no_bullet left over) (white-no_digit left over))
+        (λ bytes at.
+        whole bytes at _ _
+        (behind-agrees options interrupting line text past (behind_indent r).column bytes q stop p (indent r) front
+        at.stands at.dark at.no_ending k at.column))

@@ -162,7 +162,7 @@ after_code w false blank = record {
   };
 }
 
--- What has an item go on.
+-- What has an item go on, and a footnote definition.
 
 -- the columns that a further line has to lose
 abbrev pub least_width : Container → ℕ

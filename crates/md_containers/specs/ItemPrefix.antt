@@ -20,8 +20,8 @@ use Rattle.md_seam.specs.Events.Nested.{enter, exit, pair}
 use Rattle.md_seam.specs.Look.{first_seen}
 use Rattle.md_seam.specs.Spaces.{ends_line, small_indent}
 
--- an item that opens or goes on: as the line definition has it, the events in front of its content, and what is left of
--- the line behind them, and where
+-- an item, or a footnote definition, that opens or goes on: as the line definition has it, the events in front of its
+-- content, and what is left of the line behind them, and where
 pub record ItemPassed : Type 0 where
   pub container : Container
   pub events : List Event

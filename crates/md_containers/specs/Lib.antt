@@ -1,9 +1,14 @@
+pub mod Frontmatter
+pub mod FrontmatterRule
 pub mod Interrupts
 pub mod Item
 pub mod ItemRule
 pub mod Quote
 pub mod QuoteRule
 pub mod ItemPrefix
+pub mod Footnote
+pub mod FootnoteRule
+pub mod FootnotePrefix
 pub mod Listed
 pub mod ItemsStand
 pub mod ListedWalk

@@ -1,7 +1,10 @@
-// Containers: block quotes, list items, and lists around items.
+// Containers: block quotes, list items with lists around them, and footnote definitions; and frontmatter, which stands
+// in front of all of them.
 #![tactic(auto)]
 
 pub mod block_quote;
+pub mod frontmatter;
+pub mod gfm_footnote_definition;
 mod interrupts;
 pub mod list_item;
 pub mod lists;

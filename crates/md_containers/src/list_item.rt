@@ -10,7 +10,8 @@
 //
 // An item has a width: the columns from its begin to the end of its padding, and where the rest of its first line is
 // blank, one more. A further line goes on if its indent is as wide, and loses the width; a blank one always, and loses
-// at most the width, unless it follows a first line that was blank.
+// at most the width, unless it follows a first line that was blank. The states that read its indent read that of a
+// footnote definition too.
 
 ghost use Rattle.std.specs.Prelude.{◌≡◌, ◌≢◌, Bool, IfSome};
 ghost use Rattle.md_engine.specs.World.{world};

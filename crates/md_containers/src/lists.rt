@@ -21,6 +21,7 @@ use md_engine::subtokenize::Subresult;
 use md_engine::tokenizer::Tokenizer;
 use md_seam::moving::append;
 use md_seam::names::is_block;
+use md_seam::walks::{Test, passing};
 use std::alloc::Global;
 
 /// Whether these events are of an item.
@@ -114,17 +115,23 @@ fn list_event(kind: Kind, marker: u8, point: Point) -> Event
     }
 }
 
+/// Whether no item begins or ends at an event.
+struct IsNoItem;
+
+impl Test for IsNoItem {
+    ghost passes = { λ test. passes };
+
+    fn passes(&self, event: &Event) -> bool {
+        !is_item(event.name)
+    }
+}
+
 /// How many events stand in front of the next begin or end of an item.
 fn until_item(events: &[Event]) -> usize
     ensures value { result ≡ prefix_len passes events.now }
     ensures within { result ≤ length events.now }
 {
-    for (at, event) in events.iter().enumerate() {
-        if is_item(event.name) {
-            return at;
-        }
-    }
-    events.len()
+    passing(&IsNoItem, events)
 }
 
 /// Appends an event.

@@ -8,14 +8,17 @@ use Rattle.std.proofs.lemmas.List.{take-set-le, take_all, take_more, take_more_s
 use Rattle.std.proofs.lemmas.List.Elements.{All-cons, All-head, All-tail}
 use Rattle.md_engine.specs.declared.event.Event.{Event}
 use Rattle.md_engine.specs.Place.{IsPlaced}
-use Rattle.md_content.specs.Joined.{content_behind, goes_on, is_content, is_of_prefix, joined, joined_with}
+use Rattle.md_content.specs.Joined.{content_behind, ends_content, goes_on, is_content, is_of_prefix, joined}
+use Rattle.md_content.specs.Joined.{joined_with}
 use Rattle.md_engine.specs.declared.event.Name.{Name}
 use Rattle.md_engine.specs.declared.event.Name.TheVariants as name
 use Rattle.md_seam.specs.Events.Nested.{is_enter}
 use Rattle.md_seam.specs.Events.Prefix.{is_prefix}
 use Rattle.std.proofs.Common.{cond, suc}
 use Rattle.std.proofs.Math.Seq.{take-add}
-use Rattle.std.specs.List.{prefix_len}
+use Rattle.std.specs.List.{position_or_len, prefix_len}
+use Rattle.std.specs.Prelude.{not}
+use Rattle.std.proofs.lemmas.List.Sums.{passes_at_first}
 use Rattle.md_seam.specs.Events.Inline.{is_line_ending}
 use Rattle.md_seam.specs.Events.Nested.{is_exit}
 use Rattle.md_seam.specs.Parts.{ArePlaced}
@@ -118,11 +121,6 @@ ends-then true true c x y z e t f g = sym f ∙ g
 ends-then true false c x y z e t f g = absurd (true≢false (sym t ∙ e))
 ends-then false b c x y z e t f g = absurd (true≢false (sym t ∙ e))
 
-pub ends-else : (a b c x : Bool) → x ≡ (a && b) → x ≡ false → (a && b && c) ≡ false
-ends-else true true c x e t = absurd (true≢false (sym e ∙ t))
-ends-else true false c x e t = refl
-ends-else false b c x e t = refl
-
 -- events of prefixes stay
 pub joined-prefixes : (es : List Event) →
     let n = prefix_len is_of_prefix es in joined es ≡ take n es ++ joined (drop n es)
@@ -156,6 +154,61 @@ joined-prefixes (e ∷ es) = by (is_of_prefix e) refl (joined-prefixes es)
         ∙ sym (ap (λ x. let n = cond x (1 + run) 0 in take n (e ∷ es) ++ joined (drop n (e ∷ es))) prefix)
     by false last behind =
         sym (ap (λ x. let n = cond x (1 + run) 0 in take n (e ∷ es) ++ joined (drop n (e ∷ es))) last)
+
+-- what stands in front of the first end of a line stays
+pub joined-before : (es : List Event) →
+    let n = position_or_len ends_content es in joined es ≡ take n es ++ joined (drop n es)
+joined-before [] = refl
+joined-before (e ∷ es) = by (ends_content e) refl (joined-before es)
+  where
+    run : ℕ
+    run = position_or_len ends_content es
+
+    other : (a b c : Bool) → (a && b) ≡ false → (a && b && c) ≡ false
+    other true true c h = absurd (true≢false h)
+    other true false c h = refl
+    other false b c h = refl
+
+    one : (es : List Event) → ends_content e ≡ false → joined (e ∷ es) ≡ e ∷ joined es
+    one [] h = refl
+    one (f ∷ []) h = refl
+    one (f ∷ g ∷ es) h = rw (other (is_exit e.kind) (is_content e.name) (goes_on (f ∷ g ∷ es)) h) refl
+
+    by : (x : Bool) → ends_content e ≡ x → joined es ≡ take run es ++ joined (drop run es) →
+        let n = cond (not (ends_content e)) (1 + run) 0 in joined (e ∷ es) ≡ take n (e ∷ es) ++ joined (drop n (e ∷ es))
+    by false on behind =
+        let more : 1 + run ≡ suc run = omega arith in
+        one es on
+        ∙ ap (λ (l : List Event). e ∷ l) behind
+        ∙ sym (ap (λ n. take n (e ∷ es) ++ joined (drop n (e ∷ es))) more)
+        ∙ sym (ap (λ x. let n = cond (not x) (1 + run) 0 in take n (e ∷ es) ++ joined (drop n (e ∷ es))) on)
+    by true last behind =
+        sym (ap (λ x. let n = cond (not x) (1 + run) 0 in take n (e ∷ es) ++ joined (drop n (e ∷ es))) last)
+
+-- and so at a place
+pub joined-passed : (events : List Event) (at n : ℕ) → n ≡ position_or_len ends_content (drop at events) →
+    joined events ≡ take at events ++ joined (drop at events) →
+    joined events ≡ take (at + n) events ++ joined (drop (at + n) events)
+joined-passed events at n is so_far =
+    let rest : List Event = drop at events in
+    let here : joined rest ≡ take n rest ++ joined (drop n rest) =
+    subst (λ (k : ℕ). joined rest ≡ take k rest ++ joined (drop k rest)) (sym is) (joined-before rest) in
+    so_far
+    ∙ ap (λ (l : List Event). take at events ++ l) here
+    ∙ sym (append_assoc (take at events) (take n rest) (joined (drop n rest)))
+    ∙ ap (λ (l : List Event). (take at events ++ take n rest) ++ joined l) (drop-drop n at events)
+    ∙ ap (λ (l : List Event). l ++ joined (drop (at + n) events)) (sym (take-add at n events))
+
+-- what passes first behind a place
+pub first-there : (p : Event → Bool) (events : List Event) (at n : ℕ) (d : Event) →
+    n ≡ position_or_len p (drop at events) → at + n < length events → p (get_or events (at + n) d) ≡ true
+first-there p events at n d is lt =
+    let rest : List Event = drop at events in
+    let within : position_or_len p rest < length rest =
+    subst (λ (k : ℕ). k < length rest) is (simp length-drop (omega arith)) in
+    ap p (sym (get_or-drop at events n d))
+    ∙ ap (λ (k : ℕ). p (get_or rest k d)) is
+    ∙ passes_at_first p rest d within
 
 -- what stands between an ending and the line behind it stays
 pub passes-at : (events : List Event) (at behind : ℕ) →

@@ -2,13 +2,16 @@
 use Rattle.std.proofs.Common.{◌≡◌, ℕ, suc, ◌+◌, ◌<◌, ◌≤◌, true, false, ◌&&◌, List, [], ◌∷◌, ◌++◌, length}
 use Rattle.std.proofs.Common.{get_or, drop, refl, sym, ◌∙◌, ap, add-one, append_assoc, append-nil, drop-cons, arith}
 use Rattle.std.proofs.Common.{length-drop}
-use Rattle.std.proofs.lemmas.List.{drop_all, map-append}
+use Rattle.std.proofs.Common.{Bool, cond}
+use Rattle.std.proofs.lemmas.List.{drop-drop, drop_all, map-append}
+use Rattle.std.specs.List.{position_or_len}
+use Rattle.std.specs.Prelude.{not}
 use Rattle.std.specs.Prelude.{slice_range}
 use Rattle.md_definition.specs.Label.{normal_form}
 use Rattle.md_definition.specs.Texts.{split_lines}
 use Rattle.md_engine.specs.declared.event.Event.{Event}
 use Rattle.md_content.specs.LabelTexts.{on_one_line, unended}
-use Rattle.md_content.specs.Labels.{is_label, label_text, labels_in}
+use Rattle.md_content.specs.Labels.{begins_label, is_label, label_text, labels_in}
 use Rattle.md_content.proofs.LabelTexts.{normal-on_one_line}
 use Rattle.md_seam.specs.Events.Nested.{is_enter, is_exit}
 use Rattle.md_seam.specs.Events.Tiles.{is_data}
@@ -127,17 +130,36 @@ label-found bytes events i d found text lt begins read so_far =
     ∙ append_assoc found (form ∷ []) (labels_in bytes (drop (i + 1) events))
     ∙ ap (λ (l : List (List ℕ)). found ++ l) (sym is) ∙ so_far
 
--- and an event at which none begins
-pub label-passed : (bytes : List ℕ) (events : List Event) (i : ℕ) (d : Event) (found : List (List ℕ)) →
-    i < length events →
-    is_enter (get_or events i d).kind && is_label (get_or events i d).name ≡ false →
+-- in front of the first there are none
+labels-before : (bytes : List ℕ) (es : List Event) →
+    labels_in bytes (drop (position_or_len begins_label es) es) ≡ labels_in bytes es
+labels-before bytes [] = refl
+labels-before bytes (e ∷ es) = by (begins_label e) refl (labels-before bytes es)
+  where
+    run : ℕ
+    run = position_or_len begins_label es
+
+    by : (x : Bool) → begins_label e ≡ x → labels_in bytes (drop run es) ≡ labels_in bytes es →
+        labels_in bytes (drop (cond (not (begins_label e)) (1 + run) 0) (e ∷ es)) ≡ labels_in bytes (e ∷ es)
+    by false none behind =
+        let more : 1 + run ≡ suc run = omega arith in
+        ap (λ x. labels_in bytes (drop (cond (not x) (1 + run) 0) (e ∷ es))) none
+        ∙ ap (λ n. labels_in bytes (drop n (e ∷ es))) more
+        ∙ behind
+        ∙ sym
+        (ap (λ x. cond x (normal_form (split_lines (label_text bytes es)) ∷ labels_in bytes es) (labels_in bytes es))
+        none)
+    by true begins behind = ap (λ x. labels_in bytes (drop (cond (not x) (1 + run) 0) (e ∷ es))) begins
+
+-- and so behind a place
+pub labels-passed : (bytes : List ℕ) (events : List Event) (i n : ℕ) (found : List (List ℕ)) →
+    n ≡ position_or_len begins_label (drop i events) →
     found ++ labels_in bytes (drop i events) ≡ labels_in bytes events →
-    found ++ labels_in bytes (drop (i + 1) events) ≡ labels_in bytes events
-label-passed bytes events i d found lt none so_far =
-    let is : labels_in bytes (drop i events) ≡ labels_in bytes (drop (i + 1) events) =
-    ap (labels_in bytes) (drop-cons events i d lt)
-    ∙ rw none (ap (λ (j : ℕ). labels_in bytes (drop j events)) (sym (add-one i))) in
-    ap (λ (l : List (List ℕ)). found ++ l) (sym is) ∙ so_far
+    found ++ labels_in bytes (drop (i + n) events) ≡ labels_in bytes events
+labels-passed bytes events i n found is so_far =
+    ap (λ (l : List Event). found ++ labels_in bytes l) (sym (drop-drop n i events))
+    ∙ ap (λ (k : ℕ). found ++ labels_in bytes (drop k (drop i events))) is
+    ∙ ap (λ (l : List (List ℕ)). found ++ l) (labels-before bytes (drop i events)) ∙ so_far
 
 -- all are found
 pub labels-found : (bytes : List ℕ) (events : List Event) (i : ℕ) (found : List (List ℕ)) → length events ≤ i →

@@ -13,6 +13,10 @@ abbrev pub is_content : Name → Bool
 is_content n.Content = true
 is_content _ = false
 
+-- whether a line of content ends with an event
+abbrev pub ends_content : Event → Bool
+ends_content e = is_exit e.kind && is_content e.name
+
 -- whether a line of content begins behind container prefixes
 abbrev pub content_behind : List Event → Bool
 content_behind [] = false

@@ -13,6 +13,10 @@ abbrev pub is_label : Name → Bool
 is_label n.DefinitionLabelString = true
 is_label _ = false
 
+-- whether a label begins with an event
+abbrev pub begins_label : Event → Bool
+begins_label e = is_enter e.kind && is_label e.name
+
 -- the text of a label that has begun: what its chunks are over, without the prefixes between them
 abbrev pub label_text : List ℕ → List Event → List ℕ
 label_text bytes [] = []

@@ -9,5 +9,6 @@ pub mod DefinitionsRule
 pub mod Resolves
 pub mod Joined
 pub mod Labels
+pub mod FootnoteLabels
 pub mod LabelTexts
 pub mod ContentReads

@@ -9,8 +9,9 @@
 // The prefixes of containers in front of a line belong to no line of the content (CommonMark 5.1). So each line begins
 // behind those in front of it, and ends behind its ending, before those of the next line: its end is that of its chunk.
 
-ghost use Rattle.std.specs.Prelude.{◌≡◌, ◌≢◌, ℕ, ◌^◌, ◌<◌, ◌≤◌, ◌&&◌, Bool, false, IfNone, IfOk, IfSome, List, [], length};
-ghost use Rattle.std.specs.List.{prefix_len};
+ghost use Rattle.std.specs.Prelude.{◌≡◌, ◌≢◌, ℕ, ◌^◌, ◌<◌, ◌≤◌, ◌&&◌, Bool, false, not, IfNone, IfOk, IfSome, List, []};
+ghost use Rattle.std.specs.Prelude.{length};
+ghost use Rattle.std.specs.List.{position_or_len, prefix_len};
 ghost use Rattle.std.specs.Option.{option_map};
 ghost use Rattle.md_engine.specs.Found.{found_in};
 ghost use Rattle.md_engine.specs.Scheme.{stands};
@@ -23,7 +24,8 @@ ghost use Rattle.md_content.specs.Chunks.{chunk_inside_code, chunk_start_transit
 ghost use Rattle.md_content.specs.Chunks.{rest_taken};
 ghost use Rattle.md_parts.specs.OpenText.{text_behind};
 ghost use Rattle.md_content.specs.ContentReads.{content_events, is_piece_end, settled};
-ghost use Rattle.md_content.specs.Joined.{GoesOnAt, JoinsAt, goes_on, is_content, is_of_prefix, joined};
+ghost use Rattle.md_content.specs.Joined.{GoesOnAt, JoinsAt, ends_content, goes_on, is_content, is_of_prefix};
+ghost use Rattle.md_content.specs.Joined.{joined};
 ghost use Rattle.md_content.specs.Resolves.{Resolves, is_all_read};
 ghost use Rattle.md_seam.specs.Events.Inline.{is_line_ending};
 ghost use Rattle.md_seam.specs.Events.Nested.{is_enter, is_exit};
@@ -52,6 +54,7 @@ use md_seam::inline::Chunk;
 use md_seam::moving::move_down;
 use md_seam::space_or_tab;
 use md_seam::subtokenize::{Reader, is_prefix, subtokenize};
+use md_seam::walks::{Test, passing};
 use std::alloc::Global;
 
 /// The first byte that does not begin before the point.
@@ -381,9 +384,28 @@ fn goes_on(events: &[Event]) -> Option<usize>
 
 /// Whether a line of content ends here.
 fn ends_line(event: &Event) -> bool
-    ensures { result ≡ is_exit event.now.kind && is_content event.now.name }
+    ensures { result ≡ ends_content event.now }
 {
-    matches!(event.kind, Kind::Exit) && matches!(event.name, Name::Content)
+    matches!(event.name, Name::Content) && matches!(event.kind, Kind::Exit)
+}
+
+/// Whether no line of content ends at an event.
+struct EndsNoLine;
+
+impl Test for EndsNoLine {
+    ghost passes = { λ test e. not (ends_content e) };
+
+    fn passes(&self, event: &Event) -> bool {
+        !ends_line(event)
+    }
+}
+
+/// How many of the events come before the first that ends a line of content.
+fn before_end(events: &[Event]) -> usize
+    ensures value { result ≡ position_or_len ends_content events.now }
+    ensures within { result ≤ length events.now }
+{
+    passing(&EndsNoLine, events)
 }
 
 /// A line of content that goes on.
@@ -400,14 +422,17 @@ fn next_line(events: &[Event]) -> Option<Line>
     ensures some { IfSome result (λ line. JoinsAt events.now line.end line.next) }
     ensures none { IfNone result (joined events.now ≡ events.now) }
 {
-    for (at, event) in events.iter().enumerate() {
-        if ends_line(event) {
+    let mut at = 0;
+    while at < events.len() {
+        at += before_end(&events[at..]);
+        if at < events.len() {
             if let Some(behind) = goes_on(&events[at + 1..]) {
                 return Some(Line {
                     end: at,
                     next: at + 1 + behind,
                 });
             }
+            at += 1;
         }
     }
     None

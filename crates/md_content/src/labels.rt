@@ -2,31 +2,34 @@
 //
 // A label may reach over lines. Its text is what its chunks are over, without the prefixes of containers between them.
 
-ghost use Rattle.std.specs.Prelude.{◌≡◌, ◌&&◌, [], ◌∷◌, ◌++◌, map, string_bytes, slice_range, IfOk, OnOk};
+ghost use Rattle.std.specs.Prelude.{◌≡◌, ◌≤◌, ◌&&◌, [], ◌∷◌, ◌++◌, length, map, not, string_bytes, slice_range, IfOk};
+ghost use Rattle.std.specs.Prelude.{OnOk};
+ghost use Rattle.std.specs.List.{position_or_len};
 ghost use Rattle.md_definition.specs.Label.{normal_form};
 ghost use Rattle.md_content.specs.LabelTexts.{on_one_line, unended};
-ghost use Rattle.md_content.specs.Labels.{is_label, label_text, labels_in};
+ghost use Rattle.md_content.specs.Labels.{begins_label, is_label, label_text, labels_in};
 ghost use Rattle.md_seam.specs.Events.Nested.{is_enter, is_exit};
 ghost use Rattle.md_seam.specs.Events.Tiles.{is_data};
 
 use md_engine::event::{Event, Kind, Name};
 use md_engine::message::Message;
+use md_seam::walks::{Test, passing};
 use plain_grammars::label::normal_form;
 use plain_grammars::memory::push;
 use std::alloc::Global;
 
 /// Whether a label begins here.
 fn begins_label(event: &Event) -> bool
-    ensures { result ≡ is_enter event.now.kind && is_label event.now.name }
+    ensures { result ≡ begins_label event.now }
 {
-    matches!(event.kind, Kind::Enter) && matches!(event.name, Name::DefinitionLabelString)
+    matches!(event.name, Name::DefinitionLabelString) && matches!(event.kind, Kind::Enter)
 }
 
 /// Whether a label ends here.
 fn ends_label(event: &Event) -> bool
     ensures { result ≡ is_exit event.now.kind && is_label event.now.name }
 {
-    matches!(event.kind, Kind::Exit) && matches!(event.name, Name::DefinitionLabelString)
+    matches!(event.name, Name::DefinitionLabelString) && matches!(event.kind, Kind::Exit)
 }
 
 /// Whether a chunk of text begins here.
@@ -88,12 +91,31 @@ fn read_label(text: &mut Vec<u8>, bytes: &[u8], events: &[Event]) -> Result<(), 
 }
 
 /// Adds the normal form of a label, which is on one line.
-fn push_label(alloc: Global, found: &mut Vec<String>, text: &[u8]) -> Result<(), Message>
+pub fn push_label(alloc: Global, found: &mut Vec<String>, text: &[u8]) -> Result<(), Message>
     ensures { OnOk result
         (map string_bytes found.new.items ≡ map string_bytes found.old.items ++ normal_form (text.now ∷ []) ∷ []) }
 {
     let form = normal_form(alloc, &[text])?;
     push(found, form)
+}
+
+/// Whether no label begins at an event.
+struct BeginsNoLabel;
+
+impl Test for BeginsNoLabel {
+    ghost passes = { λ test e. not (begins_label e) };
+
+    fn passes(&self, event: &Event) -> bool {
+        !begins_label(event)
+    }
+}
+
+/// How many of the events come before the first that begins a label.
+fn before_label(events: &[Event]) -> usize
+    ensures value { result ≡ position_or_len begins_label events.now }
+    ensures within { result ≤ length events.now }
+{
+    passing(&BeginsNoLabel, events)
 }
 
 /// The normal forms of all labels of definitions, in the order of the text, repeats kept. Nothing is allocated where
@@ -103,10 +125,13 @@ pub fn labels(alloc: Global, bytes: &[u8], events: &[Event]) -> Result<Vec<Strin
 {
     let mut found = Vec::new(alloc);
     let mut text = Vec::new(alloc);
-    for (at, event) in events.iter().enumerate() {
-        if begins_label(event) {
+    let mut at = 0;
+    while at < events.len() {
+        at += before_label(&events[at..]);
+        if at < events.len() {
             read_label(&mut text, bytes, &events[at + 1..])?;
             push_label(alloc, &mut found, &text)?;
+            at += 1;
         }
     }
     Ok(found)

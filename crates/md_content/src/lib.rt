@@ -3,5 +3,6 @@
 
 pub mod content;
 pub mod definitions;
+pub mod footnote_labels;
 mod labels;
 pub mod paragraph;

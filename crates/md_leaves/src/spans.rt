@@ -23,6 +23,7 @@ use md_engine::message::Message;
 use md_engine::subtokenize::Subresult;
 use md_engine::tokenizer::Tokenizer;
 use md_seam::names::is_block;
+use md_seam::walks::{Test, passing};
 
 /// Whether these events are of a leaf block of several lines.
 #[inline(always)]
@@ -114,17 +115,45 @@ pub fn passes(place: Place, event: &Event) -> bool
     !has_lines(event.name) && !is_renamed(place, event.name)
 }
 
+/// Whether an event passes a place as it is.
+#[derive(Drop)]
+struct PassesAt {
+    place: Place,
+}
+
+impl Test for PassesAt {
+    ghost passes = { λ test. passes test.place };
+
+    fn passes(&self, event: &Event) -> bool {
+        passes(self.place, event)
+    }
+}
+
 /// How many events stand in front of the first that does not pass a place as it is.
 fn until_other(place: Place, events: &[Event]) -> usize
     ensures value { result ≡ prefix_len (passes place) events.now }
     ensures within { result ≤ length events.now }
 {
-    for (at, event) in events.iter().enumerate() {
-        if !passes(place, event) {
-            return at;
-        }
+    match place {
+        Place::Outside => passing(
+            &PassesAt {
+                place: Place::Outside,
+            },
+            events,
+        ),
+        Place::Inside => passing(
+            &PassesAt {
+                place: Place::Inside,
+            },
+            events,
+        ),
+        Place::Between => passing(
+            &PassesAt {
+                place: Place::Between,
+            },
+            events,
+        ),
     }
-    events.len()
 }
 
 /// A walk over the events.

@@ -16,6 +16,7 @@ use md_engine::event::{Event, Kind, Name, Point};
 use md_engine::message::Message;
 use md_seam::moving::append;
 use md_seam::names::is_prefix;
+use md_seam::walks::{Test, passing};
 
 /// Whether these events are of a paragraph.
 #[inline(always)]
@@ -85,17 +86,23 @@ fn is_turned(events: &[Event]) -> bool
     false
 }
 
+/// Whether an event is of no underline.
+struct IsNoUnderline;
+
+impl Test for IsNoUnderline {
+    ghost passes = { λ test. is_no_underline };
+
+    fn passes(&self, event: &Event) -> bool {
+        !is_underline(event.name)
+    }
+}
+
 /// How many events stand in front of the first of an underline.
 pub(crate) fn until_underline(events: &[Event]) -> usize
     ensures value { result ≡ prefix_len is_no_underline events.now }
     ensures within { result ≤ length events.now }
 {
-    for (at, event) in events.iter().enumerate() {
-        if is_underline(event.name) {
-            return at;
-        }
-    }
-    events.len()
+    passing(&IsNoUnderline, events)
 }
 
 /// How many events stand in front of the first that does not pass as it is.

@@ -3,9 +3,12 @@ pub mod ClosedTrees
 pub mod DefinedLemmas
 pub mod DefinedPass
 pub mod FirstLine
+pub mod FootnoteLemmas
+pub mod FrontPass
 pub mod HeadingLemmas
 pub mod LinedLemmas
 pub mod LinedLines
+pub mod LinedSteps
 pub mod LinesPass
 pub mod ListLemmas
 pub mod OutlineAgrees

@@ -13,8 +13,8 @@ use Rattle.md_engine.specs.declared.event.Point.{Point}
 use Rattle.md_seam.specs.Events.Nested.{around, enter, exit, pair}
 use Rattle.md_seam.specs.Events.Spelled.{AsCell, AsDelimiter, AsDestination, AsHeading, AsInfo, AsLabel, AsLine}
 use Rattle.md_seam.specs.Events.Spelled.{AsMarkers, AsMeta, AsTitle, IsCell, IsEnding, IsFence, IsPrefix, IsQuiet, IsRow}
-use Rattle.md_seam.specs.Events.Spelled.{IsTitle, LeafKind, OfCode, OfDefinition, OfFence, OfHeadingSetext, OfHtml}
-use Rattle.md_seam.specs.Events.Spelled.{OfMath, OfTable, Opens, Role, Tells, role}
+use Rattle.md_seam.specs.Events.Spelled.{IsTitle, LeafKind, OfCode, OfDefinition, OfFence, OfFrontmatter}
+use Rattle.md_seam.specs.Events.Spelled.{OfHeadingSetext, OfHtml, OfMath, OfTable, Opens, Role, Tells, role}
 use Rattle.md_seam.proofs.SpelledLemmas.{Between, Quiet, QuietOrEnding, QuietOrPrefix, Roles}
 use Rattle.md_outline.specs.LinesStand.{AtEnd, AtEnding, AtLine, AtTitle, BehindTitle, BehindUnderline, HasLines}
 use Rattle.md_outline.specs.LinesStand.{InAtxText, InTitle, InUnderline, LinesStand, MayStand, Outside, Site}
@@ -60,7 +60,8 @@ pub passes-kept : (bytes : List ℕ) (site : Site) (es : List Event) → Roles (
     Passes bytes site site es
 passes-kept bytes site es h = passes-by bytes (Keeps bytes site) site es (λ x k. k) h
 
--- those of no such leaf block leave one outside,
+-- those of no such leaf block leave one outside: so what opens a container passes by `passes-kept`, a footnote
+-- definition with its prefix and its label as an item with its digits and its marker,
 pub keeps-plain : (bytes : List ℕ) (x : Role) → is_plain x ≡ true → Keeps bytes Outside x
 keeps-plain bytes (Opens OfCode) h kind p = absurd (true≢false (sym h))
 keeps-plain bytes (Opens OfFence) h kind p = absurd (true≢false (sym h))
@@ -69,6 +70,7 @@ keeps-plain bytes (Opens OfHtml) h kind p = absurd (true≢false (sym h))
 keeps-plain bytes (Opens OfHeadingSetext) h kind p = absurd (true≢false (sym h))
 keeps-plain bytes (Opens OfDefinition) h kind p = absurd (true≢false (sym h))
 keeps-plain bytes (Opens OfTable) h kind p = absurd (true≢false (sym h))
+keeps-plain bytes (Opens OfFrontmatter) h kind p = absurd (true≢false (sym h))
 keeps-plain bytes (Tells AsHeading) h kind p = absurd (true≢false (sym h))
 keeps-plain bytes IsFence h kind p = absurd (true≢false (sym h))
 keeps-plain bytes IsTitle h kind p = absurd (true≢false (sym h))

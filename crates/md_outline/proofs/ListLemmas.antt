@@ -1,4 +1,5 @@
--- Lists that have begun: an outline tells each the marker of its first item.
+-- Lists that have begun: an outline tells each the marker of its first item. And footnote definitions that have: of
+-- these `FootnoteLemmas` has what is told.
 use Rattle.std.proofs.Common.{◌≡◌, ℕ, ◌+◌, ◌<◌, Bool, true, false, List, [], ◌∷◌, ◌++◌, length, map, get_or}
 use Rattle.std.proofs.Common.{slice_range, refl, sym, ◌∙◌, ap, subst, append_assoc, arith}
 use Rattle.std.specs.Prelude.{Option, Some, None, set, ◌==◌}
@@ -12,12 +13,13 @@ use Rattle.md_definition.specs.declared.outline.Word.TheVariants as word
 use Rattle.md_definition.specs.Outline.{Entry, block_entries, entry, entry_of, outline}
 use Rattle.md_definition.specs.Texts.{first_byte}
 use Rattle.md_definition.specs.Tree.{Block, Blocks, End, Item, More}
-use Rattle.md_seam.specs.Events.Spelled.{Around, AsDigits, AsItemMarker, Holds, IsQuiet, ItemShape, OrderedShape}
+use Rattle.md_seam.specs.Events.Spelled.{Around, AsDigits, AsFootnoteLabel, AsItemMarker, FootnoteShape, Holds}
+use Rattle.md_seam.specs.Events.Spelled.{IsEnding, IsPrefix, IsQuiet, ItemShape, OrderedShape}
 use Rattle.md_seam.specs.Events.Spelled.{Reading, Shape, Tells, Text, UnorderedShape, begun, block_around, byte_at}
 use Rattle.md_seam.specs.Events.Spelled.{columns_left, first_told, read_by, read_enter, read_exit, text_to}
 use Rattle.md_seam.specs.Events.Spelled as spelled
 use Rattle.md_outline.specs.HeadingDepths.{are_shallow}
-use Rattle.md_outline.specs.ListsBegin.{AllTold, AtItem, AtMarker, InMarker, MayFollow, Stage, marks, stage_by}
+use Rattle.md_outline.specs.ListsBegin.{AllTold, AtItem, AtLabel, AtMarker, InMarker, MayFollow, Stage, marks, stage_by}
 use Rattle.md_outline.specs.Outlined.{is_unparted, parts_by}
 use Rattle.md_outline.specs.OutlineSteps.{OutlineState, state_by, state_enter, told_at, with_marker}
 use Rattle.md_outline.specs.OutlineSteps.{marked_at}
@@ -26,8 +28,10 @@ use Rattle.md_outline.specs.declared.outline.role.Purpose.TheVariants as purpose
 use Rattle.md_outline.specs.declared.outline.role.Role.TheVariants as role
 use Rattle.md_outline.specs.declared.outline.Span.{Span}
 use Rattle.md_outline.proofs.ClosedTrees.{HasWord, HaveWords, depth_of, shown, shown-then, words-then}
-use Rattle.md_outline.proofs.OutlineAgrees.{Agrees, KnowsOpen, TextIs, agrees-left, agrees-step, apart, text-lines}
-use Rattle.md_outline.proofs.OutlineAgrees.{text-stays}
+use Rattle.md_outline.proofs.FootnoteLemmas.{AwaitsLabel, awaits-label, label-ends}
+use Rattle.md_outline.proofs.OutlineAgrees.{Agrees, KnowsOpen, TextIs, agrees-begun, agrees-left, agrees-step, apart}
+use Rattle.md_outline.proofs.OutlineAgrees.{text-lines, text-stays}
+use Rattle.md_outline.proofs.RoleLemmas.{IsFresh, by-ending}
 
 -- The line of a list.
 
@@ -132,6 +136,7 @@ AgreesAt AllTold s r = Agrees s r
 AgreesAt (AtItem shape) s r = AwaitsItem shape s r
 AgreesAt (AtMarker shape) s r = AwaitsMarker shape s r
 AgreesAt (InMarker shape q) s r = AwaitsMarker shape s r × (r.text ≡ Some (begun q))
+AgreesAt AtLabel s r = Agrees s r × AwaitsLabel r.outer r.here
 
 -- a list begins
 list-begins : (bytes : List ℕ) (shape : Shape) (p : Point) (s : OutlineState) (r : Reading) → IsList shape →
@@ -350,37 +355,58 @@ marker-ends bytes shape p q s r (Some span) (Some text) is e h k m =
 
 -- what agrees still does behind an event
 pub agrees-stage : (bytes : List ℕ) (stage : Stage) (kind : Kind) (x : spelled.Role) (p : Point) (s : OutlineState)
-    (r : Reading) → is_listed x ≡ true → parts_by bytes kind x p s.text ≡ true →
+    (r : Reading) → is_listed x ≡ true → IsFresh x → parts_by bytes kind x p s.text ≡ true →
     are_shallow (read_by bytes kind x p r).here ≡ true → MayFollow bytes stage kind x p → AgreesAt stage s r →
     AgreesAt (stage_by stage kind x p) (state_by bytes kind (shown_as x) p s) (read_by bytes kind x p r)
-agrees-stage bytes AllTold Enter (Holds OrderedShape) p s r h k d may is =
+agrees-stage bytes AllTold Enter (Holds OrderedShape) p s r h fresh k d may is =
     list-begins bytes OrderedShape p s r tt (apart bytes Enter (Holds OrderedShape) p s.text (λ t. refl) k) is
-agrees-stage bytes AllTold Enter (Holds UnorderedShape) p s r h k d may is =
+agrees-stage bytes AllTold Enter (Holds UnorderedShape) p s r h fresh k d may is =
     list-begins bytes UnorderedShape p s r tt (apart bytes Enter (Holds UnorderedShape) p s.text (λ t. refl) k) is
-agrees-stage bytes AllTold Exit (Holds OrderedShape) p s r h k d may is =
+agrees-stage bytes AllTold Exit (Holds OrderedShape) p s r h fresh k d may is =
     agrees-left s r r.outer refl (apart bytes Exit (Holds OrderedShape) p s.text (λ t. refl) k) is
-agrees-stage bytes AllTold Exit (Holds UnorderedShape) p s r h k d may is =
+agrees-stage bytes AllTold Exit (Holds UnorderedShape) p s r h fresh k d may is =
     agrees-left s r r.outer refl (apart bytes Exit (Holds UnorderedShape) p s.text (λ t. refl) k) is
-agrees-stage bytes AllTold Enter x p s r h k d may is = agrees-step bytes Enter x p s r h k d is
-agrees-stage bytes AllTold Exit x p s r h k d may is = agrees-step bytes Exit x p s r h k d is
-agrees-stage bytes (AtItem shape) Enter (Holds (ItemShape m digits)) p s r h k d may is =
+agrees-stage bytes AllTold Enter (Holds (FootnoteShape label)) p s r h fresh k d may is = (
+  agrees-step bytes Enter (Holds (FootnoteShape label)) p s r h fresh k d tt is,
+  awaits-label label r fresh is.words,
+)
+agrees-stage bytes AllTold Enter x p s r h fresh k d may is = agrees-step bytes Enter x p s r h fresh k d may is
+agrees-stage bytes AllTold Exit x p s r h fresh k d may is = agrees-step bytes Exit x p s r h fresh k d may is
+agrees-stage bytes (AtItem shape) Enter (Holds (ItemShape m digits)) p s r h fresh k d may is =
     item-begins bytes shape m digits p s r may
     (apart bytes Enter (Holds (ItemShape m digits)) p s.text (λ t. refl) k) is
-agrees-stage bytes (AtItem shape) _ _ p s r h k d may is = absurd may
-agrees-stage bytes (AtMarker shape) Enter IsQuiet p s r h k d may is = is
-agrees-stage bytes (AtMarker shape) Exit IsQuiet p s r h k d may is = is
-agrees-stage bytes (AtMarker shape) Enter (Tells AsDigits) p s r h k d may is =
+agrees-stage bytes (AtItem shape) _ _ p s r h fresh k d may is = absurd may
+agrees-stage bytes (AtMarker shape) Enter IsQuiet p s r h fresh k d may is = is
+agrees-stage bytes (AtMarker shape) Exit IsQuiet p s r h fresh k d may is = is
+agrees-stage bytes (AtMarker shape) Enter (Tells AsDigits) p s r h fresh k d may is =
     front-begins shape p s r (apart bytes Enter (Tells AsDigits) p s.text (λ t. refl) k) is
-agrees-stage bytes (AtMarker shape) Exit (Tells AsDigits) p s r h k d may is =
+agrees-stage bytes (AtMarker shape) Exit (Tells AsDigits) p s r h fresh k d may is =
     digits-end bytes shape p s r s.text r.text is is.text
     (apart bytes Exit (Tells AsDigits) p s.text (λ t. refl) k)
-agrees-stage bytes (AtMarker shape) Enter (Tells AsItemMarker) p s r h k d may is =
+agrees-stage bytes (AtMarker shape) Enter (Tells AsItemMarker) p s r h fresh k d may is =
     (front-begins shape p s r (apart bytes Enter (Tells AsItemMarker) p s.text (λ t. refl) k) is, refl)
-agrees-stage bytes (AtMarker shape) _ _ p s r h k d may is = absurd may
-agrees-stage bytes (InMarker shape q) Exit (Tells AsItemMarker) p s r h k d may is =
+agrees-stage bytes (AtMarker shape) _ _ p s r h fresh k d may is = absurd may
+agrees-stage bytes (InMarker shape q) Exit (Tells AsItemMarker) p s r h fresh k d may is =
     marker-ends bytes shape p q s r s.text r.text is.0 is.1 is.0.text
     (apart bytes Exit (Tells AsItemMarker) p s.text (λ t. refl) k) may
-agrees-stage bytes (InMarker shape q) _ _ p s r h k d may is = absurd may
+agrees-stage bytes (InMarker shape q) _ _ p s r h fresh k d may is = absurd may
+agrees-stage bytes AtLabel Enter IsPrefix p s r h fresh k d may is =
+    (agrees-step bytes Enter IsPrefix p s r refl tt k d tt is.0, is.1)
+agrees-stage bytes AtLabel Exit IsPrefix p s r h fresh k d may is =
+    (agrees-step bytes Exit IsPrefix p s r refl tt k d tt is.0, is.1)
+agrees-stage bytes AtLabel Enter IsEnding p s r h fresh k d may is = is
+agrees-stage bytes AtLabel Exit IsEnding p s r h fresh k d may is = (
+  agrees-step bytes Exit IsEnding p s r refl tt k d tt is.0,
+  by-ending (λ now. AwaitsLabel now.outer now.here) bytes p r.text r is.1 is.1,
+)
+agrees-stage bytes AtLabel Enter IsQuiet p s r h fresh k d may is = is
+agrees-stage bytes AtLabel Exit IsQuiet p s r h fresh k d may is = is
+agrees-stage bytes AtLabel Enter (Tells AsFootnoteLabel) p s r h fresh k d may is =
+    (agrees-begun p s r (apart bytes Enter (Tells AsFootnoteLabel) p s.text (λ t. refl) k) is.0, is.1)
+agrees-stage bytes AtLabel Exit (Tells AsFootnoteLabel) p s r h fresh k d may is =
+    label-ends bytes p s r s.text r.text is.1 is.0.text
+    (apart bytes Exit (Tells AsFootnoteLabel) p s.text (λ t. refl) k) is.0
+agrees-stage bytes AtLabel _ _ p s r h fresh k d may is = absurd may
 
 -- where no container is open, the lines are those of the tree
 none-opened : (outer : List Around) (a : Around) (arounds : List Around) → outer ≡ a ∷ arounds → outer ≡ [] → ⊥
@@ -388,10 +414,14 @@ none-opened outer a arounds h e =
     let same : depth_of arounds + 1 ≡ 0 = ap depth_of (sym h ∙ e) in
     omega (arith, same)
 
+told-closed : (s : OutlineState) (r : Reading) → r.outer ≡ [] → is_unparted s.text ≡ true → Agrees s r →
+    s.lines ≡ outline 0 r.here
+told-closed s r e k is =
+    text-lines (shown r.outer r.here) s.depth s.lines s.text r.text k is.text ∙ ap (λ outer. shown outer r.here) e
+
 pub lines-closed : (stage : Stage) (s : OutlineState) (r : Reading) → r.outer ≡ [] → is_unparted s.text ≡ true →
     AgreesAt stage s r → s.lines ≡ outline 0 r.here
-lines-closed AllTold s r e k is =
-    text-lines (shown r.outer r.here) s.depth s.lines s.text r.text k is.text ∙ ap (λ outer. shown outer r.here) e
+lines-closed AllTold s r e k is = told-closed s r e k is
 lines-closed (AtItem shape) s r e k is =
     absurd (none-opened r.outer (record { shape = shape; before = is.before }) is.outer is.opened e)
 lines-closed (AtMarker shape) s r e k is =
@@ -402,3 +432,4 @@ lines-closed (InMarker shape q) s r e k is =
     absurd
     (none-opened r.outer (record { shape = ItemShape 0 is.0.digits; before = End })
     (record { shape = shape; before = is.0.before } ∷ is.0.outer) is.0.opened e)
+lines-closed AtLabel s r e k is = told-closed s r e k is.0

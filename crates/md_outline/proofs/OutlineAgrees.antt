@@ -8,10 +8,12 @@ use Rattle.md_engine.specs.declared.event.Kind.{Kind}
 use Rattle.md_engine.specs.declared.event.Kind.TheVariants.{Enter, Exit}
 use Rattle.md_engine.specs.declared.event.Point.{Point}
 use Rattle.md_definition.specs.declared.outline.Word.{Word}
-use Rattle.md_definition.specs.Outline.{Entry, block_entries, entry}
+use Rattle.md_definition.specs.declared.outline.Word.TheVariants as word
+use Rattle.md_definition.specs.Outline.{Entry, block_entries}
 use Rattle.md_seam.specs.Events.Places.{last_line}
 use Rattle.md_definition.specs.Rest.{is_blank}
-use Rattle.md_seam.specs.Events.Spelled.{Around, AsDigits, AsHeading, AsItemMarker, AsMarkers, Holds, IsPrefix}
+use Rattle.md_seam.specs.Events.Spelled.{Around, AsDigits, AsFootnoteLabel, AsHeading, AsItemMarker, AsMarkers}
+use Rattle.md_seam.specs.Events.Spelled.{FootnoteShape, Holds, IsPrefix}
 use Rattle.md_seam.specs.Events.Spelled.{OpenLeaf, Opens, Reading}
 use Rattle.md_seam.specs.Events.Spelled.{Shape, Tells, Text}
 use Rattle.md_seam.specs.Events.Spelled.{after_prefix, at_ending, before_prefix, begun, block_around, block_of, byte_at}
@@ -23,7 +25,9 @@ use Rattle.md_definition.specs.State.{then_block}
 use Rattle.md_definition.specs.Texts.{split_lines}
 use Rattle.md_definition.specs.Tree.{Block, End, Line}
 use Rattle.md_seam.proofs.ThroughoutLemmas.{all-then}
+use Rattle.md_outline.specs.FootnoteState.{container_lines}
 use Rattle.md_outline.specs.HeadingDepths.{are_shallow, fits}
+use Rattle.md_outline.specs.ListsBegin.{AllTold, MayFollow}
 use Rattle.md_outline.specs.Outlined.{begins_line, is_unparted, parts_by}
 use Rattle.md_outline.specs.OutlineSteps.{OutlineState, head_marked, is_titled, leaf_ended, line_ended, parted_at}
 use Rattle.md_outline.specs.OutlineSteps.{state_by, state_enter, state_exit, title_told, told_at, told_leaf}
@@ -43,7 +47,7 @@ use Rattle.md_outline.specs.declared.outline.Span.{Span}
 use Rattle.md_outline.proofs.HeadingLemmas.{fitted-same}
 use Rattle.md_outline.proofs.ClosedTrees.{HaveWords, StaysShown, depth_of, digits-stay, marker-stays, shown}
 use Rattle.md_outline.proofs.ClosedTrees.{shown-then, words-then}
-use Rattle.md_outline.proofs.RoleLemmas.{ByRole, IsBlock, IsShownBy, Knows, by-ending, by-role, knows-line}
+use Rattle.md_outline.proofs.RoleLemmas.{ByRole, IsBlock, IsFresh, IsShownBy, Knows, by-ending, by-role, knows-line}
 use Rattle.md_outline.proofs.RoleLemmas.{knows-noted, note-told}
 use Rattle.md_outline.proofs.TextPieces.{Pieces, pieces-from, pieces-last, pieces-next, pieces-none}
 
@@ -409,28 +413,38 @@ agrees-container bytes shape w p s r by k is = record {
   known = is.known;
   text =
       text-stays (shown r.outer r.here) (shown r.outer (then_block r.here (block_around shape End))) s.depth
-      (s.depth + 1) s.lines (s.lines ++ entry s.depth w ∷ []) s.text r.text
+      (s.depth + 1) s.lines (s.lines ++ container_lines s.depth w) s.text r.text
       k
       (λ same.
-      ap (λ es. es ++ entry s.depth w ∷ []) same
-      ∙ ap (λ d. shown r.outer r.here ++ entry d w ∷ []) is.depth
+      ap (λ es. es ++ container_lines s.depth w) same
+      ∙ ap (λ d. shown r.outer r.here ++ container_lines d w) is.depth
       ∙ ap (λ es. shown r.outer r.here ++ es) (sym (by.line (depth_of r.outer)))
       ∙ sym (shown-then r.outer r.here (block_around shape End) is.words))
       is.text;
 }
 
--- what an event that begins a part, and one that ends a part, leaves
+-- a footnote definition without a label is shown as one begins
+fresh-shown : (label : List ℕ) → label ≡ [] → IsShownBy (FootnoteShape label) word.Footnote
+fresh-shown label fresh = record {
+  line = λ depth. ap (λ l. block_entries depth (block_around (FootnoteShape l) End)) fresh;
+  none = tt;
+}
+
+-- what an event that begins a part leaves, and one that ends a part but the label of a footnote definition
 abbrev AgreesBehind : List ℕ → Point → spelled.Role → Role → Type 0
 AgreesBehind bytes p x y =
-    (s : OutlineState) (r : Reading) → parts_by bytes Enter x p s.text ≡ true → Agrees s r →
+    IsFresh x → (s : OutlineState) (r : Reading) → parts_by bytes Enter x p s.text ≡ true → Agrees s r →
     Agrees (state_enter bytes y p s) (read_enter bytes x p r)
 
 agrees-enter : (bytes : List ℕ) (p : Point) → ByRole (AgreesBehind bytes p)
 agrees-enter bytes p = record {
-  container = λ shape w by s r k is.
+  container = λ shape w by fresh s r k is.
       agrees-container bytes shape w p s r by (apart bytes Enter (Holds shape) p s.text (λ t. refl) k) is;
-  prefix = λ s r k is. agrees-prefix bytes p s r s.text r.text refl is.text k is;
-  begins = λ kind l by s r k is.
+  footnote = λ label fresh s r k is.
+      agrees-container bytes (FootnoteShape label) word.Footnote p s r (fresh-shown label fresh)
+      (apart bytes Enter (Holds (FootnoteShape label)) p s.text (λ t. refl) k) is;
+  prefix = λ fresh s r k is. agrees-prefix bytes p s r s.text r.text refl is.text k is;
+  begins = λ kind l by fresh s r k is.
       record {
         depth = is.depth;
         words = is.words;
@@ -440,25 +454,28 @@ agrees-enter bytes p = record {
         known = by.known;
         text = is.text;
       };
-  block = λ x by s r k is. agrees-begun p s r (apart bytes Enter (Tells x) p s.text (λ t. refl) k) is;
-  markers = λ s r k is. agrees-begun p s r (apart bytes Enter (Tells AsMarkers) p s.text (λ t. refl) k) is;
-  digits = λ s r k is. agrees-begun p s r (apart bytes Enter (Tells AsDigits) p s.text (λ t. refl) k) is;
-  marker = λ s r k is. agrees-begun p s r (apart bytes Enter (Tells AsItemMarker) p s.text (λ t. refl) k) is;
-  ending = λ s r k is. is;
-  quiet = λ s r k is. is;
+  block = λ x by fresh s r k is. agrees-begun p s r (apart bytes Enter (Tells x) p s.text (λ t. refl) k) is;
+  markers = λ fresh s r k is. agrees-begun p s r (apart bytes Enter (Tells AsMarkers) p s.text (λ t. refl) k) is;
+  digits = λ fresh s r k is. agrees-begun p s r (apart bytes Enter (Tells AsDigits) p s.text (λ t. refl) k) is;
+  marker = λ fresh s r k is. agrees-begun p s r (apart bytes Enter (Tells AsItemMarker) p s.text (λ t. refl) k) is;
+  label = λ fresh s r k is. agrees-begun p s r (apart bytes Enter (Tells AsFootnoteLabel) p s.text (λ t. refl) k) is;
+  ending = λ fresh s r k is. is;
+  quiet = λ fresh s r k is. is;
 }
 
 abbrev AgreesEnded : List ℕ → Point → spelled.Role → Role → Type 0
 AgreesEnded bytes p x y =
-    (s : OutlineState) (r : Reading) → parts_by bytes Exit x p s.text ≡ true →
+    MayFollow bytes AllTold Exit x p → (s : OutlineState) (r : Reading) → parts_by bytes Exit x p s.text ≡ true →
     are_shallow (read_exit bytes x p r).here ≡ true → Agrees s r →
     Agrees (state_exit bytes y p s) (read_exit bytes x p r)
 
 agrees-exit : (bytes : List ℕ) (p : Point) → ByRole (AgreesEnded bytes p)
 agrees-exit bytes p = record {
-  container = λ shape w by s r k d is.
+  container = λ shape w by may s r k d is.
       agrees-left s r r.outer refl (apart bytes Exit (Holds shape) p s.text (λ t. refl) k) is;
-  prefix = λ s r k d is. record {
+  footnote = λ label may s r k d is.
+      agrees-left s r r.outer refl (apart bytes Exit (Holds (FootnoteShape label)) p s.text (λ t. refl) k) is;
+  prefix = λ may s r k d is. record {
     depth = is.depth;
     words = is.words;
     untold = is.untold;
@@ -467,24 +484,27 @@ agrees-exit bytes p = record {
     known = is.known;
     text = agrees-gone_on p (shown r.outer r.here) s.depth s.lines s.text r.text is.text;
   };
-  begins = λ kind l by s r k d is.
+  begins = λ kind l by may s r k d is.
       subst (λ leaf. Agrees (leaf_ended leaf s) (finished r.leaf r)) (sym is.leaf)
       (agrees-leaf s r r.leaf (apart bytes Exit (Opens kind) p s.text (λ t. refl) k) d is);
-  block = λ x by s r k d is. agrees-block bytes x p s r s.text r.text by is.text k is;
-  markers = λ s r k d is.
+  block = λ x by may s r k d is. agrees-block bytes x p s r s.text r.text by is.text k is;
+  markers = λ may s r k d is.
       agrees-markers bytes p s r s.text r.text is.text (apart bytes Exit (Tells AsMarkers) p s.text (λ t. refl) k) is;
-  digits = λ s r k d is.
+  digits = λ may s r k d is.
       agrees-digits bytes p s r s.text r.text is.text (apart bytes Exit (Tells AsDigits) p s.text (λ t. refl) k) is;
-  marker = λ s r k d is.
+  marker = λ may s r k d is.
       agrees-marker bytes p s r s.text r.text is.text (apart bytes Exit (Tells AsItemMarker) p s.text (λ t. refl) k) is;
-  ending = λ s r k d is. agrees-ending bytes p s r is;
-  quiet = λ s r k d is. is;
+  label = λ may. absurd may;
+  ending = λ may s r k d is. agrees-ending bytes p s r is;
+  quiet = λ may s r k d is. is;
 }
 
 -- one event
 pub agrees-step : (bytes : List ℕ) (kind : Kind) (x : spelled.Role) (p : Point) (s : OutlineState) (r : Reading) →
-    is_plain x ≡ true → parts_by bytes kind x p s.text ≡ true → are_shallow (read_by bytes kind x p r).here ≡ true →
-    Agrees s r →
+    is_plain x ≡ true → IsFresh x → parts_by bytes kind x p s.text ≡ true →
+    are_shallow (read_by bytes kind x p r).here ≡ true → MayFollow bytes AllTold kind x p → Agrees s r →
     Agrees (state_by bytes kind (shown_as x) p s) (read_by bytes kind x p r)
-agrees-step bytes Enter x p s r h k d is = by-role (AgreesBehind bytes p) x (agrees-enter bytes p) h s r k is
-agrees-step bytes Exit x p s r h k d is = by-role (AgreesEnded bytes p) x (agrees-exit bytes p) h s r k d is
+agrees-step bytes Enter x p s r h fresh k d may is =
+    by-role (AgreesBehind bytes p) x (agrees-enter bytes p) h fresh s r k is
+agrees-step bytes Exit x p s r h fresh k d may is =
+    by-role (AgreesEnded bytes p) x (agrees-exit bytes p) h may s r k d is

@@ -4,7 +4,7 @@ use Rattle.std.proofs.Common.{drop, get_or, slice_range, Result, Ok, Err, refl, 
 use Rattle.std.specs.Prelude.{Option, Some, None, option_map, OnOk}
 use Rattle.std.specs.List.{list_all}
 use Rattle.std.specs.Str.{IsUtf8}
-use Rattle.std.proofs.lemmas.Bool.{and_from, and_parts, true≢false}
+use Rattle.std.proofs.lemmas.Bool.{and_from, and_parts}
 use Rattle.std.proofs.lemmas.List.{at_drop_all, at_drop_more}
 use Rattle.std.proofs.lemmas.List.Elements.{All-get_or}
 use Rattle.std.proofs.lemmas.List.Sums.{AllPass-from_list_all}
@@ -15,19 +15,18 @@ use Rattle.md_engine.specs.declared.event.Point.{Point}
 use Rattle.md_definition.specs.declared.outline.Word.{Word}
 use Rattle.md_definition.specs.declared.outline.Word.TheVariants as word
 use Rattle.md_definition.specs.Outline.{Entry, outline}
-use Rattle.md_seam.specs.Events.Nested.{Balanced}
 use Rattle.md_seam.specs.Events.Spelled.{AsCell, AsDelimiter, AsDestination, AsHeading, AsInfo, AsLabel, AsLine, AsMeta}
 use Rattle.md_seam.specs.Events.Spelled.{AsTitle, Holds, IsCell, IsFence, IsPrefix, IsRow, IsTitle, OfCode}
-use Rattle.md_seam.specs.Events.Spelled.{OfDefinition, OfFence, OfHeadingSetext, OfHtml, OfTable}
+use Rattle.md_seam.specs.Events.Spelled.{OfDefinition, OfFence, OfFrontmatter, OfHeadingSetext, OfHtml, OfTable}
 use Rattle.md_seam.specs.Events.Spelled.{OfMath, OpenLeaf, Opens, OrderedShape, Reading, Shape, Tells, Text}
 use Rattle.md_seam.specs.Events.Spelled.{UnorderedShape, after_prefix, at_ending, before_prefix, begun, block_around}
 use Rattle.md_seam.specs.Events.Spelled.{block_of, byte_at, finished, left, next_line, on_leaf, read, read_by}
 use Rattle.md_seam.specs.Events.Spelled.{read_enter, read_exit, spelled, text_to, unread}
 use Rattle.md_seam.specs.Events.Spelled as spelled
 use Rattle.md_outline.specs.Between.{is_between}
-use Rattle.md_outline.specs.HeadingDepths.{are_shallow, fits}
+use Rattle.md_outline.specs.HeadingDepths.{fits}
 use Rattle.md_outline.specs.ListsBegin.{AllTold, ListsBegin, Stage, stage_by}
-use Rattle.md_outline.specs.Outlined.{IsOutlined, IsUnlisted, are_parted, has_shown_name}
+use Rattle.md_outline.specs.Outlined.{IsOutlined, are_parted, has_shown_name}
 use Rattle.md_outline.specs.Outlined.{has_unlisted_name, parts_by, span_by, tells_between}
 use Rattle.md_outline.specs.OutlineSteps.{BeginsBetween, IsCutAt, OutlineState, before_all, leaf_ended, parted_at}
 use Rattle.md_outline.specs.OutlineSteps.{state_after, state_by, told_at, told_leaf}
@@ -44,10 +43,10 @@ use Rattle.md_outline.specs.declared.outline.role.Purpose.TheVariants as purpose
 use Rattle.md_outline.specs.declared.outline.role.Role.{Role}
 use Rattle.md_outline.specs.declared.outline.Span.{Span}
 use Rattle.md_outline.proofs.BlocksStay.{AllHold, blocks-stay, outer_hold}
-use Rattle.md_outline.proofs.LinedLemmas.{AgreesWithin, agrees-site, sites-closed, span-fenced}
-use Rattle.md_outline.proofs.LinedLemmas.{span-headed, span-line}
+use Rattle.md_outline.proofs.LinedLemmas.{span-fenced, span-headed, span-line}
+use Rattle.md_outline.proofs.LinedSteps.{AgreesWithin, agrees-site, sites-closed}
 use Rattle.md_outline.proofs.OutlineDepths.{all-closed}
-use Rattle.md_outline.proofs.RoleLemmas.{ByRole, by-role}
+use Rattle.md_outline.proofs.RoleLemmas.{ByRole, by-role, role-fresh}
 use Rattle.md_outline.proofs.TabledLemmas.{span-cell}
 use Rattle.md_outline.proofs.TextCuts.{utf8-part}
 
@@ -73,6 +72,7 @@ span-told bytes purpose.Title i (Some span) s e = go (is_titled s.lined)
     go true = refl
     go false = refl
 span-told bytes purpose.Digits i (Some span) s e = refl
+span-told bytes purpose.FootnoteLabel i (Some span) s e = refl
 span-told bytes purpose.Markers i (Some span) s e =
     span-headed s.lined (slice_range bytes span.from i)
     (told_leaf note.Markers (slice_range bytes span.from i) (record s { text = None }))
@@ -96,12 +96,14 @@ SameSpan bytes kind p s x y = (state_by bytes kind y p s).text ≡ span_by kind 
 span-enter : (bytes : List ℕ) (p : Point) (s : OutlineState) → ByRole (SameSpan bytes Enter p s)
 span-enter bytes p s = record {
   container = λ shape w by. refl;
+  footnote = λ label. refl;
   prefix = span-parted bytes p.index s.text s refl;
   begins = λ kind l by. refl;
   block = λ x by. refl;
   markers = refl;
   digits = refl;
   marker = refl;
+  label = refl;
   ending = refl;
   quiet = refl;
 }
@@ -109,12 +111,14 @@ span-enter bytes p s = record {
 span-exit : (bytes : List ℕ) (p : Point) (s : OutlineState) → ByRole (SameSpan bytes Exit p s)
 span-exit bytes p s = record {
   container = λ shape w by. refl;
+  footnote = λ label. refl;
   prefix = refl;
   begins = λ kind l by. span-leaf s.leaf s;
   block = λ x by. span-told bytes purpose.Block p.index s.text s refl;
   markers = span-told bytes purpose.Markers p.index s.text s refl;
   digits = span-told bytes purpose.Digits p.index s.text s refl;
   marker = span-told bytes purpose.Marker p.index s.text s refl;
+  label = span-told bytes purpose.FootnoteLabel p.index s.text s refl;
   ending = span-line bytes p.index s.lined s.text s;
   quiet = refl;
 }
@@ -132,6 +136,7 @@ span-step bytes Enter (Opens OfHtml) p s h = refl
 span-step bytes Enter (Opens OfHeadingSetext) p s h = refl
 span-step bytes Enter (Opens OfDefinition) p s h = refl
 span-step bytes Enter (Opens OfTable) p s h = refl
+span-step bytes Enter (Opens OfFrontmatter) p s h = refl
 span-step bytes Enter IsTitle p s h = refl
 span-step bytes Enter IsRow p s h = refl
 span-step bytes Enter IsCell p s h = span-cell s
@@ -152,6 +157,7 @@ span-step bytes Exit (Opens OfHtml) p s h = refl
 span-step bytes Exit (Opens OfHeadingSetext) p s h = refl
 span-step bytes Exit (Opens OfDefinition) p s h = refl
 span-step bytes Exit (Opens OfTable) p s h = refl
+span-step bytes Exit (Opens OfFrontmatter) p s h = refl
 span-step bytes Exit IsTitle p s h = refl
 span-step bytes Exit IsRow p s h = refl
 span-step bytes Exit IsCell p s h = refl
@@ -193,8 +199,8 @@ agrees-all bytes (e ∷ events) site stage s r h k lists lines d closed is =
     agrees-all bytes events (site_by bytes site e.kind x e.point) (stage_by stage e.kind x e.point)
     (state_by bytes e.kind (shown_as x) e.point s) next
     names.1 parts.1 lists.1 lines.1 d closed
-    (agrees-site bytes site stage e.kind x e.point s r names.0 parts.0 (blocks-stay fits bytes events next d).0
-    lists.0 lines.0 is)
+    (agrees-site bytes site stage e.kind x e.point s r names.0 (role-fresh e.name) parts.0
+    (blocks-stay fits bytes events next d).0 lists.0 lines.0 is)
 
 -- the lines that all events add are those of the tree that they spell out
 pub outline-spelled : (bytes : List ℕ) (events : List Event) → IsOutlined events bytes →
@@ -206,13 +212,7 @@ outline-spelled bytes events out =
     (out.depths, ap (outer_hold fits) closed) closed
     (record { depth = refl; words = tt; untold = refl; lined = refl; leaf = refl; known = tt; text = refl })
 
--- Events without lists.
-
-stays-told : (kind : Kind) (x : spelled.Role) (p : Point) → is_unlisted x ≡ true → stage_by AllTold kind x p ≡ AllTold
-stays-told Enter (Holds OrderedShape) p h = absurd (true≢false (sym h))
-stays-told Enter (Holds UnorderedShape) p h = absurd (true≢false (sym h))
-stays-told Enter _ p h = refl
-stays-told Exit _ p h = refl
+-- Events of no list are shown.
 
 shown-unlisted : (x : spelled.Role) → is_unlisted x ≡ true → is_shown x ≡ true
 shown-unlisted (Holds OrderedShape) h = refl
@@ -226,31 +226,6 @@ names-shown (e ∷ events) h =
     let names = and_parts (has_unlisted_name e) (list_all has_unlisted_name events) h in
     and_from (has_shown_name e) (list_all has_shown_name events) (shown-unlisted (spelled.role e.name) names.0)
     (names-shown events names.1)
-
-lists-none : (bytes : List ℕ) (events : List Event) → list_all has_unlisted_name events ≡ true →
-    ListsBegin bytes AllTold events
-lists-none bytes [] h = tt
-lists-none bytes (e ∷ events) h =
-    let names = and_parts (has_unlisted_name e) (list_all has_unlisted_name events) h in (
-      tt,
-      subst (λ stage. ListsBegin bytes stage events) (sym (stays-told e.kind (spelled.role e.name) e.point names.0))
-          (lists-none bytes events names.1),
-    )
-
--- they are shown as they are
-pub unlisted-outlined : (bytes : List ℕ) (events : List Event) → IsUnlisted events bytes → Balanced events →
-    are_shallow (spelled events bytes) ≡ true → IsOutlined events bytes
-unlisted-outlined bytes events is balanced depths = record {
-  balanced = balanced;
-  names = names-shown events is.names;
-  text = is.text;
-  between = is.between;
-  texts = is.texts;
-  parted = is.parted;
-  lists = lists-none bytes events is.names;
-  lines = is.lines;
-  depths = depths;
-}
 
 -- what holds where a call has answered `Ok` gives what follows from it there
 pub on_ok-map : {A E P Q : Type 0} (r : Result A E) → (P → Q) → OnOk r P → OnOk r Q

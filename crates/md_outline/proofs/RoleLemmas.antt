@@ -1,13 +1,17 @@
 -- What is needed of the blocks that an outline shows, by the kinds of their roles.
 --
 -- What is proved by these names no block.
-use Rattle.std.proofs.Common.{◌≡◌, ℕ, Bool, true, List, [], ◌∷◌, refl, sym, subst, false, cond, length}
+use Rattle.std.proofs.Common.{◌≡◌, ℕ, Bool, true, List, [], refl, sym, subst, false, cond, length}
 use Rattle.std.specs.Prelude.{Option, Some, None, nat_lt}
 use Rattle.std.proofs.lemmas.Bool.{true≢false}
 use Rattle.md_engine.specs.declared.event.Point.{Point}
+use Rattle.md_engine.specs.declared.event.Name.{Name}
+use Rattle.md_engine.specs.declared.event.Name.TheVariants as n
 use Rattle.md_definition.specs.declared.outline.Word.{Word}
-use Rattle.md_definition.specs.Outline.{block_entries, entry}
-use Rattle.md_seam.specs.Events.Spelled.{AsDigits, AsHeading, AsItemMarker, AsMarkers, CodeLeaf, Holds, IsEnding}
+use Rattle.md_definition.specs.declared.outline.Word.TheVariants as word
+use Rattle.md_definition.specs.Outline.{block_entries}
+use Rattle.md_seam.specs.Events.Spelled.{AsDigits, AsFootnoteLabel, AsHeading, AsItemMarker, AsMarkers, CodeLeaf}
+use Rattle.md_seam.specs.Events.Spelled.{FootnoteShape, Holds, IsEnding}
 use Rattle.md_seam.specs.Events.Spelled.{IsPrefix, IsQuiet, LeafKind, OfCode, OfHeadingSetext, OfHtml, OpenLeaf}
 use Rattle.md_seam.specs.Events.Spelled.{Opens, OrderedShape, Reading}
 use Rattle.md_seam.specs.Events.Spelled.{Shape, Tells, Text, UnorderedShape, add_block, at_ending, block_around, fresh}
@@ -16,6 +20,7 @@ use Rattle.md_seam.specs.Events.Spelled as spelled
 use Rattle.md_seam.specs.Events.Told.{OfContainer, OfItself, OfLeaf, Told, block_told, told_of}
 use Rattle.md_seam.proofs.ToldLemmas.{told-block, told-named, told-noted}
 use Rattle.md_definition.specs.Tree.{Block, End, Line}
+use Rattle.md_outline.specs.FootnoteState.{container_lines}
 use Rattle.md_outline.specs.Outlined.{begins_line, parts_exit, piece_to}
 use Rattle.md_outline.specs.Roles.{is_known, is_plain, leaf_of, noted, shown_as, told_as}
 use Rattle.md_outline.specs.declared.outline.role.Leaf.{Leaf}
@@ -49,7 +54,7 @@ knows-line _ k = cc
 
 -- A container that is shown by a word, as it begins, and tells no other.
 pub record IsShownBy (shape : Shape) (w : Word) : Type 0 where
-  pub line : (depth : ℕ) → block_entries depth (block_around shape End) ≡ entry depth w ∷ []
+  pub line : (depth : ℕ) → block_entries depth (block_around shape End) ≡ container_lines depth w
   pub none : HasWord shape End
 
 -- A leaf block, as it begins.
@@ -67,12 +72,14 @@ pub record IsBlock (x : spelled.Purpose) : Type 0 where
 -- headings.
 pub record ByRole (P : spelled.Role → Role → Type 0) : Type 0 where
   pub container : (shape : Shape) (w : Word) → IsShownBy shape w → P (Holds shape) (role.Container w)
+  pub footnote : (label : List ℕ) → P (Holds (FootnoteShape label)) (role.Container word.Footnote)
   pub prefix : P IsPrefix role.Prefix
   pub begins : (kind : LeafKind) (l : Leaf) → IsBegun kind l → P (Opens kind) (role.Leaf l)
   pub block : (x : spelled.Purpose) → IsBlock x → P (Tells x) (role.Text purpose.Block)
   pub markers : P (Tells AsMarkers) (role.Text purpose.Markers)
   pub digits : P (Tells AsDigits) (role.Text purpose.Digits)
   pub marker : P (Tells AsItemMarker) (role.Text purpose.Marker)
+  pub label : P (Tells AsFootnoteLabel) (role.Text purpose.FootnoteLabel)
   pub ending : P IsEnding role.Ending
   pub quiet : P IsQuiet role.Quiet
 
@@ -80,6 +87,7 @@ pub record ByRole (P : spelled.Role → Role → Type 0) : Type 0 where
 pub by-role : (P : spelled.Role → Role → Type 0) (x : spelled.Role) → ByRole P → is_plain x ≡ true → P x (shown_as x)
 by-role P (Holds OrderedShape) by h = absurd (cc)
 by-role P (Holds UnorderedShape) by h = absurd (cc)
+by-role P (Holds (FootnoteShape label)) by h = by.footnote label
 by-role P (Holds _) by h = first_of (cc, search (by.container))
 by-role P IsPrefix by h = by.prefix
 by-role P (Opens OfCode) by h = absurd (cc)
@@ -90,10 +98,20 @@ by-role P (Tells AsHeading) by h = absurd (cc)
 by-role P (Tells AsMarkers) by h = by.markers
 by-role P (Tells AsDigits) by h = by.digits
 by-role P (Tells AsItemMarker) by h = by.marker
+by-role P (Tells AsFootnoteLabel) by h = by.label
 by-role P (Tells _) by h = first_of (cc, search (by.block))
 by-role P IsEnding by h = by.ending
 by-role P IsQuiet by h = by.quiet
 by-role P _ by h = absurd (true≢false (sym h))
+
+-- A footnote definition as it begins has no label yet.
+abbrev pub IsFresh : spelled.Role → Type 0
+IsFresh (Holds (FootnoteShape label)) = label ≡ []
+IsFresh _ = Unit {0}
+
+pub role-fresh : (name : Name) → IsFresh (spelled.role name)
+role-fresh n.GfmFootnoteDefinition = refl
+role-fresh _ = tt
 
 -- Texts and line endings, of all roles.
 

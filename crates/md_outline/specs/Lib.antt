@@ -1,5 +1,6 @@
 pub mod Between
 pub mod DefinitionState
+pub mod FootnoteState
 pub mod HeadingDepths
 pub mod HeadingState
 pub mod LinedState

@@ -1,6 +1,6 @@
 -- What an outline shows of a leaf block of several lines that is open.
 use Rattle.std.specs.Prelude.{ℕ, ◌+◌, ◌-◌, Bool, true, false, List, [], ◌∷◌, length, take, set, get_or, Option}
-use Rattle.std.specs.Prelude.{option_map}
+use Rattle.std.specs.Prelude.{Some, None, option_map}
 use Rattle.md_definition.specs.declared.outline.Word.{Word}
 use Rattle.md_definition.specs.declared.outline.Word.TheVariants as word
 use Rattle.md_definition.specs.Outline.{Entry, entry}
@@ -14,6 +14,7 @@ abbrev pub form_of : Word → Form
 form_of (word.Heading n) = form.Heading
 form_of word.Definition = form.Definition
 form_of (word.Table columns) = form.Table
+form_of (word.Frontmatter marker) = form.Texts
 form_of _ = form.Lines
 
 abbrev pub is_heading : Form → Bool
@@ -23,7 +24,17 @@ is_heading _ = false
 -- each is a line of its own, which a line ending opens
 abbrev pub has_own_lines : Form → Bool
 has_own_lines form.Lines = true
+has_own_lines form.Texts = true
 has_own_lines _ = false
+
+-- the virtual spaces that a line is shown with, of those in front of it
+abbrev pub spaces_of : Form → ℕ → ℕ
+spaces_of form.Texts spaces = 0
+spaces_of _ spaces = spaces
+
+abbrev pub shown_spaces : Option Lined → ℕ → ℕ
+shown_spaces None spaces = spaces
+shown_spaces (Some lined) spaces = spaces_of lined.form spaces
 
 -- it begins: indented code and HTML with their first line, and a definition with that of its label, which are empty yet
 abbrev pub first_lines : ℕ → Word → List Entry
@@ -43,6 +54,7 @@ now_told lined = option_map (λ (l : Lined). record l { is_fenced = true }) line
 abbrev pub marked_word : ℕ → Word → Word
 marked_word b (word.Fence marker closed) = word.Fence b closed
 marked_word b (word.Heading n) = word.Heading (underline_depth b)
+marked_word b (word.Frontmatter marker) = word.Frontmatter b
 marked_word b w = w
 
 -- a further fence closes it

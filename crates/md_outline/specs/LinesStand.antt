@@ -1,7 +1,7 @@
 -- Leaf blocks of several lines as an outline can show them: each has its parts in the order of the grammar, and one
--- piece of text a line at the most. Setext headings and definitions are such leaf blocks, of whose texts each line is
--- one piece, and so are tables (`TableSpots`); what is asked of an ATX heading is that container prefixes stand in front
--- of its text or behind it.
+-- piece of text a line at the most. Frontmatter is such a leaf block, with the parts of fenced code but `info` and
+-- `meta`. So are setext headings and definitions, of whose texts each line is one piece, and tables (`TableSpots`);
+-- what is asked of an ATX heading is that container prefixes stand in front of its text or behind it.
 --
 -- A walk over the events by their roles, which knows where in such a leaf block it is.
 use Rattle.std.specs.Prelude.{◌≡◌, ◌==◌, ℕ, true, false, if◌then◌else◌, nat_lt, List, [], ◌∷◌, length, slice_range}
@@ -14,9 +14,10 @@ use Rattle.md_engine.specs.declared.event.Point.{Point}
 use Rattle.md_definition.specs.Lines.{is_ending}
 use Rattle.md_definition.specs.Texts.{first_byte}
 use Rattle.md_seam.specs.Events.Spelled.{AsCell, AsDelimiter, AsDestination, AsHeading, AsInfo, AsLabel, AsLine}
-use Rattle.md_seam.specs.Events.Spelled.{AsMarkers, AsMeta, AsTitle, IsCell, IsEnding, IsFence, IsPrefix, IsQuiet, IsRow}
-use Rattle.md_seam.specs.Events.Spelled.{IsTitle, LeafKind, OfCode, OfDefinition, OfFence, OfHeadingSetext, OfHtml}
-use Rattle.md_seam.specs.Events.Spelled.{OfMath, OfTable, Opens, Purpose, Role, Tells, byte_at, role}
+use Rattle.md_seam.specs.Events.Spelled.{AsMarkers, AsMeta, AsTitle, IsCell, IsEnding, IsFence, IsPrefix, IsQuiet}
+use Rattle.md_seam.specs.Events.Spelled.{IsRow, IsTitle, LeafKind, OfCode, OfDefinition, OfFence, OfFrontmatter}
+use Rattle.md_seam.specs.Events.Spelled.{OfHeadingSetext, OfHtml, OfMath, OfTable, Opens, Purpose, Role, Tells}
+use Rattle.md_seam.specs.Events.Spelled.{byte_at, role}
 use Rattle.md_outline.specs.TableSpots.{AtHead, MayBe, Spot, spot_by}
 
 -- The parts of a definition that may have several lines.
@@ -82,6 +83,7 @@ begun_site OfHtml = AtLine OfHtml
 begun_site OfHeadingSetext = AtTitle
 begun_site OfDefinition = AtLabel
 begun_site OfTable = InTable AtHead
+begun_site OfFrontmatter = AtMarkers OfFrontmatter
 begun_site kind = Outside
 
 -- behind a line ending, which opens a line if the text goes on
@@ -141,15 +143,21 @@ site_by bytes BehindTitleText Exit IsTitle p = BehindPart NoneLeft
 site_by bytes (InTable spot) kind x p = table_site (spot_by spot kind x)
 site_by bytes site kind x p = site
 
--- which leaf blocks have fences, and which an `info`
+-- which leaf blocks have fences, and which an `info` and a `meta`
 abbrev pub HasFences : LeafKind → Type 0
 HasFences OfFence = Unit {0}
 HasFences OfMath = Unit {0}
+HasFences OfFrontmatter = Unit {0}
 HasFences _ = ⊥
 
 abbrev pub HasInfo : LeafKind → Type 0
 HasInfo OfFence = Unit {0}
 HasInfo _ = ⊥
+
+abbrev pub HasMeta : LeafKind → Type 0
+HasMeta OfFence = Unit {0}
+HasMeta OfMath = Unit {0}
+HasMeta _ = ⊥
 
 -- a leaf block that is open ends as one of several lines
 abbrev pub HasLines : LeafKind → Type 0
@@ -157,6 +165,7 @@ HasLines OfCode = Unit {0}
 HasLines OfFence = Unit {0}
 HasLines OfMath = Unit {0}
 HasLines OfHtml = Unit {0}
+HasLines OfFrontmatter = Unit {0}
 HasLines _ = ⊥
 
 -- a text ends as what it begins as
@@ -191,6 +200,7 @@ MayStand bytes Outside Exit (Opens OfHtml) p = ⊥
 MayStand bytes Outside Exit (Opens OfHeadingSetext) p = ⊥
 MayStand bytes Outside Exit (Opens OfDefinition) p = ⊥
 MayStand bytes Outside Exit (Opens OfTable) p = ⊥
+MayStand bytes Outside Exit (Opens OfFrontmatter) p = ⊥
 MayStand bytes Outside Exit (Tells AsHeading) p = ⊥
 MayStand bytes Outside kind IsFence p = ⊥
 MayStand bytes Outside kind IsTitle p = ⊥
@@ -212,7 +222,7 @@ MayStand bytes (AtMarkers kind) Enter (Tells AsMarkers) p = Unit {0}
 MayStand bytes (InMarkers kind q) Exit (Tells AsMarkers) p =
     (first_byte (slice_range bytes (byte_at q) p.index) == 0) ≡ false
 MayStand bytes (AtInfo kind) Enter (Tells AsInfo) p = HasInfo kind
-MayStand bytes (AtInfo kind) Enter (Tells AsMeta) p = Unit {0}
+MayStand bytes (AtInfo kind) Enter (Tells AsMeta) p = HasMeta kind
 MayStand bytes (AtInfo kind) Exit IsFence p = Unit {0}
 MayStand bytes (AtMeta kind) Enter (Tells AsMeta) p = Unit {0}
 MayStand bytes (AtMeta kind) Exit IsFence p = Unit {0}

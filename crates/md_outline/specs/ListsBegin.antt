@@ -1,6 +1,9 @@
--- Lists whose word an outline can tell: each begins with an item that begins with its marker.
+-- Lists whose word an outline can tell: each begins with an item that begins with its marker. And footnote definitions
+-- whose label it can: each begins with that, in front of its blocks.
 --
--- A walk over the events by their roles, which knows what a list that has begun still has to tell.
+-- A walk over the events by their roles, which knows what a list or a footnote definition that has begun still has to
+-- tell. It asks no more of a footnote definition than the walk over items does (`InLabel` of `ItemsStand`), so it holds
+-- where that does (`listed-outlined`).
 use Rattle.std.specs.Prelude.{◌≡◌, ℕ, Bool, true, false, List, [], ◌∷◌, slice_range}
 use Rattle.md_engine.specs.declared.event.Event.{Event}
 use Rattle.md_engine.specs.declared.event.Kind.{Kind}
@@ -8,7 +11,8 @@ use Rattle.md_engine.specs.declared.event.Kind.TheVariants.{Enter, Exit}
 use Rattle.md_engine.specs.declared.event.Point.{Point}
 use Rattle.md_definition.specs.Containers.{is_bullet}
 use Rattle.md_definition.specs.Texts.{first_byte}
-use Rattle.md_seam.specs.Events.Spelled.{AsDigits, AsItemMarker, Holds, IsQuiet, ItemShape, OrderedShape, Role, Shape}
+use Rattle.md_seam.specs.Events.Spelled.{AsDigits, AsFootnoteLabel, AsItemMarker, FootnoteShape, Holds, IsEnding}
+use Rattle.md_seam.specs.Events.Spelled.{IsPrefix, IsQuiet, ItemShape, OrderedShape, Role, Shape}
 use Rattle.md_seam.specs.Events.Spelled.{Tells, UnorderedShape, byte_at, is_ordered, role}
 
 -- whether a byte is the marker of items of such a list (CommonMark 5.2)
@@ -17,9 +21,9 @@ marks OrderedShape b = is_ordered b
 marks UnorderedShape b = is_bullet b
 marks _ b = false
 
--- What is to come of a list that has begun.
+-- What is to come of a list or a footnote definition that has begun.
 pub data Stage : Type 0 where
-  -- nothing: each list has told its marker
+  -- nothing: each list has told its marker, and each footnote definition its label
   AllTold : Stage
   -- its first item
   AtItem : Shape → Stage
@@ -27,9 +31,13 @@ pub data Stage : Type 0 where
   AtMarker : Shape → Stage
   -- the end of the marker, which begins at this point
   InMarker : Shape → Point → Stage
+  -- the label of a footnote definition, up to its end
+  AtLabel : Stage
 
--- what may stand there: an item whose marker is not told yet, what stands in front of a marker, and one of such a list
+-- what may stand there: an item whose marker is not told yet, what stands in front of a marker, and one of such a list;
+-- and in front of the label of a footnote definition and in it no block begins or ends
 abbrev pub MayFollow : List ℕ → Stage → Kind → Role → Point → Type 0
+MayFollow bytes AllTold kind (Tells AsFootnoteLabel) p = ⊥
 MayFollow bytes AllTold kind x p = Unit {0}
 MayFollow bytes (AtItem shape) Enter (Holds (ItemShape marker digits)) p = marker ≡ 0
 MayFollow bytes (AtItem shape) _ _ p = ⊥
@@ -40,18 +48,26 @@ MayFollow bytes (AtMarker shape) _ _ p = ⊥
 MayFollow bytes (InMarker shape q) Exit (Tells AsItemMarker) p =
     marks shape (first_byte (slice_range bytes (byte_at q) p.index)) ≡ true
 MayFollow bytes (InMarker shape q) _ _ p = ⊥
+MayFollow bytes AtLabel kind IsPrefix p = Unit {0}
+MayFollow bytes AtLabel kind IsEnding p = Unit {0}
+MayFollow bytes AtLabel kind IsQuiet p = Unit {0}
+MayFollow bytes AtLabel kind (Tells AsFootnoteLabel) p = Unit {0}
+MayFollow bytes AtLabel _ _ p = ⊥
 
 -- what is to come behind an event
 abbrev pub stage_by : Stage → Kind → Role → Point → Stage
 stage_by AllTold Enter (Holds OrderedShape) p = AtItem OrderedShape
 stage_by AllTold Enter (Holds UnorderedShape) p = AtItem UnorderedShape
+stage_by AllTold Enter (Holds (FootnoteShape label)) p = AtLabel
 stage_by AllTold _ _ p = AllTold
 stage_by (AtItem shape) kind x p = AtMarker shape
 stage_by (AtMarker shape) Enter (Tells AsItemMarker) p = InMarker shape p
 stage_by (AtMarker shape) _ _ p = AtMarker shape
 stage_by (InMarker shape q) kind x p = AllTold
+stage_by AtLabel Exit (Tells AsFootnoteLabel) p = AllTold
+stage_by AtLabel kind x p = AtLabel
 
--- whether lists begin so from a stage on
+-- whether lists and footnote definitions begin so from a stage on
 abbrev pub ListsBegin : List ℕ → Stage → List Event → Type 0
 ListsBegin bytes stage [] = Unit {0}
 ListsBegin bytes stage (e ∷ es) =

@@ -14,8 +14,9 @@ use Rattle.md_seam.specs.Events.Spelled.{OpenLeaf}
 use Rattle.md_seam.specs.Events.Spelled as spelled
 use Rattle.md_outline.specs.Between.{is_between}
 use Rattle.md_outline.specs.DefinitionState.{destination_told, part_ended, part_parted, part_word}
+use Rattle.md_outline.specs.FootnoteState.{container_lines, label_told}
 use Rattle.md_outline.specs.LinedState.{begin_lines, closed_word, filled_line, form_of, has_own_lines, is_heading}
-use Rattle.md_outline.specs.LinedState.{marked_word, now_told, with_head, without_end}
+use Rattle.md_outline.specs.LinedState.{marked_word, now_told, shown_spaces, with_head, without_end}
 use Rattle.md_outline.specs.ParagraphState.{begin_entries}
 use Rattle.md_outline.specs.Roles.{leaf_entries, leaf_of, noted, shown_as}
 use Rattle.md_outline.specs.TableState.{cell_told, counted_word, with_cell, with_delimiter, with_row}
@@ -146,7 +147,7 @@ told purpose.Title is_shown text s = title_told (is_titled s.lined) text s
 told purpose.Markers is_shown text s = head_marked s.lined text (told_leaf note.Markers text s)
 told (purpose.Part w) is_shown text s = record s { lines = s.lines ++ entry_with (s.depth + 1) w text ∷ [] }
 told purpose.Line is_shown text s =
-    record s { lines = without_end s.lines ++ filled_line (s.depth + 1) s.spaces text ∷ [] }
+    record s { lines = without_end s.lines ++ filled_line (s.depth + 1) (shown_spaces s.lined s.spaces) text ∷ [] }
 told purpose.Label is_shown text s = label_ended is_shown text s
 told purpose.Destination is_shown text s = record s { lines = destination_told (s.depth + 1) text s.lines }
 told purpose.DefinitionTitle is_shown text s =
@@ -155,6 +156,7 @@ told purpose.Cell is_shown text s = record s { lines = cell_told s.depth text s.
 told purpose.Delimiter is_shown text s = delimiter_ended text s
 told purpose.Marker is_shown text s = told_marker text s
 told purpose.Digits is_shown text s = s
+told purpose.FootnoteLabel is_shown text s = record s { lines = label_told s.depth text s.lines }
 
 abbrev pub told_at : List ℕ → Purpose → ℕ → Option Span → OutlineState → OutlineState
 told_at bytes purpose end None s = s
@@ -180,7 +182,7 @@ parted_at bytes end (Some text) s = record s {
 abbrev pub state_enter : List ℕ → Role → Point → OutlineState → OutlineState
 state_enter bytes (role.Container word) p s = record s {
   depth = s.depth + 1;
-  lines = s.lines ++ entry s.depth word ∷ [];
+  lines = s.lines ++ container_lines s.depth word;
 }
 state_enter bytes role.List p s = record s {
   depth = s.depth + 1;

@@ -5,23 +5,26 @@
 --
 -- - A container that is shown by a word: `is_plain` and `shown_as` here, `role_of` in code.
 --   A list is shown with the marker of its first item, which its line is told later: so it is `is_shown` alone, and has
---   `mark` in code, and `ListsBegin` and `ListLemmas`.
+--   `mark` in code, and `ListsBegin` and `ListLemmas`. A footnote definition is shown with its label, whose line is
+--   told its text later: so it has `FootnoteState`, a stage of `ListsBegin`, and `FootnoteLemmas`.
 -- - A leaf block: the same, and what is known of it: `leaf_of` and `is_known` here, `Leaf` with `noted` and `push_leaf`
 --   in code.
 -- - A leaf block of several lines (`has_lines`): `is_unlisted` and `shown_as` here, `role_of` in code; its lines are
 --   shown as they come (`LinedState`), where they may (`LinesStand`), and `LinedLemmas` has what is proved of it. A
 --   setext heading is one, whose lines are those of its text, shown as those of a paragraph (`TitledLemmas`), and so is
 --   a definition, whose lines are those of its label, its destination and its title (`DefinedLemmas`), and a table,
---   whose lines are those of its rows and their cells (`TableSpots`, `TableState`, `TabledLemmas`).
+--   whose lines are those of its rows and their cells (`TableSpots`, `TableState`, `TabledLemmas`). Frontmatter is one
+--   whose lines are shown without virtual spaces.
 -- - A text that tells a leaf block something: the same, and `told_as` here, `Note` in code.
 use Rattle.std.specs.Prelude.{ℕ, Bool, true, false, List, None}
 use Rattle.md_definition.specs.declared.outline.Word.TheVariants as word
 use Rattle.md_definition.specs.Outline.{Entry, block_entries}
-use Rattle.md_seam.specs.Events.Spelled.{AsCell, AsDelimiter, AsDestination, AsDigits, AsHeading, AsInfo, AsItemMarker}
+use Rattle.md_seam.specs.Events.Spelled.{AsCell, AsDelimiter, AsDestination, AsDigits, AsFootnoteLabel, AsHeading}
+use Rattle.md_seam.specs.Events.Spelled.{AsInfo, AsItemMarker}
 use Rattle.md_seam.specs.Events.Spelled.{AsLabel, AsLine, AsMarkers, AsMeta, AsParagraph, AsTitle, BreakLeaf}
-use Rattle.md_seam.specs.Events.Spelled.{HeadingAtxLeaf, Holds, IsCell, IsEnding, IsFence, IsPrefix, IsQuiet, IsRow}
-use Rattle.md_seam.specs.Events.Spelled.{IsTitle, ItemShape, LeafKind, OfBreak, OfCode, OfDefinition, OfFence}
-use Rattle.md_seam.specs.Events.Spelled.{OfHeadingAtx, OfHeadingSetext, OfHtml, OfMath, OfTable}
+use Rattle.md_seam.specs.Events.Spelled.{FootnoteShape, HeadingAtxLeaf, Holds, IsCell, IsEnding, IsFence, IsPrefix}
+use Rattle.md_seam.specs.Events.Spelled.{IsQuiet, IsRow, IsTitle, ItemShape, LeafKind, OfBreak, OfCode, OfDefinition}
+use Rattle.md_seam.specs.Events.Spelled.{OfFence, OfFrontmatter, OfHeadingAtx, OfHeadingSetext, OfHtml, OfMath, OfTable}
 use Rattle.md_seam.specs.Events.Spelled.{OpenLeaf, Opens, OrderedShape, QuoteShape}
 use Rattle.md_seam.specs.Events.Spelled.{Tells, UnorderedShape, block_of}
 use Rattle.md_seam.specs.Events.Spelled as spelled
@@ -37,11 +40,12 @@ use Rattle.md_outline.specs.declared.outline.role.Purpose.TheVariants as purpose
 use Rattle.md_outline.specs.declared.outline.role.Role.{Role}
 use Rattle.md_outline.specs.declared.outline.role.Role.TheVariants as role
 
--- the roles of breaks, ATX headings without their texts, paragraphs, block quotes and items, and of what the tree does
--- not show
+-- the roles of breaks, ATX headings without their texts, paragraphs, block quotes, items and footnote definitions, and
+-- of what the tree does not show
 abbrev pub is_plain : spelled.Role → Bool
 is_plain (Holds QuoteShape) = true
 is_plain (Holds (ItemShape marker digits)) = true
+is_plain (Holds (FootnoteShape label)) = true
 is_plain IsPrefix = true
 is_plain (Opens OfBreak) = true
 is_plain (Opens OfHeadingAtx) = true
@@ -49,6 +53,7 @@ is_plain (Tells AsParagraph) = true
 is_plain (Tells AsMarkers) = true
 is_plain (Tells AsDigits) = true
 is_plain (Tells AsItemMarker) = true
+is_plain (Tells AsFootnoteLabel) = true
 is_plain IsEnding = true
 is_plain IsQuiet = true
 is_plain _ = false
@@ -68,6 +73,7 @@ has_lines OfHtml = true
 has_lines OfHeadingSetext = true
 has_lines OfDefinition = true
 has_lines OfTable = true
+has_lines OfFrontmatter = true
 has_lines _ = false
 
 -- the plain ones, and those of such leaf blocks, their parts, and the texts of headings, definitions and tables: all
@@ -80,6 +86,7 @@ is_unlisted (Opens OfHtml) = true
 is_unlisted (Opens OfHeadingSetext) = true
 is_unlisted (Opens OfDefinition) = true
 is_unlisted (Opens OfTable) = true
+is_unlisted (Opens OfFrontmatter) = true
 is_unlisted IsFence = true
 is_unlisted IsTitle = true
 is_unlisted IsRow = true
@@ -118,6 +125,7 @@ shown_as (Holds QuoteShape) = role.Container word.Quote
 shown_as (Holds OrderedShape) = role.List
 shown_as (Holds UnorderedShape) = role.List
 shown_as (Holds (ItemShape marker digits)) = role.Container word.Item
+shown_as (Holds (FootnoteShape label)) = role.Container word.Footnote
 shown_as IsPrefix = role.Prefix
 shown_as (Opens OfBreak) = role.Leaf leaf.Break
 shown_as (Opens OfHeadingAtx) = role.Leaf (leaf.Heading (record { markers = None; text = None }))
@@ -126,6 +134,7 @@ shown_as (Tells AsMarkers) = role.Text purpose.Markers
 shown_as (Tells AsHeading) = role.Text purpose.Title
 shown_as (Tells AsDigits) = role.Text purpose.Digits
 shown_as (Tells AsItemMarker) = role.Text purpose.Marker
+shown_as (Tells AsFootnoteLabel) = role.Text purpose.FootnoteLabel
 shown_as (Opens OfCode) = role.Lined word.Code
 shown_as (Opens OfFence) = role.Lined (word.Fence 0 false)
 shown_as (Opens OfMath) = role.Lined (word.Math false)
@@ -133,6 +142,7 @@ shown_as (Opens OfHtml) = role.Lined word.Html
 shown_as (Opens OfHeadingSetext) = role.Lined (word.Heading 0)
 shown_as (Opens OfDefinition) = role.Lined word.Definition
 shown_as (Opens OfTable) = role.Lined (word.Table 0)
+shown_as (Opens OfFrontmatter) = role.Lined (word.Frontmatter 0)
 shown_as IsFence = role.Fence
 shown_as IsTitle = role.Title
 shown_as IsRow = role.Row

@@ -5,6 +5,7 @@ ghost use Rattle.std.specs.Str.{IsUtf8};
 ghost use Rattle.md_seam.specs.Events.Spelled as spelled;
 ghost use Rattle.md_outline.specs.Outlined.{Outlines};
 ghost use Rattle.md_outline.specs.DefinitionState.{part_word};
+ghost use Rattle.md_outline.specs.LinedState.{shown_spaces};
 ghost use Rattle.md_outline.specs.OutlineSteps.{IsCutAt, cell_begun, counted_at, delimiter_ended, fence_begun};
 ghost use Rattle.md_outline.specs.OutlineSteps.{head_marked, is_titled, label_ended, leaf_ended};
 ghost use Rattle.md_outline.specs.OutlineSteps.{line_ended, parted_at, state_by, state_enter, state_exit, state_of};
@@ -13,6 +14,7 @@ ghost use Rattle.md_outline.specs.Roles.{shown_as};
 ghost use Rattle.md_outline.specs.declared.outline.Span.{Span};
 
 mod definition;
+mod footnote;
 mod heading;
 mod lined;
 mod lines;
@@ -21,6 +23,7 @@ mod role;
 mod table;
 
 use crate::outline::definition::{fill_destination, part_of, push_part_end, push_part_piece};
+use crate::outline::footnote::{fill_label, push_container};
 use crate::outline::lined::{
     Lined, close_head, fill_line, form_of, mark_head, push_begun, push_line, push_part, spaces_at,
 };
@@ -113,6 +116,16 @@ impl<'a> Reading<'a> {
         match self.lined {
             Some(lined) => part_of(lined.form, lined.is_fenced),
             None => None,
+        }
+    }
+
+    /// The virtual spaces that a line of the leaf block of several lines is shown with.
+    fn shown_spaces(&self) -> usize
+        ensures { result ≡ shown_spaces self.now.lined self.now.spaces }
+    {
+        match self.lined {
+            Some(lined) => lined.form.spaces(self.spaces),
+            None => self.spaces,
         }
     }
 
@@ -264,7 +277,10 @@ impl<'a> Reading<'a> {
                 Ok(())
             }
             Purpose::Part(word) => push_part(&mut self.lines, self.depth, word, text),
-            Purpose::Line => fill_line(&mut self.lines, self.depth, self.spaces, text),
+            Purpose::Line => {
+                let spaces = self.shown_spaces();
+                fill_line(&mut self.lines, self.depth, spaces, text)
+            }
             Purpose::Label => self.end_label(span.is_parted, text),
             Purpose::Destination => fill_destination(&mut self.lines, self.depth, text),
             Purpose::DefinitionTitle => {
@@ -283,6 +299,7 @@ impl<'a> Reading<'a> {
                 Ok(())
             }
             Purpose::Digits => Ok(()),
+            Purpose::FootnoteLabel => fill_label(&mut self.lines, self.depth, text),
         }
     }
 
@@ -331,7 +348,7 @@ impl<'a> Reading<'a> {
     {
         match role {
             Role::Container(word) => {
-                push(&mut self.lines, self.depth, word, "")?;
+                push_container(&mut self.lines, self.depth, word)?;
                 self.depth = next(self.depth)?;
             }
             Role::List => {

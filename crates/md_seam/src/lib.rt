@@ -9,3 +9,4 @@ pub mod plain;
 pub mod slice;
 pub mod space_or_tab;
 pub mod subtokenize;
+pub mod walks;

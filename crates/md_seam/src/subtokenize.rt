@@ -12,7 +12,9 @@ ghost use Rattle.md_seam.specs.Substituted.{Begun, Readings, Substituted, belong
 ghost use Rattle.md_seam.specs.Substituted.{share, stays, wanted};
 
 use crate::inline::Chunk;
+use crate::moving::append;
 pub use crate::names::is_prefix;
+use crate::walks::{Test, passing};
 use md_engine::event::{Content, Event, Kind, Name};
 use md_engine::message::Message;
 use std::alloc::Global;
@@ -63,8 +65,8 @@ struct Found {
 fn chunk_content<R: Reader>(reader: &R, event: &Event) -> Option<Content>
     ensures { result ≡ wanted (R.wants reader.now) event.now }
 {
-    match (event.kind, event.link) {
-        (Kind::Enter, Some(link)) if reader.reads(link.content) => Some(link.content),
+    match (event.link, event.kind) {
+        (Some(link), Kind::Enter) if reader.reads(link.content) => Some(link.content),
         _ => None,
     }
 }
@@ -123,17 +125,26 @@ fn list_chunks<R: Reader>(
     Ok(())
 }
 
+/// Whether an event stays as it is: no chunk that is read begins there.
+#[derive(Drop)]
+struct Stays<'a, R> {
+    reader: &'a R,
+}
+
+impl<R: Reader> Test for Stays<'_, R> {
+    ghost passes = { λ test. stays (R.wants test.reader.now) };
+
+    fn passes(&self, event: &Event) -> bool {
+        chunk_content(self.reader, event).is_none()
+    }
+}
+
 /// How many of the events stay as they are before a chunk begins that is read.
 fn staying<R: Reader>(reader: &R, events: &[Event]) -> usize
     ensures value { result ≡ prefix_len (stays (R.wants reader.now)) events.now }
     ensures within { result ≤ length events.now }
 {
-    for (at, event) in events.iter().enumerate() {
-        if chunk_content(reader, event).is_some() {
-            return at;
-        }
-    }
-    events.len()
+    passing(&Stays { reader }, events)
 }
 
 /// Whether an event belongs to a chunk that ends at the byte `end`, or to one before it: it begins before that byte, or
@@ -255,9 +266,7 @@ pub fn subtokenize<R: Reader>(
             }
             _ => {
                 let many = 1 + staying(reader, &events[at + 1..]);
-                if all.extend_from_slice(&events[at..][..many]).is_err() {
-                    return Err(Message);
-                }
+                append(&mut all, &events[at..][..many])?;
                 at += many;
             }
         }

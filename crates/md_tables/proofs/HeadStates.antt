@@ -1,26 +1,32 @@
 -- Each state of the head of a table keeps what its table needs, and takes one step of what it means.
-use Rattle.std.proofs.Common.{◌≡◌, Bool, List, Option, Some, None, IfSome, refl}
+use Rattle.std.proofs.Common.{◌≡◌, ◌≢◌, Bool, List, Option, Some, None, IfSome, refl, subst, sym}
 use Rattle.md_engine.specs.declared.state.Name.{Name as StateName}
 use Rattle.md_engine.specs.declared.state.Name.TheVariants as n
 use Rattle.md_engine.specs.declared.state.gfm_table.State.TheVariants as its
-use Rattle.md_engine.specs.declared.state.State.TheVariants.{Next}
+use Rattle.md_engine.specs.declared.state.State.{State}
+use Rattle.md_engine.specs.declared.state.State.TheVariants.{Error, Next}
 use Rattle.md_engine.specs.declared.stay.Stay.{Stay}
+use Rattle.md_engine.specs.Going.{SeesOn}
 use Rattle.md_engine.specs.Meaning.{Cell, Feed, Here, Steps}
-use Rattle.md_engine.specs.Run.{reading}
+use Rattle.md_engine.specs.Run.{RunsHere, reading}
 use Rattle.md_engine.specs.Scheme.{Fits, stands}
 use Rattle.md_engine.specs.Standing.{MeansAt, StandsOn}
 use Rattle.md_engine.specs.Staying.{StaysOn}
 use Rattle.md_engine.specs.World.{Setting, World, looks}
 use Rattle.md_engine.proofs.Local.{fits}
+use Rattle.md_engine.proofs.Loops.{call-runs, call-sees}
 use Rattle.md_engine.proofs.StepOf.{Sees, sees, steps-as}
+use Rattle.md_engine.proofs.Walks.{EachKeeps, Within}
 use Rattle.md_seam.specs.Ahead.{HasWhite}
 use Rattle.md_seam.specs.Stays.{TakesEach}
-use Rattle.md_seam.proofs.SpacesGoods.{Does, WhiteFits, does-stands, white_does}
+use Rattle.md_seam.proofs.SpacesGoods.{Does, WhiteFits, does-fall, does-remain, does-setting, does-stands, white_does}
 use Rattle.md_seam.proofs.StaysLemmas.{stays-on}
 use Rattle.md_seam.proofs.WhiteSteps.{white_steps}
 use Rattle.md_tables.specs.HeadStates.{HeadStep, head_behaves, head_owner, head_scheme, head_transition}
-use Rattle.md_tables.specs.Row.{name_at, row_scheme}
+use Rattle.md_tables.specs.Row.{name_at, row_scheme, row_transition}
 use Rattle.md_tables.specs.RowRule.{HasRow, row_behaves}
+use Rattle.md_tables.specs.RowWords.{RowStep}
+use Rattle.md_tables.specs.RowWords.RowStep.{OfRow, OfWhite}
 use Rattle.md_tables.specs.declared.row.Place.{Place}
 use Rattle.md_tables.specs.declared.row.Place.TheVariants as place
 use Rattle.md_tables.specs.declared.row.Row.TheVariants.{Head}
@@ -97,3 +103,39 @@ head-stays name None h = tt
 head-stays name (Some k) h =
     stays-on HeadStep head_scheme name k (head_transition name)
     (λ w to new e k. record { to_is = e; new_is = k }) (head_does name) h
+
+-- what a call of a row does a call of this table does
+pub row-heads : (name : StateName) (w : World) (to : State) (new : World) → RowStep Head name w to new →
+    HeadStep name w to new
+row-heads name w to new (OfRow p named to_is new_is) =
+    subst (λ (x : StateName). HeadStep x w to new) (sym named) (at p to_is new_is)
+  where
+    at : (q : Place) → to ≡ (row_transition Head q w).to → new ≡ (row_transition Head q w).world →
+        HeadStep (name_at Head q) w to new
+    at place.Start e k = record { to_is = e; new_is = k }
+    at place.Break e k = record { to_is = e; new_is = k }
+    at place.Data e k = record { to_is = e; new_is = k }
+    at place.Escape e k = record { to_is = e; new_is = k }
+    at place.CellBefore e k = record { to_is = e; new_is = k }
+row-heads name w to new (OfWhite state named to_is new_is) =
+    subst (λ (x : StateName). HeadStep x w to new) (sym named) (record { to_is = to_is; new_is = new_is })
+
+-- what each call keeps
+pub head-keeps : EachKeeps HeadStep head_scheme
+head-keeps name w to new seen at step =
+    let does = head_does name w seen at in (
+      does-stands head_scheme name w (head_transition name w) to new step.to_is step.new_is does,
+      does-fall head_scheme name w (head_transition name w) to new step.to_is step.new_is does,
+    )
+
+-- one call of a state is a run
+pub head-called : (name : StateName) (w : World) (to : State) (new : World) → w.current ≡ looks w →
+    stands head_scheme w (Next name) → Within w → to ≢ Error → to ≡ (head_transition name w).to →
+    new ≡ (head_transition name w).world →
+    RunsHere HeadStep name w to new × SeesOn to w new
+head-called name w to new seen at within fine to_is new_is =
+    let does = head_does name w seen at in
+    let same : new.setting ≡ w.setting = does-setting head_scheme name w _ _ new_is does in (
+      call-runs HeadStep name w to new (record { to_is = to_is; new_is = new_is }) fine same within,
+      call-sees to w new (does-remain head_scheme name w _ to new to_is new_is does) same seen,
+    )

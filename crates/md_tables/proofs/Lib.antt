@@ -37,3 +37,5 @@ pub mod DelimiterWalk
 pub mod DelimiterRead
 pub mod TableRows
 pub mod RowBecomes
+pub mod PartsWalk
+pub mod Unset

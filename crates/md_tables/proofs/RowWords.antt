@@ -1,138 +1,416 @@
--- Parts of a row of the body that are taken at once are what its states take.
-use Rattle.std.proofs.Common.{◌≡◌, ℕ, ◌<◌, Bool, true, false, ◌∷◌, [], Option, Some, None, refl, sym, ◌∙◌, ap}
+-- Parts of a row that are taken at once are what its states take.
+use Rattle.std.proofs.Common.{◌≡◌, ◌≢◌, ℕ, ◌<◌, ◌≤◌, ◌⊎◌, Bool, true, false, nat_eq, Option, Some, None}
+use Rattle.std.proofs.Common.{IfSome, refl, sym, ◌∙◌, ap, ap₂, arith, inl, inr, is_ok, rules, subst}
+use Rattle.std.specs.Prelude.{OnOk}
+use Rattle.std.proofs.lemmas.Bool.Decides.{nat_tests}
+use Rattle.std.proofs.lemmas.Option.{same_Some}
+use Rattle.std.specs.declared.result.Result.{Result}
+use Rattle.std.specs.declared.result.Result.TheVariants as result
 use Rattle.md_engine.specs.declared.event.Name.TheVariants.{Data}
+use Rattle.md_engine.specs.declared.event.Point.{Point}
+use Rattle.md_engine.specs.declared.state.Name.{Name as StateName}
 use Rattle.md_engine.specs.declared.state.Name.TheVariants as n
+use Rattle.md_engine.specs.declared.state.gfm_table.State.{State as TableState}
 use Rattle.md_engine.specs.declared.state.gfm_table.State.TheVariants as its
 use Rattle.md_engine.specs.declared.state.space_or_tab.State.TheVariants as white
 use Rattle.md_engine.specs.declared.state.State.{State}
-use Rattle.md_engine.specs.declared.state.State.TheVariants.{Error, Nok, Next, Ok, Retry}
-use Rattle.md_engine.specs.Run.{Remains, Runs, reading}
-use Rattle.md_engine.specs.World.{World, looks}
-use Rattle.md_engine.proofs.Loops.{CameTo, not_error}
-use Rattle.md_engine.proofs.Walks.{Within, then-run, then-stays, then-takes, within-more}
+use Rattle.md_engine.specs.declared.state.State.TheVariants.{Error, Nok, Next, Retry}
+use Rattle.md_engine.specs.declared.stay.Stay.TheVariants.{Plain}
+use Rattle.md_engine.specs.Going.{SeesOn}
+use Rattle.md_engine.specs.Run.{Remains, RunsHere, reading}
+use Rattle.md_engine.specs.Scheme.{cells_left}
+use Rattle.md_engine.specs.Staying.{SeesSome, stayed}
+use Rattle.md_engine.specs.Staying.SeesSome.{Nothing, OneMore}
+use Rattle.md_engine.specs.World.{Setting, World, after, looks, looks_at}
+use Rattle.md_engine.proofs.Keeps.{runs-setting}
+use Rattle.md_engine.proofs.Loops.{CameHere, call-sees, came-calls, came-first, came-runs, not_error}
+use Rattle.md_engine.proofs.Loops.{reading-same}
+use Rattle.md_engine.proofs.Points.{cells-fall}
+use Rattle.md_engine.proofs.StayLemmas.{seen-inside, some-falls, some-setting}
+use Rattle.md_engine.proofs.Walks.{TakesSo, Within, then-seen, then-stays, then-takes, then-waits}
 use Rattle.md_definition.specs.Ascii.{pipe}
-use Rattle.md_seam.specs.Events.Nested.{exit}
-use Rattle.md_seam.specs.OneSpace.{IsOneSpace, spaced}
-use Rattle.md_seam.specs.Spaces.{any_size, sees_white, white_then, white_transition}
+use Rattle.md_definition.specs.Rest.{is_white}
+use Rattle.md_leaves.proofs.HeadingWords.{sees-from}
+use Rattle.md_seam.specs.OneSpace.{spaced}
+use Rattle.md_seam.specs.Spaces.{any_size, sees_white, white_then}
+use Rattle.md_seam.specs.Stays.{TakesEach}
 use Rattle.md_seam.specs.Transition.{Transition, entered_link, exited}
 use Rattle.md_seam.proofs.OneSpace.{HasWhite, space-run}
-use Rattle.md_tables.specs.Row.{Piece, at_break_code, at_break_transition, behind_part, cell_before_transition}
-use Rattle.md_tables.specs.Row.{data_code, data_transition, is_text, piece, text_link}
+use Rattle.md_tables.specs.Row.{Piece, at_break_code, begun, behind_part}
+use Rattle.md_tables.specs.Row.{data_code, escape_code, is_text, name_at, piece, piece_of, place_of}
+use Rattle.md_tables.specs.Row.{row_transition, shut, state_at, text_link}
 use Rattle.md_tables.specs.Row.Piece.{Ends, White, Divides, Escapes, Other}
-use Rattle.md_tables.specs.RowWords.{BodyStep, divided}
-use Rattle.md_tables.specs.declared.row.Row.TheVariants.{Body}
+use Rattle.md_tables.specs.RowWords.{Goes, IsGap, Passes, RowStep, divided}
+use Rattle.md_tables.specs.RowWords.IsGap.{NoSpace, OneSpace}
+use Rattle.md_tables.specs.RowWords.RowStep.{OfRow, OfWhite}
+use Rattle.md_tables.specs.declared.row.Place.{Place}
+use Rattle.md_tables.specs.declared.row.Place.TheVariants as place
+use Rattle.md_tables.specs.declared.row.Row.{Row}
+use Rattle.md_tables.specs.declared.row.Row.TheVariants.{Head, Body}
+
+-- From a state of a row one has come to another, which sees what stands here.
+pub record Stood (r : Row) (first : StateName) (old : World) (name : StateName) (w : World) : Type 0 where
+  pub came : CameHere (RowStep r) first old name w
+  pub current : w.current ≡ looks w
+  pub may : (w.point ≡ old.point) ⊎ (w.point.index < w.setting.limit)
+  pub setting : w.setting ≡ old.setting
+
+pub stood-first : (r : Row) (first : StateName) (w : World) → w.current ≡ looks w → Stood r first w first w
+stood-first r first w seen = record {
+  came = came-first (RowStep r) first w;
+  current = seen;
+  may = inl refl;
+  setting = refl;
+}
 
 -- a transition, as a step
-stepped : (a : Transition) (to : State) (new : World) → a ≡ record { to = to; world = new } →
-    (to ≡ a.to) × (new ≡ a.world)
-stepped a to new e = (sym (ap (λ (x : Transition). x.to) e), sym (ap (λ (x : Transition). x.world) e))
+stepped : (r : Row) (p : Place) (w : World) (to : State) (new : World) →
+    row_transition r p w ≡ record { to = to; world = new } → RowStep r (name_at r p) w to new
+stepped r p w to new e =
+    OfRow p refl (sym (ap (λ (x : Transition). x.to) e)) (sym (ap (λ (x : Transition). x.world) e))
 
-has-white : HasWhite BodyStep
-has-white state y to new e = stepped (white_transition state y) to new e
+has-white : (r : Row) → HasWhite (RowStep r)
+has-white r state y to new e =
+    OfWhite state refl (sym (ap (λ (x : Transition). x.to) e)) (sym (ap (λ (x : Transition). x.world) e))
 
--- a pipe is taken, and what stands behind it is seen,
-pipe-step : (w : World) → w.current ≡ Some pipe →
-    BodyStep (n.GfmTable its.BodyRowBreak) w (Next (n.GfmTable its.BodyRowCellBefore)) (divided w)
-pipe-step w is =
-    stepped (at_break_transition Body w) (Next (n.GfmTable its.BodyRowCellBefore)) (divided w)
-    (ap (λ (o : Option ℕ). at_break_code Body w (piece o)) is)
+-- It is passed, or left by one more call.
 
-pub pipe-taken : (is_end : Bool) (s : State) (v w : World) →
-    CameTo BodyStep is_end s v (n.GfmTable its.BodyRowBreak) w → Within w → w.current ≡ Some pipe →
-    (divided w).point.index < w.setting.limit →
-    CameTo BodyStep is_end s v (n.GfmTable its.BodyRowCellBefore) (reading (divided w))
-pipe-taken is_end s v w came within is lt =
-    then-takes BodyStep is_end s v (n.GfmTable its.BodyRowBreak) (n.GfmTable its.BodyRowCellBefore) w (divided w) came
-    (pipe-step w is) refl within lt
+pub stood-passes : (r : Row) (first : StateName) (old : World) (name : StateName) (w : World) →
+    Stood r first old name w → Passes (RowStep r) first old name w
+stood-passes r first old name w h = record {
+  leads =
+      λ to new runs is_end. came-runs (RowStep r) is_end first name old w to new (h.came is_end) (runs is_end);
+  current = h.current;
+  may = h.may;
+  setting = h.setting;
+}
 
--- or waited for
-pub pipe-waits : (is_end : Bool) (s : State) (v w : World) →
-    CameTo BodyStep is_end s v (n.GfmTable its.BodyRowBreak) w → Within w → w.current ≡ Some pipe →
-    Runs BodyStep is_end s v (Next (n.GfmTable its.BodyRowCellBefore)) (divided w)
-pipe-waits is_end s v w came within is =
-    then-run BodyStep is_end s v (n.GfmTable its.BodyRowBreak) w (Next (n.GfmTable its.BodyRowCellBefore)) (divided w)
-    came (pipe-step w is)
-    (not_error (Next (n.GfmTable its.BodyRowCellBefore)) (n.GfmTable its.BodyRowCellBefore) refl) refl within
+sees-on : (to : State) (old w new : World) → SeesOn to w new → new.setting ≡ w.setting →
+    (w.point ≡ old.point) ⊎ (w.point.index < w.setting.limit) → SeesOn to old new
+sees-on to old w new h same may = sees-from to old w new h same may
 
--- one space stands behind a pipe, and the next part of the row begins
-pub cell-begins : (is_end : Bool) (s : State) (v w : World) →
-    CameTo BodyStep is_end s v (n.GfmTable its.BodyRowCellBefore) w → w.current ≡ looks w → Within w →
-    IsOneSpace w → CameTo BodyStep is_end s v (n.GfmTable its.BodyRowBreak) (spaced w)
-cell-begins is_end s v w came seen within one =
-    let here : w.current ≡ Some 32 = seen ∙ one.here in
-    let u : World = (white_then w 1 any_size (Next (n.GfmTable its.BodyRowBreak)) Nok).world in
-    space-run BodyStep is_end s v (n.GfmTable its.BodyRowBreak) w has-white
-    (then-stays BodyStep is_end s v (n.GfmTable its.BodyRowCellBefore) (n.SpaceOrTab white.Start) w u came
-    (stepped (cell_before_transition Body w) (Retry (n.SpaceOrTab white.Start)) u
-    (ap (λ (o : Option ℕ). behind_part Body w (sees_white o)) here)) refl within refl seen) seen within one
+-- what a run keeps of the setting
+kept : (r : Row) (name : StateName) (w : World) (to : State) (new : World) → w.current ≡ looks w →
+    RunsHere (RowStep r) name w to new → new.setting ≡ w.setting
+kept r name w to new seen runs =
+    runs-setting (RowStep r) true (Next name) w to new (runs true (Next name) w refl (reading-same w seen) (inl refl))
 
--- or none does
-pub cell-stays : (is_end : Bool) (s : State) (v w : World) →
-    CameTo BodyStep is_end s v (n.GfmTable its.BodyRowCellBefore) w → w.current ≡ looks w → Within w →
-    sees_white w.current ≡ false → CameTo BodyStep is_end s v (n.GfmTable its.BodyRowBreak) w
-cell-stays is_end s v w came seen within none =
-    then-stays BodyStep is_end s v (n.GfmTable its.BodyRowCellBefore) (n.GfmTable its.BodyRowBreak) w w came
-    (stepped (cell_before_transition Body w) (Retry (n.GfmTable its.BodyRowBreak)) w
-    (ap (λ (x : Bool). behind_part Body w x) none)) refl within refl seen
+-- what is passed and then run is run
+pub passes-runs : (r : Row) (first : StateName) (old : World) (name : StateName) (w : World) (to : State)
+    (new : World) →
+    Passes (RowStep r) first old name w → RunsHere (RowStep r) name w to new → SeesOn to w new →
+    RunsHere (RowStep r) first old to new × SeesOn to old new
+passes-runs r first old name w to new h runs sees = (
+  h.leads to new runs,
+  sees-on to old w new sees (kept r name w to new h.current runs) h.may,
+)
 
--- One space stands behind a word, and the next part of the row begins.
-pub word-ends : (is_end : Bool) (s : State) (v w : World) →
-    CameTo BodyStep is_end s v (n.GfmTable its.BodyRowData) w → w.current ≡ looks w → Within w → IsOneSpace w →
-    CameTo BodyStep is_end s v (n.GfmTable its.BodyRowBreak) (spaced (exited w Data))
-word-ends is_end s v w came seen within one =
-    let here : w.current ≡ Some 32 = seen ∙ one.here in
-    let x : World = exited w Data in
-    let u : World = (white_then x 1 any_size (Next (n.GfmTable its.BodyRowBreak)) Nok).world in
-    space-run BodyStep is_end s v (n.GfmTable its.BodyRowBreak) x has-white
-    (then-stays BodyStep is_end s v (n.GfmTable its.BodyRowData) (n.SpaceOrTab white.Start) w u came
-    (stepped (data_transition Body w) (Retry (n.SpaceOrTab white.Start)) u
-    (ap (λ (o : Option ℕ). data_code Body w (piece o)) here)) refl within refl seen) seen
-    (within-more w.frames w.events (exit Data w.point ∷ []) within)
-    (record { here = one.here; next = one.next; behind = one.behind })
+may-on : (old w new : World) → new.setting ≡ w.setting → (w.point ≡ old.point) ⊎ (w.point.index < w.setting.limit) →
+    (new.point ≡ w.point) ⊎ (new.point.index < new.setting.limit) →
+    (new.point ≡ old.point) ⊎ (new.point.index < new.setting.limit)
+may-on old w new same m (inr lt) = inr lt
+may-on old w new same (inl k) (inl e) = inl (e ∙ k)
+may-on old w new same (inr lt) (inl e) = inr (rw (e, same) lt)
 
--- A word begins.
-pub word-begins : (is_end : Bool) (s : State) (v w : World) →
-    CameTo BodyStep is_end s v (n.GfmTable its.BodyRowBreak) w → w.current ≡ looks w → Within w →
-    is_text (piece w.current) ≡ true →
-    CameTo BodyStep is_end s v (n.GfmTable its.BodyRowData) (entered_link w Data text_link)
-word-begins is_end s v w came seen within text =
-    then-stays BodyStep is_end s v (n.GfmTable its.BodyRowBreak) (n.GfmTable its.BodyRowData) w
-    (entered_link w Data text_link) came
-    (stepped (at_break_transition Body w) (Retry (n.GfmTable its.BodyRowData)) (entered_link w Data text_link)
-    (begins (piece w.current) text)) refl within refl seen
-  where
-    begins : (p : Piece) → is_text p ≡ true →
-        at_break_code Body w p ≡ record { to = Retry (n.GfmTable its.BodyRowData); world = entered_link w Data text_link }
-    begins Ends e = cc
-    begins White e = cc
-    begins Divides e = cc
-    begins Escapes e = refl
-    begins Other e = refl
+pub passes-on : (r : Row) (first : StateName) (old : World) (name : StateName) (w : World) (next : StateName)
+    (new : World) →
+    Passes (RowStep r) first old name w → Passes (RowStep r) name w next new → Passes (RowStep r) first old next new
+passes-on r first old name w next new h k = record {
+  leads = λ to x runs. h.leads to x (k.leads to x runs);
+  current = k.current;
+  may = may-on old w new k.setting h.may k.may;
+  setting = k.setting ∙ h.setting;
+}
+
+-- what goes on from where one has come goes on from the first
+pub goes-on : (r : Row) (first : StateName) (old : World) (name : StateName) (w : World) (result : Option State)
+    (new : World) →
+    Passes (RowStep r) first old name w → Goes r name w result new → Goes r first old result new
+goes-on r first old name w None new h k = passes-on r first old name w (name_at r place.Break) new h k
+goes-on r first old name w (Some to) new h k = λ fine.
+    passes-runs r first old name w to new h (k fine).0 (k fine).1
+
+pub one-goes : (r : Row) (first : StateName) (old : World) (name : StateName) (w : World) (to : State) (new : World) →
+    Stood r first old name w → Within w → RowStep r name w to new → Remains to w new → new.setting ≡ w.setting →
+    to ≢ Error → RunsHere (RowStep r) first old to new × SeesOn to old new
+one-goes r first old name w to new h within step rest same fine = (
+  came-calls (RowStep r) first name old w to new h.came step fine same within,
+  sees-on to old w new (call-sees to w new rest same h.current) same h.may,
+)
+
+-- the end of a row changes no setting
+shut-setting : (r : Row) (w : World) → (shut r w).setting ≡ w.setting
+shut-setting Head w = refl
+shut-setting Body w = refl
 
 -- What a single call leaves.
-part-remains : (w x : World) (y : Bool) → x.point ≡ w.point → x.current ≡ w.current → x.setting ≡ w.setting →
-    Remains (behind_part Body x y).to w (behind_part Body x y).world ×
-    ((behind_part Body x y).world.setting ≡ w.setting)
-part-remains w x true there same text = ((there, same), text)
-part-remains w x false there same text = ((there, same), text)
+part-remains : (r : Row) (w x : World) (y : Bool) → x.point ≡ w.point → x.current ≡ w.current → x.setting ≡ w.setting →
+    Remains (behind_part r x y).to w (behind_part r x y).world × ((behind_part r x y).world.setting ≡ w.setting)
+part-remains r w x true there same text = ((there, same), text)
+part-remains r w x false there same text = ((there, same), text)
 
-pub cell_before-remains : (w : World) (y : Bool) → Remains (behind_part Body w y).to w (behind_part Body w y).world ×
-    ((behind_part Body w y).world.setting ≡ w.setting)
-cell_before-remains w y = part-remains w w y refl refl refl
+pub data-remains : (r : Row) (w : World) (p : Piece) → Remains (data_code r w p).to w (data_code r w p).world ×
+    ((data_code r w p).world.setting ≡ w.setting)
+data-remains r w Ends = ((refl, refl), refl)
+data-remains r w White = ((refl, refl), refl)
+data-remains r w Divides = ((refl, refl), refl)
+data-remains r w Escapes = (tt, refl)
+data-remains r w Other = (tt, refl)
 
-pub data-remains : (w : World) (p : Piece) → Remains (data_code Body w p).to w (data_code Body w p).world ×
-    ((data_code Body w p).world.setting ≡ w.setting)
-data-remains w Ends = ((refl, refl), refl)
-data-remains w White = ((refl, refl), refl)
-data-remains w Divides = ((refl, refl), refl)
-data-remains w Escapes = (tt, refl)
-data-remains w Other = (tt, refl)
+pub escape-remains : (r : Row) (w : World) (b : Bool) → Remains (escape_code r w b).to w (escape_code r w b).world ×
+    ((escape_code r w b).world.setting ≡ w.setting)
+escape-remains r w true = (tt, refl)
+escape-remains r w false = ((refl, refl), refl)
 
-pub at_break-remains : (w : World) (p : Piece) →
-    Remains (at_break_code Body w p).to w (at_break_code Body w p).world ×
-    ((at_break_code Body w p).world.setting ≡ w.setting)
-at_break-remains w Ends = (tt, refl)
-at_break-remains w White = (tt, refl)
-at_break-remains w Divides = (tt, refl)
-at_break-remains w Escapes = ((refl, refl), refl)
-at_break-remains w Other = ((refl, refl), refl)
+pub at_break-remains : (r : Row) (w : World) (p : Piece) →
+    Remains (at_break_code r w p).to w (at_break_code r w p).world × ((at_break_code r w p).world.setting ≡ w.setting)
+at_break-remains r w Ends = (tt, shut-setting r w)
+at_break-remains r w White = (tt, refl)
+at_break-remains r w Divides = (tt, refl)
+at_break-remains r w Escapes = ((refl, refl), refl)
+at_break-remains r w Other = ((refl, refl), refl)
+
+-- what is said of the state and the world that a transition has, of those that are the same
+pub same-step : (P : State → World → Type 0) (a : Transition) (to : State) (new : World) → to ≡ a.to → new ≡ a.world →
+    P a.to a.world → P to new
+same-step P a to new e k h = subst (λ (x : State). P x new) (sym e) (subst (λ (x : World). P a.to x) (sym k) h)
+
+-- Behind a part of a row one space stands or none, and the next part begins.
+gap-came : (r : Row) (first name : StateName) (old w x new : World) → Stood r first old name w → Within w → Within x →
+    x.setting ≡ w.setting → x.point ≡ w.point → x.current ≡ looks x →
+    RowStep r name w (behind_part r x (sees_white x.current)).to (behind_part r x (sees_white x.current)).world →
+    IsGap x new → CameHere (RowStep r) first old (name_at r place.Break) new
+gap-came r first name old w x _ h within inside same there look step (OneSpace one) is_end s v named saw may =
+    let P : Bool → Type 0 = λ b. RowStep r name w (behind_part r x b).to (behind_part r x b).world in
+    let is : sees_white x.current ≡ true = ap sees_white (look ∙ one.here) in
+    let u : World = (white_then x 1 any_size (Next (name_at r place.Break)) Nok).world in
+    space-run (RowStep r) is_end s v (name_at r place.Break) x (has-white r)
+    (then-stays (RowStep r) is_end s v name (n.SpaceOrTab white.Start) w u (h.came is_end s v named saw may)
+    (subst P is step) same within there look) look inside one
+gap-came r first name old w x _ h within inside same there look step (NoSpace none) is_end s v named saw may =
+    let P : Bool → Type 0 = λ b. RowStep r name w (behind_part r x b).to (behind_part r x b).world in
+    then-stays (RowStep r) is_end s v name (name_at r place.Break) w x (h.came is_end s v named saw may)
+    (subst P none step) same within there look
+
+gap-stood : (r : Row) (first name : StateName) (old w x new : World) → Stood r first old name w → Within w → Within x →
+    x.setting ≡ w.setting → x.point ≡ w.point → x.current ≡ looks x →
+    RowStep r name w (behind_part r x (sees_white x.current)).to (behind_part r x (sees_white x.current)).world →
+    IsGap x new → Stood r first old (name_at r place.Break) new
+gap-stood r first name old w x _ h within inside same there look step (OneSpace one) = record {
+  came = gap-came r first name old w x (spaced x) h within inside same there look step (OneSpace one);
+  current = refl;
+  may = inr one.next;
+  setting = same ∙ h.setting;
+}
+gap-stood r first name old w x _ h within inside same there look step (NoSpace none) = record {
+  came = gap-came r first name old w x x h within inside same there look step (NoSpace none);
+  current = look;
+  may = may-on old w x same h.may (inl there);
+  setting = same ∙ h.setting;
+}
+
+pub gap-goes : (r : Row) (first name : StateName) (old w x new : World) (result : Option State) →
+    Stood r first old name w → Within w → Within x → x.setting ≡ w.setting → x.point ≡ w.point →
+    x.current ≡ w.current →
+    RowStep r name w (behind_part r x (sees_white x.current)).to (behind_part r x (sees_white x.current)).world →
+    (result ≡ None → IsGap x new) →
+    IfSome result (λ to. to ≢ Error → to ≡ (behind_part r x (sees_white x.current)).to) →
+    IfSome result (λ to. to ≢ Error → new ≡ (behind_part r x (sees_white x.current)).world) →
+    Goes r first old result new
+gap-goes r first name old w x new None h within inside same there cur step none to_is new_is =
+    let look : x.current ≡ looks x =
+    cur ∙ h.current ∙ ap₂ (λ (y : Setting) (p : Point). looks_at y p) (sym same) (sym there) in
+    stood-passes r first old (name_at r place.Break) new
+    (gap-stood r first name old w x new h within inside same there look step (none refl))
+gap-goes r first name old w x new (Some to) h within inside same there cur step none to_is new_is = λ fine.
+    let a : Transition = behind_part r x (sees_white x.current) in
+    let left = part-remains r w x (sees_white x.current) there cur same in
+    one-goes r first old name w to new h within
+    (same-step (RowStep r name w) a to new (to_is fine) (new_is fine) step)
+    (same-step (λ s y. Remains s w y) a to new (to_is fine) (new_is fine) left.0)
+    (ap (λ (y : World). y.setting) (new_is fine) ∙ left.1) fine
+
+pub gap-falls : (x new : World) → IsGap x new →
+    cells_left new.setting.limit new.point ≤ cells_left x.setting.limit x.point
+gap-falls x _ (OneSpace one) =
+    let less = cells-fall x.setting x.point (seen-inside x.setting x.point 32 one.here) in omega (arith, less)
+gap-falls x _ (NoSpace none) = omega arith
+
+-- A pipe is taken, and what stands behind it is seen,
+pipe-step : (r : Row) (w : World) → w.current ≡ Some pipe →
+    RowStep r (name_at r place.Break) w (Next (name_at r place.CellBefore)) (divided w)
+pipe-step r w is =
+    stepped r place.Break w (Next (name_at r place.CellBefore)) (divided w)
+    (ap (λ (o : Option ℕ). at_break_code r w (piece o)) is)
+
+pub pipe-taken : (r : Row) (first : StateName) (old w : World) → Stood r first old (name_at r place.Break) w →
+    Within w → w.current ≡ Some pipe → (divided w).point.index < w.setting.limit →
+    Stood r first old (name_at r place.CellBefore) (reading (divided w))
+pipe-taken r first old w h within is lt = record {
+  came =
+      λ is_end s v named saw may.
+      then-takes (RowStep r) is_end s v (name_at r place.Break) (name_at r place.CellBefore) w (divided w)
+      (h.came is_end s v named saw may) (pipe-step r w is) refl within lt;
+  current = refl;
+  may = inr lt;
+  setting = h.setting;
+}
+
+-- or waited for
+pub pipe-waits : (r : Row) (first : StateName) (old w : World) → Stood r first old (name_at r place.Break) w →
+    Within w → w.current ≡ Some pipe →
+    RunsHere (RowStep r) first old (Next (name_at r place.CellBefore)) (divided w)
+pipe-waits r first old w h within is =
+    came-calls (RowStep r) first (name_at r place.Break) old w (Next (name_at r place.CellBefore)) (divided w) h.came
+    (pipe-step r w is)
+    (not_error (Next (name_at r place.CellBefore)) (name_at r place.CellBefore) refl) refl within
+
+-- A word begins,
+begins-code : (r : Row) (w : World) (p : Piece) → is_text p ≡ true →
+    at_break_code r w p
+    ≡ record { to = Retry (name_at r place.Data); world = entered_link w Data text_link }
+begins-code r w Ends e = cc
+begins-code r w White e = cc
+begins-code r w Divides e = cc
+begins-code r w Escapes e = refl
+begins-code r w Other e = refl
+
+pub word-begins : (r : Row) (first : StateName) (old w : World) → Stood r first old (name_at r place.Break) w →
+    Within w → is_text (piece w.current) ≡ true →
+    Stood r first old (name_at r place.Data) (entered_link w Data text_link)
+word-begins r first old w h within text = record {
+  came =
+      λ is_end s v named saw may.
+      then-stays (RowStep r) is_end s v (name_at r place.Break) (name_at r place.Data) w (entered_link w Data text_link)
+      (h.came is_end s v named saw may)
+      (stepped r place.Break w (Retry (name_at r place.Data)) (entered_link w Data text_link)
+      (begins-code r w (piece w.current) text)) refl within refl h.current;
+  current = h.current;
+  may = h.may;
+  setting = h.setting;
+}
+
+-- it may be read,
+pub text-inside : (w : World) → w.current ≡ looks w → is_text (piece w.current) ≡ true →
+    w.point.index < w.setting.limit
+text-inside w seen is = go w.current seen is
+  where
+    go : (o : Option ℕ) → o ≡ looks w → is_text (piece o) ≡ true → w.point.index < w.setting.limit
+    go None e k = cc
+    go (Some b) e k = seen-inside w.setting w.point b (sym e)
+
+-- is taken,
+data-takes : (r : Row) → TakesEach Plain (name_at r place.Data) (row_transition r place.Data)
+data-takes r w b e h = ap (data_code r w) (ap piece e ∙ other)
+  where
+    other : piece_of b ≡ Other
+    other = search rules
+
+takes-so : (r : Row) → TakesSo (RowStep r) (name_at r place.Data) Plain
+takes-so r w b e h =
+    stepped r place.Data (reading w) (Next (name_at r place.Data)) (stayed Plain w) (data-takes r (reading w) b e h)
+
+pub word-taken : (r : Row) (first : StateName) (old w u : World) → Stood r first old (name_at r place.Data) w →
+    Within w → SeesSome Plain w u → u.point.index < u.setting.limit →
+    Stood r first old (name_at r place.Data) (reading u)
+word-taken r first old w u h within some lt = record {
+  came =
+      λ is_end s v named saw may.
+      then-seen (RowStep r) is_end s v (name_at r place.Data) Plain w u (takes-so r)
+      (h.came is_end s v named saw may) h.current within some lt;
+  current = refl;
+  may = inr lt;
+  setting = some-setting Plain w u some ∙ h.setting;
+}
+
+-- and waits for more
+pub word-waits : (r : Row) (first : StateName) (old w u : World) → Stood r first old (name_at r place.Data) w →
+    Within w → SeesSome Plain w u → w.point.index < w.setting.limit → u.setting.limit ≤ u.point.index →
+    RunsHere (RowStep r) first old (Next (name_at r place.Data)) u
+word-waits r first old w u h within some lt le = λ is_end s v named saw may.
+    then-waits (RowStep r) is_end s v (name_at r place.Data) Plain w u (takes-so r) (h.came is_end s v named saw may)
+    h.current within some lt le
+
+-- A word that ends lies behind where it began.
+pub word-falls : (w u v : World) → w.current ≡ looks w → is_text (piece w.current) ≡ true → SeesSome Plain w u →
+    v ≡ reading u → is_text (piece v.current) ≡ false →
+    cells_left v.setting.limit v.point < cells_left w.setting.limit w.point
+word-falls w _ v seen text Nothing sees none =
+    let same : w.current ≡ v.current = seen ∙ sym (ap (λ (x : World). x.current) sees) in
+    let no : is_text (piece w.current) ≡ false = ap (λ (o : Option ℕ). is_text (piece o)) same ∙ none in
+    let not_both : true ≡ false = sym text ∙ no in
+    cc
+word-falls w _ v seen text (OneMore u some here) sees none =
+    let before = some-falls Plain w u some in
+    let less = cells-fall u.setting u.point (seen-inside u.setting u.point here.0 here.1) in
+    let same : cells_left v.setting.limit v.point ≡ cells_left u.setting.limit (after u.setting u.point) =
+    ap (λ (x : World). cells_left x.setting.limit x.point) sees in
+    omega (arith, before, less, same)
+
+-- Where a word ends, it is behind a part of the row.
+ends-code : (r : Row) (w : World) (o : Option ℕ) → is_text (piece o) ≡ false →
+    data_code r w (piece o) ≡ behind_part r (exited w Data) (sees_white o)
+ends-code r w None e = refl
+ends-code r w (Some b) e = go (nat_eq b 10) (is_white b) (nat_eq b 124) (nat_eq b 92) refl refl refl refl
+  where
+    go : (x y z v : Bool) → nat_eq b 10 ≡ x → is_white b ≡ y → nat_eq b 124 ≡ z → nat_eq b 92 ≡ v →
+        data_code r w (piece_of b) ≡ behind_part r (exited w Data) (is_white b)
+    go true y z v a k m t =
+        let is : b ≡ 10 = grind (arith, nat_tests) in
+        subst (λ (i : ℕ). data_code r w (piece_of i) ≡ behind_part r (exited w Data) (is_white i)) (sym is) refl
+    go false true z v a k m t = rw (a, k) refl
+    go false false true v a k m t = rw (a, k, m) refl
+    go false false false true a k m t = let no : true ≡ false = rw (a, k, m, t) at e in cc
+    go false false false false a k m t = let no : true ≡ false = rw (a, k, m, t) at e in cc
+
+pub ended-step : (r : Row) (w x : World) → x ≡ exited w Data → is_text (piece w.current) ≡ false →
+    RowStep r (name_at r place.Data) w (behind_part r x (sees_white x.current)).to
+    (behind_part r x (sees_white x.current)).world
+ended-step r w x is none =
+    let P : World → Type 0 = λ y.
+    RowStep r (name_at r place.Data) w (behind_part r y (sees_white y.current)).to
+    (behind_part r y (sees_white y.current)).world in
+    subst P (sym is)
+    (stepped r place.Data w (behind_part r (exited w Data) (sees_white w.current)).to
+    (behind_part r (exited w Data) (sees_white w.current)).world (ends-code r w w.current none))
+
+-- Where a row begins, it is behind a part of it, too.
+pub begun-stays : (r : Row) (w x : World) → x ≡ begun r w →
+    (x.setting ≡ w.setting) × (x.point ≡ w.point) × (x.current ≡ w.current)
+begun-stays Head w x is =
+    (ap (λ (y : World). y.setting) is, ap (λ (y : World). y.point) is, ap (λ (y : World). y.current) is)
+begun-stays Body w x is =
+    (ap (λ (y : World). y.setting) is, ap (λ (y : World). y.point) is, ap (λ (y : World). y.current) is)
+
+pub begun-step : (r : Row) (w x : World) → x ≡ begun r w →
+    RowStep r (name_at r place.Start) w (behind_part r x (sees_white x.current)).to
+    (behind_part r x (sees_white x.current)).world
+begun-step r w x is =
+    let P : World → Type 0 = λ y.
+    RowStep r (name_at r place.Start) w (behind_part r y (sees_white w.current)).to
+    (behind_part r y (sees_white w.current)).world in
+    let Q : Option ℕ → Type 0 = λ o.
+    RowStep r (name_at r place.Start) w (behind_part r x (sees_white o)).to (behind_part r x (sees_white o)).world in
+    subst Q (sym (begun-stays r w x is).2) (subst P (sym is) (OfRow place.Start refl refl refl))
+
+pub on-ok : {T E : Type 0} → (x : Result T E) (P : Type 0) → is_ok x ≡ true → OnOk x P → P
+on-ok (result.Ok v) P e h = h
+on-ok (result.Err v) P e h = cc
+
+pub ahead : {P : Type 0} → (false ≡ true) ⊎ P → P
+ahead (inl e) = cc
+ahead (inr h) = h
+
+-- the state at the place of a state is that state
+pub place-named : (r : Row) (state : TableState) (p : Place) → place_of r state ≡ Some p → state ≡ state_at r p
+place-named Head its.HeadRowBefore p e = ap (state_at Head) (same_Some place.Start p e)
+place-named Head its.HeadRowBreak p e = ap (state_at Head) (same_Some place.Break p e)
+place-named Head its.HeadRowData p e = ap (state_at Head) (same_Some place.Data p e)
+place-named Head its.HeadRowEscape p e = ap (state_at Head) (same_Some place.Escape p e)
+place-named Head its.HeadRowCellBefore p e = ap (state_at Head) (same_Some place.CellBefore p e)
+place-named Body its.BodyRowStart p e = ap (state_at Body) (same_Some place.Start p e)
+place-named Body its.BodyRowBreak p e = ap (state_at Body) (same_Some place.Break p e)
+place-named Body its.BodyRowData p e = ap (state_at Body) (same_Some place.Data p e)
+place-named Body its.BodyRowEscape p e = ap (state_at Body) (same_Some place.Escape p e)
+place-named Body its.BodyRowCellBefore p e = ap (state_at Body) (same_Some place.CellBefore p e)
+place-named r state p e = cc

@@ -11,6 +11,7 @@ use Rattle.md_engine.specs.Place.{IsPlaced}
 use Rattle.md_leaves.proofs.SpannedLemmas.{AtPoint}
 use Rattle.md_seam.specs.Events.Nested.{enter, exit}
 use Rattle.md_seam.specs.Parts.{ArePlaced}
+use Rattle.md_tables.specs.Goes.{in_all}
 use Rattle.md_tables.specs.Tabled.{begins_table, behind, given, in_front, bound_of, next, passes, tabled, tabled_from}
 use Rattle.md_tables.specs.Tabled.{with_cells}
 use Rattle.md_tables.specs.declared.cells.Stage.{Stage}
@@ -19,6 +20,7 @@ use Rattle.md_tables.specs.declared.tables.Bound.{Bound}
 use Rattle.md_tables.specs.declared.tables.Bound.TheVariants.{BeginsRow, BeginsTable, EndsDelimiter, EndsTable, Other}
 use Rattle.md_tables.specs.declared.tables.Section.{Section}
 use Rattle.md_tables.specs.declared.tables.Section.TheVariants.{Between, Body, Head, Outside}
+use Rattle.md_tables.specs.declared.tables.Walk.{Walk}
 use Rattle.md_tables.proofs.CellsLemmas.{GoesOver, one-kept, step-kept}
 
 -- Events that pass.
@@ -87,19 +89,14 @@ tabled-none events all =
     ∙ append-nil (take (length events) events) ∙ take_all (length events) events (omega arith)
 
 -- The walk goes on with events that pass,
-pub walk-copied : (section now : Section) (stage after : Stage) (events old new all : List Event) (at many : ℕ) →
-    new ≡ old ++ take many (drop at events) → now ≡ section → after ≡ stage →
-    many ≡ prefix_len (passes section) (drop at events) →
-    old ++ tabled_from section stage (drop at events) ≡ all →
-    new ++ tabled_from now after (drop (at + many) events) ≡ all
-walk-copied section now stage after events old new all at many is same there count so_far =
+pub walk-copied : (section now : Section) (stage after : Stage) (events old new : List Event) (many : ℕ) →
+    new ≡ old ++ take many events → now ≡ section → after ≡ stage → many ≡ prefix_len (passes section) events →
+    new ++ tabled_from now after (drop many events) ≡ old ++ tabled_from section stage events
+walk-copied section now stage after events old new many is same there count =
     rw (is, same, there)
-    (append_assoc old (take many (drop at events)) (tabled_from section stage (drop (at + many) events))
-    ∙ ap (λ (l : List Event). old ++ (take many (drop at events) ++ tabled_from section stage l))
-    (sym (drop-drop many at events))
-    ∙ ap
-    (λ (n : ℕ). old ++ (take n (drop at events) ++ tabled_from section stage (drop n (drop at events)))) count
-    ∙ ap (λ (l : List Event). old ++ l) (sym (passed-run section stage (drop at events))) ∙ so_far)
+    (append_assoc old (take many events) (tabled_from section stage (drop many events))
+    ∙ ap (λ (n : ℕ). old ++ (take n events ++ tabled_from section stage (drop n events))) count
+    ∙ ap (λ (l : List Event). old ++ l) (sym (passed-run section stage events)))
 
 -- and with the event behind them.
 pub walk-stepped : (section now : Section) (stage after : Stage) (events old new all : List Event) (at : ℕ)
@@ -114,6 +111,12 @@ walk-stepped section now stage after events old new all at d within is same ther
     (tabled_from (next section (bound_of (get_or events at d)))
     (with_cells section stage (get_or events at d) (drop (at + 1) events)).stage (drop (at + 1) events))
     ∙ ap (λ (l : List Event). old ++ tabled_from section stage l) (sym (drop_more events at d within)) ∙ so_far)
+
+-- A step from some place on is one of the whole walk.
+pub walk-goes : (old new : Walk) (events all : List Event) (at many : ℕ) →
+    in_all new (drop many (drop at events)) ≡ in_all old (drop at events) → in_all old (drop at events) ≡ all →
+    in_all new (drop (at + many) events) ≡ all
+walk-goes old new events all at many step so_far = ap (in_all new) (sym (drop-drop many at events)) ∙ step ∙ so_far
 
 -- At the end all is given.
 pub walk-done : (section : Section) (stage : Stage) (events given all : List Event) (at : ℕ) → length events ≤ at →

@@ -2,17 +2,19 @@
 --
 -- A line that meets text may be a delimiter row, which makes the last line of the text a head; one that meets a table
 -- may be one more row of it.
-use Rattle.std.specs.Prelude.{refl, ℕ, Bool, true, false, ◌&&◌, ◌||◌, ◌==◌, nat_lt}
+use Rattle.std.specs.Prelude.{◌≡◌, ◌<◌, refl, ℕ, Bool, true, false, ◌&&◌, ◌||◌, ◌==◌, nat_lt}
 use Rattle.md_engine.specs.declared.configuration.ParseOptions.{ParseOptions}
 use Rattle.md_engine.specs.declared.state.Name.{Name as StateName}
 use Rattle.md_engine.specs.declared.state.Name.TheVariants as n
 use Rattle.md_engine.specs.declared.state.gfm_table.State.{State as TableState}
 use Rattle.md_engine.specs.declared.state.gfm_table.State.TheVariants as its
-use Rattle.md_engine.specs.declared.state.State.TheVariants.{Nok, Retry}
+use Rattle.md_engine.specs.declared.state.State.{State}
+use Rattle.md_engine.specs.declared.state.State.TheVariants.{Next, Nok, Retry}
 use Rattle.md_engine.specs.declared.tokenizer.Scratch.{Scratch}
 use Rattle.md_engine.specs.declared.tokenizer.held_leaf.HeldLeaf.{HeldLeaf}
 use Rattle.md_engine.specs.declared.tokenizer.held_leaf.HeldLeaf.TheVariants as held_leaf
 use Rattle.md_engine.specs.declared.tokenizer.held_leaf.OpenText.{OpenText}
+use Rattle.md_engine.specs.Run.{reading}
 use Rattle.md_engine.specs.Scheme.{Scheme, nowhere, of_owners, ranked}
 use Rattle.md_engine.specs.World.{World}
 use Rattle.md_definition.specs.Ascii.{colon, hyphen, pipe}
@@ -105,3 +107,9 @@ table_owner _ = nowhere
 
 abbrev pub table_scheme : Scheme
 table_scheme = of_owners table_owner
+
+-- An answer names the state that is called next: one that stays at what stands here, or one behind what was taken,
+-- where more stands there and is seen then.
+pub data AnswersWith (to : State) (name : StateName) (w : World) : World → Type 0 where
+  ThatStays : to ≡ Retry name → AnswersWith to name w w
+  ThatTook : to ≡ Next name → w.point.index < w.setting.limit → AnswersWith to name w (reading w)

@@ -3,7 +3,6 @@ use Rattle.std.specs.Prelude.{◌≡◌, List, Option, Some, None}
 use Rattle.md_engine.specs.declared.state.Name.{Name as StateName}
 use Rattle.md_engine.specs.declared.state.Name.TheVariants as n
 use Rattle.md_engine.specs.declared.state.gfm_table.State.{State as TableState}
-use Rattle.md_engine.specs.declared.state.gfm_table.State.TheVariants as its
 use Rattle.md_engine.specs.declared.state.State.{State}
 use Rattle.md_engine.specs.declared.state.State.TheVariants.{Nok}
 use Rattle.md_engine.specs.Meaning.{Behaviour, Cell, Here, Outcome, Refuses}
@@ -12,7 +11,7 @@ use Rattle.md_engine.specs.World.{World}
 use Rattle.md_seam.specs.Ahead.{white_behaves}
 use Rattle.md_seam.specs.Spaces.{white_scheme, white_transition}
 use Rattle.md_seam.specs.Transition.{Transition}
-use Rattle.md_tables.specs.Row.{name_at, row_scheme, row_transition}
+use Rattle.md_tables.specs.Row.{name_at, place_of, row_scheme, row_transition}
 use Rattle.md_tables.specs.RowRule.{row_behaves}
 use Rattle.md_tables.specs.declared.row.Place.{Place}
 use Rattle.md_tables.specs.declared.row.Place.TheVariants as place
@@ -20,12 +19,7 @@ use Rattle.md_tables.specs.declared.row.Row.TheVariants.{Head}
 
 -- where in the head a state stands
 abbrev pub head_place : TableState → Option Place
-head_place its.HeadRowBefore = Some place.Start
-head_place its.HeadRowBreak = Some place.Break
-head_place its.HeadRowData = Some place.Data
-head_place its.HeadRowEscape = Some place.Escape
-head_place its.HeadRowCellBefore = Some place.CellBefore
-head_place _ = None
+head_place state = place_of Head state
 
 abbrev pub scheme_at : Option Place → Scheme
 scheme_at None = nowhere

@@ -39,6 +39,20 @@ state_at Body place.CellBefore = its.BodyRowCellBefore
 abbrev pub name_at : Row → Place → StateName
 name_at r p = n.GfmTable (state_at r p)
 
+-- the place at which a state of a row stands, if it is one
+abbrev pub place_of : Row → TableState → Option Place
+place_of Head its.HeadRowBefore = Some place.Start
+place_of Head its.HeadRowBreak = Some place.Break
+place_of Head its.HeadRowData = Some place.Data
+place_of Head its.HeadRowEscape = Some place.Escape
+place_of Head its.HeadRowCellBefore = Some place.CellBefore
+place_of Body its.BodyRowStart = Some place.Start
+place_of Body its.BodyRowBreak = Some place.Break
+place_of Body its.BodyRowData = Some place.Data
+place_of Body its.BodyRowEscape = Some place.Escape
+place_of Body its.BodyRowCellBefore = Some place.CellBefore
+place_of _ _ = None
+
 -- What stands in a row.
 pub data Piece : Type 0 where
   Ends : Piece

@@ -1,21 +1,47 @@
--- The parts of a row of the body, several at once.
-use Rattle.std.specs.Prelude.{◌≡◌}
+-- Parts of a row that are taken at once, as its states take them one after another.
+use Rattle.std.specs.Prelude.{◌≡◌, ◌≢◌, ◌<◌, ◌⊎◌, false, Option, None, Some}
 use Rattle.md_engine.specs.declared.event.Name.TheVariants.{GfmTableCellDivider}
+use Rattle.md_engine.specs.declared.state.Name.{Name as StateName}
 use Rattle.md_engine.specs.declared.state.Name.TheVariants as n
-use Rattle.md_engine.specs.Run.{Step}
-use Rattle.md_engine.specs.World.{World}
-use Rattle.md_seam.specs.Spaces.{white_transition}
+use Rattle.md_engine.specs.declared.state.space_or_tab.State.{State as WhiteState}
+use Rattle.md_engine.specs.declared.state.State.{State}
+use Rattle.md_engine.specs.declared.state.State.TheVariants.{Error}
+use Rattle.md_engine.specs.Going.{SeesOn}
+use Rattle.md_engine.specs.Run.{RunsHere, Step}
+use Rattle.md_engine.specs.World.{World, looks}
+use Rattle.md_seam.specs.OneSpace.{IsOneSpace, spaced}
+use Rattle.md_seam.specs.Spaces.{sees_white, white_transition}
 use Rattle.md_seam.specs.Transition.{entered, exited, taken}
-use Rattle.md_tables.specs.GfmTable.{table_transition}
+use Rattle.md_tables.specs.Row.{name_at, row_transition}
+use Rattle.md_tables.specs.declared.row.Place.{Place}
+use Rattle.md_tables.specs.declared.row.Place.TheVariants as place
+use Rattle.md_tables.specs.declared.row.Row.{Row}
 
--- what the states of a table do, and those of whitespace
-abbrev pub BodyStep : Step
-BodyStep (n.GfmTable state) w to new =
-    (to ≡ (table_transition state w).to) × (new ≡ (table_transition state w).world)
-BodyStep (n.SpaceOrTab state) w to new =
-    (to ≡ (white_transition state w).to) × (new ≡ (white_transition state w).world)
-BodyStep name w to new = ⊥
+-- what the states of a row do, and those of whitespace
+pub data RowStep (r : Row) (name : StateName) (w : World) (to : State) (new : World) : Type 0 where
+  OfRow : (p : Place) → name ≡ name_at r p → to ≡ (row_transition r p w).to → new ≡ (row_transition r p w).world →
+      RowStep r name w to new
+  OfWhite : (state : WhiteState) → name ≡ n.SpaceOrTab state → to ≡ (white_transition state w).to →
+      new ≡ (white_transition state w).world →
+      RowStep r name w to new
 
 -- the pipe that stands here was taken
 abbrev pub divided : World → World
 divided w = exited (taken (entered w GfmTableCellDivider)) GfmTableCellDivider
+
+-- behind a part of a row: one space was taken, or no whitespace stands here
+pub data IsGap (w : World) : World → Type 0 where
+  OneSpace : IsOneSpace w → IsGap w (spaced w)
+  NoSpace : sees_white w.current ≡ false → IsGap w w
+
+-- From one state another is come to, which sees what stands here: what runs from there runs from the first.
+pub record Passes (T : Step) (first : StateName) (old : World) (name : StateName) (w : World) : Type 0 where
+  pub leads : (to : State) (new : World) → RunsHere T name w to new → RunsHere T first old to new
+  pub current : w.current ≡ looks w
+  pub may : (w.point ≡ old.point) ⊎ (w.point.index < w.setting.limit)
+  pub setting : w.setting ≡ old.setting
+
+-- From a state of a row the next of its parts is come to, or a state with which it is left.
+abbrev pub Goes : Row → StateName → World → Option State → World → Type 0
+Goes r first old None w = Passes (RowStep r) first old (name_at r place.Break) w
+Goes r first old (Some to) w = to ≢ Error → RunsHere (RowStep r) first old to w × SeesOn to old w

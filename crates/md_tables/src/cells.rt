@@ -12,9 +12,9 @@ ghost use Rattle.md_tables.specs.Cells.{ends_inner, ends_row, goes_on, has_white
 ghost use Rattle.md_tables.specs.Cells.{divider_step, ends_with, front_step, gap_step, inner_step, inside_step, last_step};
 ghost use Rattle.md_tables.specs.Cells.{outside_step, piece_step, row_ends, step, within_step};
 
+use crate::giving::{give, give_first, give_last};
 use md_engine::event::{Event, Kind, Name, Point};
 use md_engine::message::Message;
-use plain_grammars::memory::push;
 
 /// What the cells of a row hold.
 #[derive(Clone, Copy)]
@@ -45,7 +45,7 @@ pub enum Stage {
 
 /// Which row begins here, if one does.
 #[inline(always)]
-fn begins_row(event: &Event) -> Option<RowKind>
+pub(crate) fn begins_row(event: &Event) -> Option<RowKind>
     ensures { result ≡ begins_row event.now }
 {
     match (event.kind, event.name) {
@@ -82,7 +82,7 @@ fn ends_divider(event: &Event) -> bool
 
 /// Whether these events are of what the cells of a row hold.
 #[inline(always)]
-fn is_inner(kind: RowKind, name: Name) -> bool
+pub(crate) fn is_inner(kind: RowKind, name: Name) -> bool
     ensures { result ≡ is_inner kind name }
 {
     match kind {
@@ -106,7 +106,7 @@ fn begins_inner(kind: RowKind, event: &Event) -> bool
 
 /// Whether such a piece ends here.
 #[inline(always)]
-fn ends_inner(kind: RowKind, event: &Event) -> bool
+pub(crate) fn ends_inner(kind: RowKind, event: &Event) -> bool
     ensures { result ≡ ends_inner kind event.now }
 {
     matches!(event.kind, Kind::Exit) && is_inner(kind, event.name)
@@ -122,7 +122,7 @@ fn has_white(events: &[Event]) -> bool
 }
 
 /// Whether a row ends here, maybe behind whitespace.
-fn row_ends(events: &[Event]) -> bool
+pub(crate) fn row_ends(events: &[Event]) -> bool
     ensures { result ≡ row_ends events.now }
 {
     let at = if has_white(events) { 2 } else { 0 };
@@ -137,7 +137,7 @@ fn is_last(events: &[Event]) -> bool
 }
 
 /// Whether what a cell holds goes on behind a piece of it.
-fn goes_on(kind: RowKind, events: &[Event]) -> bool
+pub(crate) fn goes_on(kind: RowKind, events: &[Event]) -> bool
     ensures { result ≡ goes_on kind events.now }
 {
     match kind {
@@ -149,7 +149,7 @@ fn goes_on(kind: RowKind, events: &[Event]) -> bool
 }
 
 /// The name of a cell.
-fn cell_name(kind: RowKind) -> Name
+pub(crate) fn cell_name(kind: RowKind) -> Name
     ensures { result ≡ cell_name kind }
 {
     match kind {
@@ -159,7 +159,7 @@ fn cell_name(kind: RowKind) -> Name
 }
 
 /// The name of what it holds.
-fn inner_name(kind: RowKind) -> Name
+pub(crate) fn inner_name(kind: RowKind) -> Name
     ensures { result ≡ inner_name kind }
 {
     match kind {
@@ -194,7 +194,7 @@ impl Walk {
         ensures stage { self.new.stage ≡ stage }
     {
         self.stage = stage;
-        push(&mut self.given, *event)
+        give(&mut self.given, event)
     }
 
     /// Begins a cell.
@@ -203,7 +203,7 @@ impl Walk {
             (self.new.given.items ≡ self.old.given.items ++ enter (cell_name kind) point ∷ []) }
         ensures stage { self.new.stage ≡ self.old.stage }
     {
-        push(&mut self.given, plain(Kind::Enter, cell_name(kind), point))
+        give(&mut self.given, &plain(Kind::Enter, cell_name(kind), point))
     }
 
     /// Ends a cell.
@@ -212,7 +212,7 @@ impl Walk {
             (self.new.given.items ≡ self.old.given.items ++ exit (cell_name kind) point ∷ []) }
         ensures stage { self.new.stage ≡ self.old.stage }
     {
-        push(&mut self.given, plain(Kind::Exit, cell_name(kind), point))
+        give(&mut self.given, &plain(Kind::Exit, cell_name(kind), point))
     }
 
     /// Begins what a cell holds, with this event.
@@ -221,11 +221,9 @@ impl Walk {
             (self.new.given.items ≡ self.old.given.items ++ enter (inner_name kind) event.now.point ∷ event.now ∷ []) }
         ensures stage { OnOk result (self.new.stage ≡ Stage.Inner kind) }
     {
-        push(
-            &mut self.given,
-            plain(Kind::Enter, inner_name(kind), event.point),
-        )?;
-        self.pass(event, Stage::Inner(kind))
+        give_first(&mut self.given, inner_name(kind), event)?;
+        self.stage = Stage::Inner(kind);
+        Ok(())
     }
 
     /// Ends it, behind this event.
@@ -234,11 +232,9 @@ impl Walk {
             (self.new.given.items ≡ self.old.given.items ++ event.now ∷ exit (inner_name kind) event.now.point ∷ []) }
         ensures stage { OnOk result (self.new.stage ≡ Stage.Within kind) }
     {
-        self.pass(event, Stage::Within(kind))?;
-        push(
-            &mut self.given,
-            plain(Kind::Exit, inner_name(kind), event.point),
-        )
+        give_last(&mut self.given, event, inner_name(kind))?;
+        self.stage = Stage::Within(kind);
+        Ok(())
     }
 
     /// Goes on in front of the first cell of a row.

@@ -275,6 +275,7 @@ pub fn stays(state: TableState) -> Option<Stay>
 }
 
 /// Calls a state of a delimiter row.
+#[inline(always)]
 pub fn call(tokenizer: &mut Tokenizer, state: TableState) -> State
     requires { IsAt DelimiterNeeds (StateName.GfmTable state) (world tokenizer.old) }
     ensures to { result ≢ State.Error → result ≡ (delimiter_transition state (world tokenizer.old)).to }

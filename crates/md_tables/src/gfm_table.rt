@@ -6,7 +6,7 @@
 // So a line that meets text is tried as a delimiter row, and one that meets a table as a row of the body. The head itself
 // is read again, once all lines are known.
 
-ghost use Rattle.std.specs.Prelude.{◌≡◌, ◌≢◌, IfSome};
+ghost use Rattle.std.specs.Prelude.{◌≡◌, ◌≢◌, IfSome, None};
 ghost use Rattle.md_engine.specs.World.{world};
 ghost use Rattle.md_engine.specs.declared.state.Name.{Name as StateName};
 ghost use Rattle.md_engine.specs.declared.state.State.{State};
@@ -14,7 +14,8 @@ ghost use Rattle.md_engine.specs.declared.state.gfm_table.State.{State as TableS
 ghost use Rattle.md_seam.specs.Stays.{TakesEach};
 ghost use Rattle.md_seam.specs.Transition.{IsAt};
 ghost use Rattle.md_seam.specs.Look.{may_with};
-ghost use Rattle.md_tables.specs.GfmTable.{TableNeeds, may_begin, may_head, start_transition, table_transition};
+ghost use Rattle.md_tables.specs.GfmTable.{AnswersWith, TableNeeds, may_begin, may_head, start_transition};
+ghost use Rattle.md_tables.specs.GfmTable.{table_transition};
 
 use crate::delimiter;
 use crate::row::{self, Place, Row};
@@ -88,6 +89,7 @@ pub fn stays(state: TableState) -> Option<Stay>
 }
 
 /// Calls a state of a table.
+#[inline(always)]
 pub fn call(tokenizer: &mut Tokenizer, state: TableState) -> State
     requires { IsAt TableNeeds (StateName.GfmTable state) (world tokenizer.old) }
     ensures to { result ≢ State.Error → result ≡ (table_transition state (world tokenizer.old)).to }
@@ -106,5 +108,51 @@ pub fn call(tokenizer: &mut Tokenizer, state: TableState) -> State
         TableState::BodyRowEscape => row::call(tokenizer, Row::Body, Place::Escape),
         TableState::BodyRowCellBefore => row::call(tokenizer, Row::Body, Place::CellBefore),
         _ => delimiter::call(tokenizer, state),
+    }
+}
+
+/// The state of a table that has this name, if it is one.
+#[inline(always)]
+fn table_state(name: StateName) -> Option<TableState>
+    ensures { IfSome result (λ state. name ≡ StateName.GfmTable state) }
+{
+    match name {
+        StateName::GfmTable(state) => Some(state),
+        _ => None,
+    }
+}
+
+/// Whether much may be taken at once where this state of a table goes on.
+#[inline(always)]
+fn may_stay(state: TableState) -> bool {
+    matches!(
+        state,
+        TableState::HeadDelimiterFiller | TableState::BodyRowData
+    )
+}
+
+/// The state of a table that is called at once behind this answer, if there is one: where it stays at what stands here,
+/// or has taken something and more stands behind it, which is seen then.
+#[inline(always)]
+pub fn next(tokenizer: &mut Tokenizer, to: State) -> Option<TableState>
+    ensures none { result ≡ None → world tokenizer.new ≡ world tokenizer.old }
+    ensures some { IfSome result
+        (λ next. AnswersWith to (StateName.GfmTable next) (world tokenizer.old) (world tokenizer.new)) }
+{
+    match to {
+        State::Retry(name) => table_state(name),
+        State::Next(name) => {
+            let Some(next) = table_state(name) else {
+                return None;
+            };
+            if may_stay(next) {
+                return None;
+            }
+            if tokenizer.see_or_wait(false) {
+                return None;
+            }
+            Some(next)
+        }
+        _ => None,
     }
 }

@@ -8,6 +8,8 @@ ghost use Rattle.std.specs.Prelude.{◌≡◌, ◌≢◌, ◌≤◌, ◌++◌, I
 ghost use Rattle.std.specs.List.{prefix_len};
 ghost use Rattle.std.specs.Option.{option_map};
 ghost use Rattle.md_engine.specs.Found.{found_in};
+ghost use Rattle.md_engine.specs.Going.{SeesOn};
+ghost use Rattle.md_engine.specs.Run.{RunsHere};
 ghost use Rattle.md_engine.specs.Place.{IsPlaced};
 ghost use Rattle.md_engine.specs.Scheme.{stands};
 ghost use Rattle.md_engine.specs.World.{looks, world};
@@ -15,12 +17,13 @@ ghost use Rattle.md_engine.specs.declared.state.Name.{Name as StateName};
 ghost use Rattle.md_engine.specs.declared.state.State.{State};
 ghost use Rattle.md_seam.specs.Parts.{ArePlaced};
 ghost use Rattle.md_seam.specs.Stays.{TakesEach};
-ghost use Rattle.md_tables.specs.HeadStates.{head_place, head_scheme, head_transition};
+ghost use Rattle.md_tables.specs.HeadStates.{HeadStep, head_scheme, head_transition};
 ghost use Rattle.md_tables.specs.Heads.{begins_chunk, begins_further_row, has_delimiter, head_line, headed, is_head};
 ghost use Rattle.md_tables.specs.Heads.{meets_table, stops_look};
 
-use crate::row;
-use crate::row::{Place, Row};
+use crate::giving::give;
+use crate::row::{self, Place, Row, place_of};
+use crate::row_words;
 use md_engine::configuration::ParseOptions;
 use md_engine::event::{Event, Kind, Name, Point};
 use md_engine::message::Message;
@@ -34,33 +37,21 @@ use md_engine::tokenizer::Tokenizer;
 use md_seam::moving::append;
 use md_seam::names::is_block;
 use md_seam::space_or_tab;
-use plain_grammars::memory::push;
+use md_seam::walks::{Test, passing};
 use std::alloc::Global;
 
-/// Where in the head a state stands.
-fn head_place(state: TableState) -> Option<Place>
-    ensures { result ≡ head_place state }
-{
-    match state {
-        TableState::HeadRowBefore => Some(Place::Start),
-        TableState::HeadRowBreak => Some(Place::Break),
-        TableState::HeadRowData => Some(Place::Data),
-        TableState::HeadRowEscape => Some(Place::Escape),
-        TableState::HeadRowCellBefore => Some(Place::CellBefore),
-        _ => None,
-    }
-}
-
-/// Calls a state of the table of heads.
+/// Calls a state of the table of heads; parts of a row are taken at once.
+#[inline(always)]
 fn call_state(tokenizer: &mut Tokenizer, name: StateName) -> State
     requires current { (world tokenizer.old).current ≡ looks (world tokenizer.old) }
     requires stands { stands head_scheme (world tokenizer.old) (State.Next name) }
-    ensures to { result ≢ State.Error → result ≡ (head_transition name (world tokenizer.old)).to }
-    ensures world { result ≢ State.Error → world tokenizer.new ≡ (head_transition name (world tokenizer.old)).world }
+    ensures runs { result ≢ State.Error →
+        RunsHere HeadStep name (world tokenizer.old) result (world tokenizer.new) }
+    ensures sees { result ≢ State.Error → SeesOn result (world tokenizer.old) (world tokenizer.new) }
 {
     match name {
-        StateName::GfmTable(state) => match head_place(state) {
-            Some(place) => row::call(tokenizer, Row::Head, place),
+        StateName::GfmTable(state) => match place_of(Row::Head, state) {
+            Some(place) => row_words::call(tokenizer, Row::Head, place),
             None => State::Nok,
         },
         StateName::SpaceOrTab(state) => space_or_tab::call(tokenizer, state),
@@ -193,17 +184,23 @@ pub fn has_delimiter(events: &[Event]) -> bool
     events.iter().any(begins_further_row)
 }
 
+/// Whether no line of text begins at an event.
+struct BeginsNoChunk;
+
+impl Test for BeginsNoChunk {
+    ghost passes = { λ test e. not (begins_chunk e) };
+
+    fn passes(&self, event: &Event) -> bool {
+        !begins_chunk(event)
+    }
+}
+
 /// How many events stand in front of the first line of text.
 fn until_chunk(events: &[Event]) -> usize
     ensures value { result ≡ prefix_len (λ e. not (begins_chunk e)) events.now }
     ensures within { result ≤ length events.now }
 {
-    for (at, event) in events.iter().enumerate() {
-        if begins_chunk(event) {
-            return at;
-        }
-    }
-    events.len()
+    passing(&BeginsNoChunk, events)
 }
 
 /// The events with each head in the place of its chunk, written into `spare`, which is empty.
@@ -230,7 +227,7 @@ pub fn put_heads(
             given = push_head(alloc, bytes, options, first, after, given)?;
             at += 2;
         } else if at < events.len() {
-            push(&mut given, events[at])?;
+            give(&mut given, &events[at])?;
             at += 1;
         }
     }

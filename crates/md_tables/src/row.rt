@@ -17,7 +17,7 @@ ghost use Rattle.md_seam.specs.Spaces.{sees_white};
 ghost use Rattle.md_seam.specs.Stays.{TakesEach};
 ghost use Rattle.md_seam.specs.Transition.{IsAt, NeedsNothing};
 ghost use Rattle.md_tables.specs.Row.{at_break_transition, behind_part, cell_before_transition, data_transition};
-ghost use Rattle.md_tables.specs.Row.{escape_transition, row_transition, start_transition, state_at};
+ghost use Rattle.md_tables.specs.Row.{escape_transition, place_of, row_transition, start_transition, state_at};
 
 use md_engine::event::{Content, Link, Name};
 use md_engine::or_error;
@@ -79,15 +79,35 @@ pub fn state_at(row: Row, place: Place) -> TableState
     }
 }
 
+/// The place at which a state of a row stands, if it is one.
+#[inline(always)]
+pub fn place_of(row: Row, state: TableState) -> Option<Place>
+    ensures { result ≡ place_of row state }
+{
+    match (row, state) {
+        (Row::Head, TableState::HeadRowBefore) => Some(Place::Start),
+        (Row::Head, TableState::HeadRowBreak) => Some(Place::Break),
+        (Row::Head, TableState::HeadRowData) => Some(Place::Data),
+        (Row::Head, TableState::HeadRowEscape) => Some(Place::Escape),
+        (Row::Head, TableState::HeadRowCellBefore) => Some(Place::CellBefore),
+        (Row::Body, TableState::BodyRowStart) => Some(Place::Start),
+        (Row::Body, TableState::BodyRowBreak) => Some(Place::Break),
+        (Row::Body, TableState::BodyRowData) => Some(Place::Data),
+        (Row::Body, TableState::BodyRowEscape) => Some(Place::Escape),
+        (Row::Body, TableState::BodyRowCellBefore) => Some(Place::CellBefore),
+        _ => None,
+    }
+}
+
 /// The name of that state.
-fn name_at(row: Row, place: Place) -> StateName
+pub(crate) fn name_at(row: Row, place: Place) -> StateName
     ensures { result ≡ StateName.GfmTable (state_at row place) }
 {
     StateName::GfmTable(state_at(row, place))
 }
 
 /// Goes on behind a part of the row: behind whitespace, if some stands here.
-fn behind_part(tokenizer: &mut Tokenizer, row: Row) -> State
+pub(crate) fn behind_part(tokenizer: &mut Tokenizer, row: Row) -> State
     ensures to { result ≢ State.Error →
         result ≡ (behind_part row (world tokenizer.old) (sees_white tokenizer.old.current)).to }
     ensures world { result ≢ State.Error →

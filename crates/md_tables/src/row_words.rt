@@ -1,36 +1,61 @@
-// Rows of the body of a table, several parts at once.
+// Rows of a table, several parts at once.
 //
 //     part ::= '|' | word | *space_or_tab
 //
-// Most parts of a row stand alone between single spaces, so what the states do one after another with a pipe, the end of
-// a word and one space is done here in one call. It comes to the same.
+// Most parts of a row stand alone between single spaces. So what the states do one after another with pipes, words and
+// single spaces is done here in one call. It comes to the same.
 
-ghost use Rattle.std.specs.Prelude.{◌≡◌, ◌≢◌, OnOk, Some, true};
+ghost use Rattle.std.specs.Prelude.{◌≡◌, ◌≢◌, ◌<◌, ◌≤◌, IfSome, None, OnOk, Some, false, true};
 ghost use Rattle.md_engine.specs.Going.{SeesOn};
 ghost use Rattle.md_engine.specs.Run.{RunsHere};
+ghost use Rattle.md_engine.specs.Scheme.{cells_left};
+ghost use Rattle.md_engine.specs.Staying.{SeesSome};
 ghost use Rattle.md_engine.specs.World.{looks, world};
-ghost use Rattle.md_engine.specs.declared.state.Name.{Name as StateName};
 ghost use Rattle.md_engine.specs.declared.state.State.{State};
-ghost use Rattle.md_engine.specs.declared.state.gfm_table.State.{State as TableState};
+ghost use Rattle.md_engine.specs.declared.stay.Stay.{Stay};
 ghost use Rattle.md_definition.specs.Ascii.{pipe};
+ghost use Rattle.md_seam.specs.Spaces.{sees_white};
 ghost use Rattle.md_seam.specs.Transition.{IsAt, NeedsNothing};
-ghost use Rattle.md_tables.specs.Row.{is_text, piece};
-ghost use Rattle.md_tables.specs.RowWords.{BodyStep, divided};
+ghost use Rattle.md_tables.specs.Row.{begun, behind_part, is_text, name_at, piece};
+ghost use Rattle.md_tables.specs.RowWords.{Goes, IsGap, RowStep, divided};
 
-use crate::row::{Row, TEXT_LINK, at_break, cell_before, data};
+use crate::row::{Place, Row, TEXT_LINK, at_break, behind_part, data, escape, name_at};
+use md_engine::class::Class;
 use md_engine::event::Name;
 use md_engine::message::Message;
-use md_engine::or_error;
-use md_engine::state::gfm_table::State as TableState;
-use md_engine::state::{Name as StateName, State};
+use md_engine::state::State;
 use md_engine::tokenizer::Tokenizer;
+use md_leaves::further::FURTHER;
 use md_seam::space_or_tab::{is_one_space, is_space_or_tab, take_one_space};
 
 /// Whether a pipe stands here.
+#[inline(always)]
 fn is_pipe(current: Option<u8>) -> bool
     ensures { result ≡ true → current ≡ Some pipe }
 {
     matches!(current, Some(b'|'))
+}
+
+/// Whether text stands here.
+#[inline(always)]
+fn sees_text(current: Option<u8>) -> bool
+    ensures { result ≡ is_text (piece current) }
+{
+    match current {
+        None => false,
+        Some(byte) => !matches!(byte, b'\n' | b' ' | b'\t' | b'|'),
+    }
+}
+
+/// Begins the row.
+#[inline(always)]
+fn begin_row(tokenizer: &mut Tokenizer, row: Row) -> Result<(), Message>
+    ensures { OnOk result (world tokenizer.new ≡ begun row (world tokenizer.old)) }
+{
+    if matches!(row, Row::Body) {
+        tokenizer.enter_link(Name::GfmTable, FURTHER)?;
+    }
+    tokenizer.enter(Name::GfmTableRow)
 }
 
 /// Takes the pipe that stands here.
@@ -45,94 +70,45 @@ fn take_pipe(tokenizer: &mut Tokenizer) -> Result<(), Message>
     tokenizer.exit(Name::GfmTableCellDivider)
 }
 
-/// Whether text stands here.
-fn sees_text(current: Option<u8>) -> bool
-    ensures { result ≡ true → is_text (piece current) ≡ true }
+/// Sees and takes the bytes of a word that stand here and that nothing gives a meaning.
+#[inline(always)]
+fn take_plain(tokenizer: &mut Tokenizer)
+    ensures { SeesSome Stay.Plain (world tokenizer.old) (world tokenizer.new) }
 {
-    match current {
-        None => false,
-        Some(byte) => !matches!(byte, b'\n' | b' ' | b'\t' | b'|'),
+    let index = tokenizer.point.index;
+    tokenizer.consume_all(Class::Plain, tokenizer.limit);
+    if tokenizer.point.index > index {
+        tokenizer.current = Some(tokenizer.bytes[tokenizer.point.index - 1]);
     }
 }
 
-/// Between two parts of a row, or at its end: where a word begins, takes what stands first in it.
-///
-/// ```markdown
-///   | | a |
-///   | | - |
-/// > | | b |
-///     ^ ^ ^
-/// ```
+/// Behind a part of the row: takes one space, or nothing where no whitespace stands here. Where more does, goes on with
+/// that as the states do.
 #[inline(always)]
-fn begin(tokenizer: &mut Tokenizer) -> State
-    requires { IsAt NeedsNothing (StateName.GfmTable TableState.BodyRowBreak) (world tokenizer.old) }
-    ensures runs { result ≢ State.Error →
-        RunsHere BodyStep (StateName.GfmTable TableState.BodyRowBreak) (world tokenizer.old) result
-        (world tokenizer.new) }
-    ensures sees { result ≢ State.Error → SeesOn result (world tokenizer.old) (world tokenizer.new) }
-{
-    if sees_text(tokenizer.current) {
-        or_error!(tokenizer.enter_link(Name::Data, TEXT_LINK));
-        data(tokenizer, Row::Body)
-    } else {
-        at_break(tokenizer, Row::Body)
-    }
-}
-
-/// Behind a pipe: goes on at once behind one space or none.
-///
-/// ```markdown
-///   | | a |
-///   | | - |
-/// > | | b |
-///      ^
-/// ```
-#[inline(always)]
-pub fn cell(tokenizer: &mut Tokenizer) -> State
-    requires { IsAt NeedsNothing (StateName.GfmTable TableState.BodyRowCellBefore) (world tokenizer.old) }
-    ensures runs { result ≢ State.Error →
-        RunsHere BodyStep (StateName.GfmTable TableState.BodyRowCellBefore) (world tokenizer.old) result
-        (world tokenizer.new) }
-    ensures sees { result ≢ State.Error → SeesOn result (world tokenizer.old) (world tokenizer.new) }
+fn gap(tokenizer: &mut Tokenizer, row: Row) -> Option<State>
+    requires { (world tokenizer.old).current ≡ looks (world tokenizer.old) }
+    ensures none { result ≡ None → IsGap (world tokenizer.old) (world tokenizer.new) }
+    ensures to { IfSome result
+        (λ to. to ≢ State.Error →
+        to ≡ (behind_part row (world tokenizer.old) (sees_white tokenizer.old.current)).to) }
+    ensures world { IfSome result
+        (λ to. to ≢ State.Error →
+        world tokenizer.new ≡
+        (behind_part row (world tokenizer.old) (sees_white tokenizer.old.current)).world) }
 {
     if is_one_space(tokenizer) {
-        or_error!(take_one_space(tokenizer));
-        begin(tokenizer)
-    } else if is_space_or_tab(tokenizer.current) {
-        cell_before(tokenizer, Row::Body)
-    } else {
-        begin(tokenizer)
-    }
-}
-
-/// Between two parts of a row, or at its end: goes on at once behind a pipe.
-///
-/// ```markdown
-///   | | a |
-///   | | - |
-/// > | | b |
-///     ^ ^ ^
-/// ```
-#[inline(always)]
-pub fn part(tokenizer: &mut Tokenizer) -> State
-    requires { IsAt NeedsNothing (StateName.GfmTable TableState.BodyRowBreak) (world tokenizer.old) }
-    ensures runs { result ≢ State.Error →
-        RunsHere BodyStep (StateName.GfmTable TableState.BodyRowBreak) (world tokenizer.old) result
-        (world tokenizer.new) }
-    ensures sees { result ≢ State.Error → SeesOn result (world tokenizer.old) (world tokenizer.new) }
-{
-    if is_pipe(tokenizer.current) {
-        or_error!(take_pipe(tokenizer));
-        if tokenizer.see_or_wait(false) {
-            return State::Next(StateName::GfmTable(TableState::BodyRowCellBefore));
+        if take_one_space(tokenizer).is_err() {
+            return Some(State::Error);
         }
-        cell(tokenizer)
+        None
+    } else if is_space_or_tab(tokenizer.current) {
+        Some(behind_part(tokenizer, row))
     } else {
-        begin(tokenizer)
+        None
     }
 }
 
-/// In a word of a cell: where it ends in front of one space, goes on at once behind that.
+/// In a word: where it ends, goes on behind it.
 ///
 /// ```markdown
 ///   | | a  |
@@ -140,18 +116,184 @@ pub fn part(tokenizer: &mut Tokenizer) -> State
 /// > | | bc |
 ///       ^^
 /// ```
-pub fn word(tokenizer: &mut Tokenizer) -> State
-    requires { IsAt NeedsNothing (StateName.GfmTable TableState.BodyRowData) (world tokenizer.old) }
+#[inline(always)]
+fn end_word(tokenizer: &mut Tokenizer, row: Row) -> Option<State>
+    requires { IsAt NeedsNothing (name_at row Place.Data) (world tokenizer.old) }
+    ensures goes { Goes row (name_at row Place.Data) (world tokenizer.old) result (world tokenizer.new) }
+    ensures ends { result ≡ None → is_text (piece (world tokenizer.old).current) ≡ false }
+    ensures falls { result ≡ None →
+        cells_left (world tokenizer.new).setting.limit (world tokenizer.new).point ≤
+        cells_left (world tokenizer.old).setting.limit (world tokenizer.old).point }
+{
+    if sees_text(tokenizer.current) {
+        return Some(data(tokenizer, row));
+    }
+    if tokenizer.exit(Name::Data).is_err() {
+        return Some(State::Error);
+    }
+    gap(tokenizer, row)
+}
+
+/// Before a word: takes it, and goes on behind it.
+///
+/// ```markdown
+///   | | a |
+///   | | - |
+/// > | | b |
+///       ^
+/// ```
+#[inline(always)]
+fn pass_word(tokenizer: &mut Tokenizer, row: Row) -> Option<State>
+    requires at { IsAt NeedsNothing (name_at row Place.Break) (world tokenizer.old) }
+    requires text { is_text (piece (world tokenizer.old).current) ≡ true }
+    ensures goes { Goes row (name_at row Place.Break) (world tokenizer.old) result (world tokenizer.new) }
+    ensures falls { result ≡ None →
+        cells_left (world tokenizer.new).setting.limit (world tokenizer.new).point <
+        cells_left (world tokenizer.old).setting.limit (world tokenizer.old).point }
+{
+    if tokenizer.enter_link(Name::Data, TEXT_LINK).is_err() {
+        return Some(State::Error);
+    }
+    take_plain(tokenizer);
+    if tokenizer.see_or_wait(false) {
+        return Some(State::Next(name_at(row, Place::Data)));
+    }
+    end_word(tokenizer, row)
+}
+
+/// Before a pipe: takes it, and goes on behind it.
+///
+/// ```markdown
+///   | | a |
+///   | | - |
+/// > | | b |
+///     ^   ^
+/// ```
+#[inline(always)]
+fn pass_pipe(tokenizer: &mut Tokenizer, row: Row) -> Option<State>
+    requires at { IsAt NeedsNothing (name_at row Place.Break) (world tokenizer.old) }
+    requires pipe { (world tokenizer.old).current ≡ Some pipe }
+    ensures goes { Goes row (name_at row Place.Break) (world tokenizer.old) result (world tokenizer.new) }
+    ensures falls { result ≡ None →
+        cells_left (world tokenizer.new).setting.limit (world tokenizer.new).point <
+        cells_left (world tokenizer.old).setting.limit (world tokenizer.old).point }
+{
+    if take_pipe(tokenizer).is_err() {
+        return Some(State::Error);
+    }
+    if tokenizer.see_or_wait(false) {
+        return Some(State::Next(name_at(row, Place::CellBefore)));
+    }
+    gap(tokenizer, row)
+}
+
+/// Between two parts of a row, or at its end: takes the next part, and goes on behind it.
+///
+/// ```markdown
+///   | | a |
+///   | | - |
+/// > | | b |
+///     ^ ^ ^
+/// ```
+#[inline(always)]
+fn pass_part(tokenizer: &mut Tokenizer, row: Row) -> Option<State>
+    requires { IsAt NeedsNothing (name_at row Place.Break) (world tokenizer.old) }
+    ensures goes { Goes row (name_at row Place.Break) (world tokenizer.old) result (world tokenizer.new) }
+    ensures falls { result ≡ None →
+        cells_left (world tokenizer.new).setting.limit (world tokenizer.new).point <
+        cells_left (world tokenizer.old).setting.limit (world tokenizer.old).point }
+{
+    if is_pipe(tokenizer.current) {
+        pass_pipe(tokenizer, row)
+    } else if sees_text(tokenizer.current) {
+        pass_word(tokenizer, row)
+    } else {
+        Some(at_break(tokenizer, row))
+    }
+}
+
+/// Between two parts of a row, or at its end: takes all parts that follow.
+///
+/// ```markdown
+///   | | a |
+///   | | - |
+/// > | | b |
+///     ^ ^ ^
+/// ```
+#[inline(always)]
+fn parts(tokenizer: &mut Tokenizer, row: Row) -> State
+    requires { IsAt NeedsNothing (name_at row Place.Break) (world tokenizer.old) }
     ensures runs { result ≢ State.Error →
-        RunsHere BodyStep (StateName.GfmTable TableState.BodyRowData) (world tokenizer.old) result
-        (world tokenizer.new) }
+        RunsHere (RowStep row) (name_at row Place.Break) (world tokenizer.old) result (world tokenizer.new) }
     ensures sees { result ≢ State.Error → SeesOn result (world tokenizer.old) (world tokenizer.new) }
 {
-    if is_one_space(tokenizer) {
-        or_error!(tokenizer.exit(Name::Data));
-        or_error!(take_one_space(tokenizer));
-        part(tokenizer)
-    } else {
-        data(tokenizer, Row::Body)
+    loop {
+        if let Some(state) = pass_part(tokenizer, row) {
+            return state;
+        }
+    }
+}
+
+/// Before a row: begins it, and takes whitespace.
+///
+/// ```markdown
+///   | | a |
+///   | | - |
+/// > | | b |
+///     ^
+/// ```
+#[inline(always)]
+fn begin(tokenizer: &mut Tokenizer, row: Row) -> Option<State>
+    requires { IsAt NeedsNothing (name_at row Place.Start) (world tokenizer.old) }
+    ensures { Goes row (name_at row Place.Start) (world tokenizer.old) result (world tokenizer.new) }
+{
+    if begin_row(tokenizer, row).is_err() {
+        return Some(State::Error);
+    }
+    gap(tokenizer, row)
+}
+
+/// Behind a pipe: takes whitespace.
+///
+/// ```markdown
+///   | | a |
+///   | | - |
+/// > | | b |
+///      ^   ^
+/// ```
+#[inline(always)]
+fn behind_pipe(tokenizer: &mut Tokenizer, row: Row) -> Option<State>
+    requires { IsAt NeedsNothing (name_at row Place.CellBefore) (world tokenizer.old) }
+    ensures { Goes row (name_at row Place.CellBefore) (world tokenizer.old) result (world tokenizer.new) }
+{
+    gap(tokenizer, row)
+}
+
+/// Goes on at a place of a row up to the next of its parts.
+#[inline(always)]
+fn reach(tokenizer: &mut Tokenizer, row: Row, place: Place) -> Option<State>
+    requires { IsAt NeedsNothing (name_at row place) (world tokenizer.old) }
+    ensures { Goes row (name_at row place) (world tokenizer.old) result (world tokenizer.new) }
+{
+    match place {
+        Place::Start => begin(tokenizer, row),
+        Place::Break => None,
+        Place::Data => end_word(tokenizer, row),
+        Place::Escape => Some(escape(tokenizer, row)),
+        Place::CellBefore => behind_pipe(tokenizer, row),
+    }
+}
+
+/// Calls a state of a row, and those that follow it.
+#[inline(always)]
+pub fn call(tokenizer: &mut Tokenizer, row: Row, place: Place) -> State
+    requires { IsAt NeedsNothing (name_at row place) (world tokenizer.old) }
+    ensures runs { result ≢ State.Error →
+        RunsHere (RowStep row) (name_at row place) (world tokenizer.old) result (world tokenizer.new) }
+    ensures sees { result ≢ State.Error → SeesOn result (world tokenizer.old) (world tokenizer.new) }
+{
+    match reach(tokenizer, row, place) {
+        Some(state) => state,
+        None => parts(tokenizer, row),
     }
 }

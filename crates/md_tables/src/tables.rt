@@ -10,22 +10,26 @@
 // The walk looks at each event as it passes it, and in a row at up to four behind it. Outside of tables the events up
 // to the next table are copied at once, and where no table stands nothing is.
 
-ghost use Rattle.std.specs.Prelude.{◌≡◌, ℕ, ◌≤◌, ◌++◌, ◌∷◌, [], IfOk, List, None, OnOk, length};
+ghost use Rattle.std.specs.Prelude.{◌≡◌, ℕ, ◌≤◌, ◌<◌, ◌++◌, ◌∷◌, [], IfOk, List, None, OnOk, drop, false, length, true};
 ghost use Rattle.std.specs.List.{prefix_len};
 ghost use Rattle.std.specs.Option.{option_map};
 ghost use Rattle.md_engine.specs.Found.{found_in};
 ghost use Rattle.md_engine.specs.World.{world};
 ghost use Rattle.md_seam.specs.Parts.{ArePlaced};
-ghost use Rattle.md_tables.specs.Tabled.{behind, given, in_front, bound_of, next, passes, tabled, with_cells};
+ghost use Rattle.md_engine.specs.declared.event.Kind.{Kind};
+ghost use Rattle.md_tables.specs.declared.tables.Bound.{Bound};
+ghost use Rattle.md_tables.specs.Goes.{in_all, in_table};
+ghost use Rattle.md_tables.specs.Tabled.{behind, bound_by, bound_of, given, in_front, next, passes, tabled, with_cells};
 
 use crate::cells;
 use crate::cells::{Stage, plain};
+use crate::giving::give;
 use md_engine::event::{Event, Kind, Name};
 use md_engine::message::Message;
 use md_engine::subtokenize::Subresult;
 use md_engine::tokenizer::Tokenizer;
 use md_seam::moving::append;
-use plain_grammars::memory::push;
+use md_seam::walks::{Test, passing};
 
 /// What an event is to the head and the body of a table.
 #[derive(Clone, Copy)]
@@ -64,6 +68,17 @@ fn bound_of(event: &Event) -> Bound
     }
 }
 
+/// Whether events of this name may be something to the head or the body of a table.
+#[inline(always)]
+fn may_bound(name: Name) -> bool
+    ensures { result ≡ false → (kind : Kind) → bound_by kind name ≡ Bound.Other }
+{
+    matches!(
+        name,
+        Name::GfmTable | Name::GfmTableRow | Name::GfmTableDelimiterRow
+    )
+}
+
 /// The section of a table behind an event.
 fn next(section: Section, bound: Bound) -> Section
     ensures { result ≡ next section bound }
@@ -78,6 +93,13 @@ fn next(section: Section, bound: Bound) -> Section
     }
 }
 
+/// Whether this is in a table.
+fn in_table(section: Section) -> bool
+    ensures { result ≡ in_table section }
+{
+    !matches!(section, Section::Outside)
+}
+
 /// Whether an event passes a section as it is.
 #[inline(always)]
 fn passes(section: Section, event: &Event) -> bool
@@ -86,24 +108,33 @@ fn passes(section: Section, event: &Event) -> bool
     matches!(section, Section::Outside) && !matches!(bound_of(event), Bound::BeginsTable)
 }
 
+/// Whether an event passes a section as it is.
+#[derive(Drop)]
+struct PassesIn {
+    section: Section,
+}
+
+impl Test for PassesIn {
+    ghost passes = { λ test. passes test.section };
+
+    fn passes(&self, event: &Event) -> bool {
+        passes(self.section, event)
+    }
+}
+
 /// How many events stand in front of the first that does not pass a section as it is.
 fn until_other(section: Section, events: &[Event]) -> usize
     ensures value { result ≡ prefix_len (passes section) events.now }
     ensures within { result ≤ length events.now }
 {
-    for (at, event) in events.iter().enumerate() {
-        if !passes(section, event) {
-            return at;
-        }
-    }
-    events.len()
+    passing(&PassesIn { section }, events)
 }
 
 /// A walk over the events: what is given for those so far, and where it stands.
 #[derive(Drop)]
-struct Walk {
-    section: Section,
-    rows: cells::Walk,
+pub(crate) struct Walk {
+    pub(crate) section: Section,
+    pub(crate) rows: cells::Walk,
 }
 
 impl Walk {
@@ -125,13 +156,13 @@ impl Walk {
     {
         match (self.section, bound) {
             (_, Bound::Other) => Ok(()),
-            (Section::Between, Bound::BeginsRow) => push(
+            (Section::Between, Bound::BeginsRow) => give(
                 &mut self.rows.given,
-                plain(Kind::Enter, Name::GfmTableBody, event.point),
+                &plain(Kind::Enter, Name::GfmTableBody, event.point),
             ),
-            (Section::Body, Bound::EndsTable) => push(
+            (Section::Body, Bound::EndsTable) => give(
                 &mut self.rows.given,
-                plain(Kind::Exit, Name::GfmTableBody, event.point),
+                &plain(Kind::Exit, Name::GfmTableBody, event.point),
             ),
             _ => Ok(()),
         }
@@ -146,13 +177,13 @@ impl Walk {
     {
         match (self.section, bound) {
             (_, Bound::Other) => Ok(()),
-            (Section::Outside, Bound::BeginsTable) => push(
+            (Section::Outside, Bound::BeginsTable) => give(
                 &mut self.rows.given,
-                plain(Kind::Enter, Name::GfmTableHead, event.point),
+                &plain(Kind::Enter, Name::GfmTableHead, event.point),
             ),
-            (Section::Head, Bound::EndsDelimiter) => push(
+            (Section::Head, Bound::EndsDelimiter) => give(
                 &mut self.rows.given,
-                plain(Kind::Exit, Name::GfmTableHead, event.point),
+                &plain(Kind::Exit, Name::GfmTableHead, event.point),
             ),
             _ => Ok(()),
         }
@@ -183,12 +214,47 @@ impl Walk {
         ensures stage { OnOk result
             (self.new.rows.stage ≡ (with_cells self.old.section self.old.rows.stage event.now behind.now).stage) }
     {
+        if !may_bound(event.name) {
+            return self.put(event, behind);
+        }
         let bound = bound_of(event);
         self.put_in_front(bound, event)?;
         self.put(event, behind)?;
         self.put_behind(bound, event)?;
         self.section = next(self.section, bound);
         Ok(())
+    }
+
+    /// Goes on up to behind the begin of the next table, and says how many events that are.
+    fn outside(&mut self, events: &[Event]) -> Result<usize, Message>
+        requires { 0 < length events.now }
+        ensures some { IfOk result (λ many. 0 < many) }
+        ensures within { IfOk result (λ many. many ≤ length events.now) }
+        ensures in_all { IfOk result (λ many. in_all self.new (drop many events.now) ≡ in_all self.old events.now) }
+    {
+        let many = until_other(self.section, events);
+        self.copy(&events[..many])?;
+        if many == events.len() {
+            return Ok(many);
+        }
+        self.step(&events[many], &events[many + 1..])?;
+        Ok(many + 1)
+    }
+
+    /// Goes on in a table with some events, and says how many.
+    fn inside(&mut self, events: &[Event]) -> Result<usize, Message>
+        requires some { 0 < length events.now }
+        requires section { in_table self.old.section ≡ true }
+        ensures some { IfOk result (λ many. 0 < many) }
+        ensures within { IfOk result (λ many. many ≤ length events.now) }
+        ensures in_all { IfOk result (λ many. in_all self.new (drop many events.now) ≡ in_all self.old events.now) }
+    {
+        let many = self.parts(events)?;
+        if many > 0 {
+            return Ok(many);
+        }
+        self.step(&events[0], &events[1..])?;
+        Ok(1)
     }
 }
 
@@ -208,13 +274,13 @@ pub fn put_tables(events: &[Event], spare: Vec<Event>) -> Result<Vec<Event>, Mes
     };
     let mut at = 0;
     while at < events.len() {
-        let many = until_other(walk.section, &events[at..]);
-        walk.copy(&events[at..][..many])?;
+        let left = &events[at..];
+        let many = if in_table(walk.section) {
+            walk.inside(left)?
+        } else {
+            walk.outside(left)?
+        };
         at += many;
-        if at < events.len() {
-            walk.step(&events[at], &events[at + 1..])?;
-            at += 1;
-        }
     }
     let Walk { rows, .. } = walk;
     Ok(rows.given)

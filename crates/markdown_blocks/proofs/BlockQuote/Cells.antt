@@ -8,9 +8,8 @@ use Rattle.md_seam.specs.Ahead.{begins_white, white_end, white_rest}
 use Rattle.md_seam.specs.Events.Nested.{exit, pair}
 use Rattle.md_definition.specs.Rest.{is_white}
 use Rattle.md_seam.specs.Spaces.{small_indent}
-use Rattle.markdown_blocks.proofs.ContainerNames.{is_front}
 use Rattle.markdown_blocks.proofs.EachEvent.{each-append}
-use Rattle.markdown_blocks.proofs.PrefixNames.{AreFront, IsNamed}
+use Rattle.markdown_blocks.proofs.PrefixNames.{AreFront, IsFrontEvent}
 use Rattle.md_engine.specs.declared.event.Name.TheVariants as n
 
 -- whitespace that may stand there
@@ -39,5 +38,5 @@ pub quote-front : (options : ParseOptions) (cells : List Cell) (p : Point) → A
 quote-front options cells p =
     let q : Point = white_end (small_indent options) cells p in
     let rest : List Cell = white_rest (small_indent options) cells in
-    each-append (IsNamed is_front) (indent_events options cells p) (marker_events rest q)
+    each-append IsFrontEvent (indent_events options cells p) (marker_events rest q)
     (white-front (begins_white cells) p q) (marker-front rest q)

@@ -7,8 +7,9 @@ use Rattle.markdown_blocks.proofs.EachEvent.{each-append}
 use Rattle.markdown_blocks.proofs.BetweenFacts.{AreBetween, between-append, between-before, between-behind}
 use Rattle.markdown_blocks.proofs.BetweenFacts.{between-more, between-unless, is_low, white-between}
 use Rattle.std.proofs.lemmas.Option.{get_or_from_slice_get}
-use Rattle.markdown_blocks.proofs.PrefixFacts.{Continues, Opens, PrefixFacts, begins, is_bare}
-use Rattle.markdown_blocks.proofs.PrefixNames.{ArePrefixes, prefixes-front, prefixes-roles, IsNamed}
+use Rattle.markdown_blocks.proofs.PrefixFacts.{Continues, Opens, OpensRead, PrefixFacts, begins, is_bare, opens-same}
+use Rattle.markdown_blocks.proofs.PrefixNames.{ArePrefixes, IsNamed, names-no_parts, names-unlinked, prefixes-front}
+use Rattle.markdown_blocks.proofs.PrefixNames.{prefixes-roles}
 use Rattle.std.proofs.lemmas.Bool.{ne_eqb}
 use Rattle.std.proofs.lemmas.Bool.Decides.{nat_tests}
 use Rattle.md_engine.specs.declared.event.Event.{Event}
@@ -236,7 +237,8 @@ quote-opens bytes p q es is = record {
   plain = plain-untold bytes es (prefixes-roles Untold es (refl, refl) (refl, refl) (prefix-are bytes p q es is));
   sits = sits-still bytes es (prefixes-roles Still es tt tt (prefix-are bytes p q es is));
   leads =
-      λ text. unlists-same text (blocks ∷ []) (blocks ∷ behind_block ∷ []) (enter n.BlockQuote p ∷ es) (refl, none)
+      λ text takes. unlists-same text (blocks ∷ []) (blocks ∷ behind_block ∷ []) (enter n.BlockQuote p ∷ es)
+      (refl, none)
       (prefix-begins bytes p q es is text);
   stands =
       λ held. stands-append bytes (among held) (among (false ∷ held)) (among (false ∷ held)) (enter n.BlockQuote p ∷ [])
@@ -253,3 +255,10 @@ quote-opens bytes p q es is = record {
     -- no item and no list stands in it
     none : NoListing es
     none = between-unlisted es (prefixes-roles Between es tt tt (prefix-are bytes p q es is))
+
+-- nothing of it is read later
+pub quote-opens_read : (bytes : List ℕ) (p q : Point) (es : List Event) → IsPrefix bytes p q es →
+    OpensRead bytes InQuote p q es
+quote-opens_read bytes p q es is =
+    let names : ArePrefixes es = prefix-are bytes p q es is in
+    opens-same bytes InQuote p q es (quote-opens bytes p q es is) (names-unlinked es names) (names-no_parts es names)

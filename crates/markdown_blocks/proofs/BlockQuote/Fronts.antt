@@ -22,7 +22,7 @@ use Rattle.markdown_blocks.specs.Containers.BlockQuote.{quote_new, quote_on, quo
 use Rattle.markdown_blocks.specs.Passed.{Passed}
 use Rattle.markdown_blocks.proofs.ContainerLaws.{ByRest}
 use Rattle.markdown_blocks.proofs.PassedFacts.{Agree, HasFurther, HasOpening, HasPassed}
-use Rattle.markdown_blocks.proofs.BlockQuote.Facts.{quote-continues, quote-opens}
+use Rattle.markdown_blocks.proofs.BlockQuote.Facts.{quote-continues, quote-opens_read}
 use Rattle.md_engine.specs.declared.event.Name.TheVariants as n
 
 abbrev rest : ℕ → ℕ → List ℕ → Rest
@@ -159,7 +159,7 @@ quote-begins options interrupting line text past r stop p is h k short = on opti
               quote-passes options line text past r (past_rest r p) stop cells p (enter n.BlockQuote p ∷ es) t h e has;
           inside = es;
           events = refl;
-          opening = quote-opens text p (prefix_end options cells p) es has.prefix;
+          opening = quote-opens_read text p (prefix_end options cells p) es has.prefix;
           fewer = has.shorter;
         }
 

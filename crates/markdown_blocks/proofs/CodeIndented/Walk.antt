@@ -220,7 +220,7 @@ rest-unlinked bytes r row (next ∷ rows) are =
     (each-append IsUnlinked (ended ++ next.front) (but_ends (as_line next))
     (each-append IsUnlinked ended next.front
     (subst NoLinks (sym (ending-is n.LineEnding row are.0 are.1)) (refl, (refl, tt)))
-    (fronts-unlinked bytes [] are.0 next.first next.front are.3))
+    (fronts-unlinked bytes are.0 next.first next.front are.3))
     (subst NoLinks (sym (in-parts bytes next are.4))
     (inside-unlinked parts (code-inside s next.first next.end)))) (rest-unlinked bytes s next rows are.5)
 

@@ -33,7 +33,7 @@ becomes-gap wants reads bytes row next gap =
     (no_links-unwanted wants (gap_events row next)
     (each-append IsUnlinked (ending_events n.LineEnding row) next.front
     (subst NoLinks (sym (ending-is n.LineEnding row gap.behind gap.after)) (refl, (refl, tt)))
-    (fronts-unlinked bytes [] gap.behind next.first next.front gap.front)))
+    (fronts-unlinked bytes gap.behind next.first next.front gap.front)))
 
 becomes-row : (wants : Content → Bool) (reads : Readings) (bytes : List ℕ) (row : Row) →
     wants content.Text ≡ true → ReadsText bytes reads → IsFilledLine bytes row →

@@ -21,6 +21,7 @@ use Rattle.markdown_blocks.specs.BlockList.{lines_unread, text_unread, turned_un
 use Rattle.markdown_blocks.specs.Fed.{close_containers}
 use Rattle.markdown_blocks.specs.LineFlags.{ending_name}
 use Rattle.markdown_blocks.specs.Registry.{further_of, leaf, text_leaf}
+use Rattle.markdown_blocks.specs.Rows.{front_done}
 use Rattle.markdown_blocks.specs.Rows.{BlankRow, Group, Headed, LeafRow, Lines, Row, RowKind, Single, Span, TextRow}
 use Rattle.markdown_blocks.specs.Rows.{Turned}
 use Rattle.markdown_blocks.specs.Rows.{defined_done, group_events, is_blank_by, leaf_done, leaf_events, span_done}
@@ -149,20 +150,20 @@ enters-between : (cs : List Container) (r : Reading) → r.text ≡ None → r.l
 enters-between [] r text shut = (text, shut)
 enters-between (c ∷ cs) r text shut = enters-between cs _ text shut
 
-front-quiet : (bytes : List ℕ) (row : Row) → HasFront bytes row → Quiet bytes row.front
+front-quiet : (bytes : List ℕ) (row : Row) → HasFront bytes row → Quiet bytes (front_done bytes row)
 front-quiet bytes row front = λ r text shut.
-    let is : read bytes r row.front ≡ enters row.change.opens r =
-    read-fronts bytes row.change.opens front.0 row.first row.front r front.1 text in
+    let is : read bytes r (front_done bytes row) ≡ enters row.change.opens r =
+    read-fronts bytes row.change.opens front.0 row.first (front_done bytes row) r front.2.is text in
     let kept = enters-between row.change.opens r text shut in (
       ap read_labels is ∙ labels-enters row.change.opens r,
       ap (λ (x : Reading). x.text) is ∙ kept.0,
       ap (λ (x : Reading). x.leaf) is ∙ kept.1,
     )
 
-front-labelled : (bytes : List ℕ) (row : Row) → HasFront bytes row → Labelled bytes row.front row.front
+front-labelled : (bytes : List ℕ) (row : Row) → HasFront bytes row → Labelled bytes row.front (front_done bytes row)
 front-labelled bytes row front =
-    none-labelled bytes row.front row.front
-    (no_content-label wants_content row.front (has_front-no_content wants_content bytes row front))
+    none-labelled bytes row.front (front_done bytes row)
+    (no_content-label wants_content row.front (has_front-no_content wants_content content-alone bytes row front))
     (front-quiet bytes row front)
 
 tail-quiet : (bytes : List ℕ) (blank : Bool) (row : Row) → Quiet bytes (tail_events (ending_name blank) row)
@@ -274,8 +275,8 @@ single-labelled options bytes row is =
     let us : List Event = leaf_events row.kind row in
     let ds : List Event = leaf_done bytes row.kind row in
     let tail : List Event = tail_events (ending_of row.kind row) row in
-    labelled-append bytes (row.front ++ us) (row.front ++ ds) tail tail
-    (labelled-append bytes row.front row.front us ds (front-labelled bytes row is.front)
+    labelled-append bytes (row.front ++ us) (front_done bytes row ++ ds) tail tail
+    (labelled-append bytes row.front (front_done bytes row) us ds (front-labelled bytes row is.front)
     (leaf-labelled bytes us ds (block_of row.kind is.is.rest) (inside-none row row.kind is.other is.quiet)
     (line-unlabelled row.kind is.is.rest) (row-facts options bytes is.line row is.is is.other is.ends).reads))
     (tail-labelled bytes (is_blank_by row.kind row) row)
@@ -306,11 +307,11 @@ span-labelled options bytes row rows are quiet begins =
     let tail : List Event = tail_events (ending_of last.kind last) last in
     let facts = (span-laws is.name is.open_leaf).facts options bytes row rows (line-of options bytes row is)
     (line-further options bytes row is false begins) (behind-first options bytes row rows are) in
-    none-labelled bytes (rows_events (row ∷ rows)) ((row.front ++ ds) ++ tail)
+    none-labelled bytes (rows_events (row ∷ rows)) ((front_done bytes row ++ ds) ++ tail)
     (no_content-label wants_content (rows_events (row ∷ rows))
     (spans-quiet options bytes wants_content row rows are quiet content-alone))
-    (quiet-append bytes (row.front ++ ds) tail
-    (quiet-append bytes row.front ds (front-quiet bytes row is.front)
+    (quiet-append bytes (front_done bytes row ++ ds) tail
+    (quiet-append bytes (front_done bytes row) ds (front-quiet bytes row is.front)
     (leaf-quiet bytes ds (Some (span-block options bytes row rows are)) (span-quiet options bytes row rows are begins)
     facts.reads))
     (tail-quiet bytes (is_blank_by last.kind last) last))
@@ -346,10 +347,10 @@ turned-labelled options bytes row rows under are is left front =
     let fs : List Event = turned_done options bytes row rows under in
     let line : List Event = tail_events n.LineEnding last in
     let tail : List Event = tail_events (ending_of under.kind under) under in
-    subst (λ (us : List Event). Labelled bytes us ((row.front ++ fs) ++ tail))
+    subst (λ (us : List Event). Labelled bytes us ((front_done bytes row ++ fs) ++ tail))
     (sym (append_assoc (row.front ++ ts) line (row_events under)))
-    (labelled-append bytes (row.front ++ ts) (row.front ++ fs) (line ++ row_events under) tail
-    (labelled-append bytes row.front row.front ts fs (front-labelled bytes row front)
+    (labelled-append bytes (row.front ++ ts) (front_done bytes row ++ fs) (line ++ row_events under) tail
+    (labelled-append bytes row.front (front_done bytes row) ts fs (front-labelled bytes row front)
     (cut_heading-labelled options bytes under row rows ts (turned_unread options bytes row rows under) fs
     (heading-cut options bytes row rows under are is (left-remains options bytes row rows are left))))
     (none-labelled bytes (line ++ row_events under) tail
@@ -369,11 +370,11 @@ headed-labelled options bytes row next rows head are front quiet =
     let last : Row = last_row next rows in
     let ds : List Event = headed_done bytes row next rows in
     let tail : List Event = tail_events (ending_of last.kind last) last in
-    none-labelled bytes (headed_lines bytes row next rows) ((row.front ++ ds) ++ tail)
+    none-labelled bytes (headed_lines bytes row next rows) ((front_done bytes row ++ ds) ++ tail)
     (no_content-label wants_content (headed_lines bytes row next rows)
     (headed-quiet options bytes wants_content row next rows are front quiet content-alone))
-    (quiet-append bytes (row.front ++ ds) tail
-    (quiet-append bytes row.front ds (front-quiet bytes row front)
+    (quiet-append bytes (front_done bytes row ++ ds) tail
+    (quiet-append bytes (front_done bytes row) ds (front-quiet bytes row front)
     (leaf-quiet bytes ds (Some (headed_block options bytes row next rows is)) refl
     (headed-facts options bytes row next rows is).reads))
     (tail-quiet bytes (is_blank_by last.kind last) last))
@@ -391,8 +392,8 @@ groups-labelled options bytes (Lines row rows ∷ gs) are =
     let tail : List Event = tail_events n.LineEnding (last_row row rows) in
     labelled-append bytes (unread_group options bytes (Lines row rows)) (group_events options bytes (Lines row rows))
     (unread_groups options bytes gs) (groups_events options bytes gs)
-    (labelled-append bytes (row.front ++ us) (row.front ++ ds) tail tail
-    (labelled-append bytes row.front row.front us ds (front-labelled bytes row are.2)
+    (labelled-append bytes (row.front ++ us) (front_done bytes row ++ ds) tail tail
+    (labelled-append bytes row.front (front_done bytes row) us ds (front-labelled bytes row are.2)
     (cut-labelled options bytes row rows us ds (cut-is options bytes row rows are.0)))
     (tail-labelled bytes false (last_row row rows)))
     (groups-labelled options bytes gs are.3)

@@ -20,16 +20,15 @@ use Rattle.md_seam.specs.Events.Nested.{enter, exit, pair}
 use Rattle.md_seam.specs.Look.{first_seen}
 use Rattle.md_seam.specs.Spaces.{ends_line, small_indent}
 use Rattle.markdown_blocks.proofs.BlockQuote.Cells.{white-front}
-use Rattle.markdown_blocks.proofs.ContainerNames.{is_front}
 use Rattle.markdown_blocks.proofs.EachEvent.{each-append}
-use Rattle.markdown_blocks.proofs.PrefixNames.{AreFront, IsNamed}
+use Rattle.markdown_blocks.proofs.PrefixNames.{AreFront, IsFrontEvent}
 
 -- those of an item, if one opens or goes on
 abbrev pub HasFront : Option ItemPassed → Type 0
 HasFront None = Unit {0}
 HasFront (Some t) = AreFront t.events
 
-front-if : (x : Bool) (a b : Option ItemPassed) → HasFront a → HasFront b → HasFront (cond x a b)
+pub front-if : (x : Bool) (a b : Option ItemPassed) → HasFront a → HasFront b → HasFront (cond x a b)
 front-if true a b h k = h
 front-if false a b h k = k
 
@@ -57,14 +56,14 @@ marked-front interrupting from digits front c cs p h = go (padding cs c.after) (
     before = front ++ pair n.ListItemMarker p c.after
 
     marked : AreFront before
-    marked = each-append (IsNamed is_front) front (pair n.ListItemMarker p c.after) h ((refl, refl), ((refl, refl), tt))
+    marked = each-append IsFrontEvent front (pair n.ListItemMarker p c.after) h ((refl, refl), ((refl, refl), tt))
 
     go : (o : Option Padded) → PaddingFront o → HasFront (item_padded interrupting from digits c.byte before o)
     go None k = tt
     go (Some t) k =
         front-if (t.blank && interrupting) _ _ tt
-        (each-append (IsNamed is_front) (before ++ t.events) (exit n.ListItemPrefix t.point ∷ [])
-        (each-append (IsNamed is_front) before t.events marked k) ((refl, refl), tt))
+        (each-append IsFrontEvent (before ++ t.events) (exit n.ListItemPrefix t.point ∷ [])
+        (each-append IsFrontEvent before t.events marked k) ((refl, refl), tt))
 
 -- behind its digits,
 numbered-front : (interrupting : Bool) (from : Point) (digits : List ℕ) (size : ℕ) (front : List Event)
@@ -84,7 +83,7 @@ behind-front options interrupting from front (c ∷ cs) p h =
     front-if (is_bullet c.byte) _ _
     (front-if (options.constructs.thematic_break && is_rule (line_bytes (c ∷ cs))) _ _ tt
     (marked-front interrupting from [] (front ++ enter n.ListItemPrefix p ∷ []) c cs p
-    (each-append (IsNamed is_front) front (enter n.ListItemPrefix p ∷ []) h ((refl, refl), tt))))
+    (each-append IsFrontEvent front (enter n.ListItemPrefix p ∷ []) h ((refl, refl), tt))))
     (front-if (is_digit c.byte && (not interrupting || (c.byte == 49))) _ _ (valued (c ∷ cs)) tt)
   where
     valued : (cells : List Cell) → HasFront (item_valued interrupting from front cells p)
@@ -92,7 +91,7 @@ behind-front options interrupting from front (c ∷ cs) p h =
         let q = digits_end 9 cells p in
         let es : List Event = enter n.ListItemPrefix p ∷ pair n.ListItemValue p q in
         numbered-front interrupting from (digits_of 9 cells) (digits_size 9 cells) (front ++ es) (digits_rest 9 cells) q
-        (each-append (IsNamed is_front) front es h ((refl, refl), ((refl, refl), ((refl, refl), tt))))
+        (each-append IsFrontEvent front es h ((refl, refl), ((refl, refl), ((refl, refl), tt))))
 
 -- and where it begins
 pub new-front : (options : ParseOptions) (interrupting : Bool) (cells : List Cell) (p : Point) →

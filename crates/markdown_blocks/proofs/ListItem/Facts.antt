@@ -12,14 +12,15 @@ use Rattle.markdown_blocks.proofs.BlockQuote.Facts.{pair-prefixes}
 use Rattle.markdown_blocks.proofs.ListItem.Collected.{indent-collects, white-inside}
 use Rattle.markdown_blocks.proofs.ListItem.Grammar.{front-leads, front-others, front-stands, front-unlisted, white-others}
 use Rattle.markdown_blocks.proofs.ListItem.Grammar.{white-stays}
-use Rattle.markdown_blocks.proofs.ListItem.Names.{IsPart, front-between, front-part, front-some, space-between, white-part}
+use Rattle.markdown_blocks.proofs.ListItem.Names.{IsPart, front-between, front-part, front-some, front-whole}
+use Rattle.markdown_blocks.proofs.ListItem.Names.{space-between, white-part}
 use Rattle.markdown_blocks.proofs.ListItem.Parted.{white-clear, white-parted}
 use Rattle.markdown_blocks.proofs.ListItem.Pieces.{front-stood, front-tiled, white-stood}
 use Rattle.markdown_blocks.proofs.ListItem.Prefix.{IsFront, IsIndent, front-line}
 use Rattle.markdown_blocks.proofs.ListItem.Read.{front-read}
 use Rattle.markdown_blocks.proofs.PartsStand.{Inside}
 use Rattle.markdown_blocks.proofs.PiecesLemmas.{tiled-unless_empty}
-use Rattle.markdown_blocks.proofs.PrefixFacts.{Continues, Opens, PrefixFacts, is_bare}
+use Rattle.markdown_blocks.proofs.PrefixFacts.{Continues, Opens, OpensRead, PrefixFacts, is_bare, opens-same}
 use Rattle.markdown_blocks.proofs.PrefixNames.{ArePrefixes}
 
 indent-facts : (bytes : List ℕ) (p q : Point) (es : List Event) → IsIndent bytes p q es → PrefixFacts bytes p q es
@@ -78,10 +79,18 @@ item-opens bytes digits byte width blank p q es is =
       names = part.names;
       plain = part.plain;
       sits = part.sits;
-      leads = front-leads bytes digits byte p q es is;
+      leads = λ text takes. front-leads bytes digits byte p q es is text;
       stands = λ held. front-stands bytes digits byte p q es held is;
       unlisted = front-unlisted bytes digits byte p q es is;
       read = λ r none. front-read bytes digits byte width blank p q es r is none;
       shown = refl;
       some = front-some bytes digits byte p q es is;
     }
+
+-- nothing of it is read later
+pub item-opens_read : (bytes digits : List ℕ) (byte width : ℕ) (blank : Bool) (p q : Point) (es : List Event) →
+    IsFront bytes digits byte p q es → OpensRead bytes (InItem digits byte width blank) p q es
+item-opens_read bytes digits byte width blank p q es is =
+    let whole = front-whole bytes digits byte p q es is in
+    opens-same bytes (InItem digits byte width blank) p q es (item-opens bytes digits byte width blank p q es is)
+    whole.0 whole.1

@@ -33,11 +33,11 @@ use Rattle.md_seam.proofs.RestCells.{Cut, RestAt, past_rest, rest_cells}
 use Rattle.markdown_blocks.specs.Containers.ListItem.{item_passed, item_passes, item_rules}
 use Rattle.markdown_blocks.specs.Registry.{IsOf, container_name}
 use Rattle.markdown_blocks.proofs.ContainerLaws.{ByRest}
-use Rattle.markdown_blocks.proofs.ListItem.Facts.{item-continues, item-opens}
+use Rattle.markdown_blocks.proofs.ListItem.Facts.{item-continues, item-opens_read}
 use Rattle.markdown_blocks.proofs.ListItem.Prefix.{IsFront, TakesColumns, inside_by, no_digits}
 use Rattle.markdown_blocks.proofs.ListItem.Trial.{each-held, each-item, wide-one}
 use Rattle.markdown_blocks.proofs.PassedFacts.{Agree, HasFurther, HasOpening, HasPassed}
-use Rattle.markdown_blocks.proofs.PrefixFacts.{Opens}
+use Rattle.markdown_blocks.proofs.PrefixFacts.{OpensRead}
 use Rattle.markdown_blocks.proofs.RegistryRead.{IsRead, of-read}
 
 -- what is held of an item tells its kind
@@ -64,7 +64,7 @@ item-leaves line text past end stop cells held o t leaves holds = record {
 -- A further line.
 
 -- where the rest of a line begins within a tab, the byte there is whitespace
-rest-cut : (text past : List ℕ) (r : Rest) (q : Point) → RestAt text past r q → (q.vs == 0) ≡ false →
+pub rest-cut : (text past : List ℕ) (r : Rest) (q : Point) → RestAt text past r q → (q.vs == 0) ≡ false →
     is_blank (slice_range text q.index (q.index + 1)) ≡ true
 rest-cut text past r q is = go r.spaces is.cut is.text_is
   where
@@ -75,7 +75,7 @@ rest-cut text past r q is = go r.spaces is.cut is.text_is
         ap is_blank (slice-front text q.index (q.index + 1) (9 ∷ []) (r.bytes ++ past) e (omega arith))
 
 -- what it takes is whitespace, a column at least if there is any
-abbrev HasColumns : Point → Option ItemPassed → Type 0
+abbrev pub HasColumns : Point → Option ItemPassed → Type 0
 HasColumns p None = Unit {0}
 HasColumns p (Some o) = TakesColumns p o.point
 
@@ -117,6 +117,19 @@ white-columns line text past width r p stop is k some = go (begins_white cells) 
         (omega (arith, is.column, lost.stands.column, lost.column, white-some width cells some white))
     go false dark = subst (TakesColumns p) (sym (none-end width cells p dark)) (no-columns p)
 
+-- one that goes on takes these
+pub further-columns : (digits : List ℕ) (marker width : ℕ) (blank : Bool) (line : Line) (text past : List ℕ) (r : Rest)
+    (p : Point) (stop : List Cell) →
+    RestAt text past r p → Stops stop → 1 ≤ width →
+    HasColumns p (item_further digits marker width blank (rest_cells line r p ++ stop) p)
+further-columns digits marker width blank line text past r p stop is k some =
+    columns-if p (ends_line (first_seen cells)) _ _ (columns-if p blank _ _ tt (no-columns p))
+    (columns-if p (cond (is_blank (line_bytes cells)) (not blank) (nat_le width (white_size width cells))) _ _
+    (white-columns line text past width r p stop is k some) tt)
+  where
+    cells : List Cell
+    cells = rest_cells line r p ++ stop
+
 -- an item goes on
 pub item-goes : (options : ParseOptions) (c : Container) → IsOf kind.ListItem c → ByRest (λ line text past r stop p.
     let cells = rest_cells line r p ++ stop in
@@ -135,9 +148,7 @@ item-goes options c is = each-item (λ d. ByRest (λ line text past r stop p.
         go (item_further digits marker width blank cells p) (item_continues digits marker width blank r)
         (further-agrees digits marker width blank some line text past r stop p is h k)
         (further-held held digits marker width blank cells p some)
-        (columns-if p (ends_line (first_seen cells)) _ _ (columns-if p blank _ _ tt (no-columns p))
-        (columns-if p (cond (is_blank (line_bytes cells)) (not blank) (nat_le width (white_size width cells))) _ _
-        (white-columns line text past width r p stop is k some) tt))
+        (further-columns digits marker width blank line text past r p stop is k some)
       where
         cells : List Cell
         cells = rest_cells line r p ++ stop
@@ -226,8 +237,8 @@ item-begins options interrupting line text past r stop p is h k short =
           inside = inside;
           events = has.events ∙ ap (λ (d : Container). enter (container_name d) p ∷ inside) (sym one);
           opening =
-              subst (λ (d : Container). Opens text d p o.point inside) (sym one)
-              (item-opens text has.digits has.byte has.item.0 has.item.1 p o.point inside
+              subst (λ (d : Container). OpensRead text d p o.point inside) (sym one)
+              (item-opens_read text has.digits has.byte has.item.0 has.item.1 p o.point inside
               (item-front line text past p (past_rest r p) stop cells o t has));
           fewer = has.fewer;
         }

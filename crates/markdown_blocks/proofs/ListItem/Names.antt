@@ -13,7 +13,7 @@ use Rattle.md_engine.specs.declared.event.Point.{Point}
 use Rattle.md_containers.specs.Item.{is_item_marker}
 use Rattle.md_seam.proofs.LostColumns.{White}
 use Rattle.md_seam.specs.Events.Inline.{pair_unless_empty}
-use Rattle.md_seam.specs.Events.Nested.{around, exit, pair}
+use Rattle.md_seam.specs.Events.Nested.{around, enter, exit, pair}
 use Rattle.md_seam.specs.Events.Places.{at_or_before, same_place}
 use Rattle.md_seam.specs.Events.Spelled.{role}
 use Rattle.md_seam.proofs.InlineLemmas.{balanced-pair, before-text}
@@ -29,11 +29,12 @@ use Rattle.markdown_blocks.proofs.ContainerNames.{is_front}
 use Rattle.markdown_blocks.proofs.EachEvent.{each-append}
 use Rattle.markdown_blocks.proofs.ListItem.Pieces.{is-marker}
 use Rattle.markdown_blocks.proofs.ListItem.Prefix.{IsFront, behind-index, front-each, front_by, marker-byte}
-use Rattle.markdown_blocks.proofs.ListItem.Prefix.{marker-whole, no_digits}
+use Rattle.markdown_blocks.proofs.ListItem.Prefix.{inside_by, marker-whole, no_digits}
+use Rattle.markdown_blocks.proofs.PartFacts.{NoLinks, NoParts}
 use Rattle.markdown_blocks.proofs.PartedFacts.{Sits, around-sits, clear, quiets-still, sits-append, sits-still}
 use Rattle.markdown_blocks.proofs.PlainFacts.{ArePlain, plain-append, plain-around, plain-nil, plain-quiet}
 use Rattle.markdown_blocks.proofs.PlainRoles.{pair-roles}
-use Rattle.markdown_blocks.proofs.PrefixNames.{AreFront, IsNamed, prefixes-front}
+use Rattle.markdown_blocks.proofs.PrefixNames.{AreFront, IsFrontEvent, prefixes-front}
 use Rattle.markdown_blocks.proofs.SpanLemmas.{Nested_in, Spans, around-nested, nested_in-append}
 
 -- Parts.
@@ -49,7 +50,7 @@ part-append : (bytes : List ℕ) (p q r : Point) (xs ys : List Event) → IsPart
     IsPart bytes p r (xs ++ ys)
 part-append bytes p q r xs ys h k = record {
   nested = nested_in-append p q r xs ys h.nested k.nested;
-  names = each-append (IsNamed is_front) xs ys h.names k.names;
+  names = each-append IsFrontEvent xs ys h.names k.names;
   plain = plain-append bytes xs ys h.plain k.plain;
   sits = sits-append bytes xs ys h.sits k.sits;
 }
@@ -100,7 +101,7 @@ around-part : (bytes : List ℕ) (p q : Point) (es : List Event) → IsPart byte
     IsPart bytes p q (around n.ListItemPrefix p q es)
 around-part bytes p q es h = record {
   nested = around-nested n.ListItemPrefix p q es h.nested;
-  names = ((refl, refl), each-append (IsNamed is_front) es (exit n.ListItemPrefix q ∷ []) h.names ((refl, refl), tt));
+  names = ((refl, refl), each-append IsFrontEvent es (exit n.ListItemPrefix q ∷ []) h.names ((refl, refl), tt));
   plain = plain-around bytes n.ListItemPrefix p q es refl refl refl h.plain;
   sits = around-sits bytes n.ListItemPrefix p q es tt h.sits;
 }
@@ -184,3 +185,51 @@ front-some bytes digits byte p q es is = front-each (λ (xs : List Event). xs �
     go : (bare none same : Bool) → front_by bare none same p is.start is.marker is.behind q ≢ []
     go true none same = λ e. cc
     go false none same = λ e. cc
+
+-- none of them begins a chunk or is of a text part
+pub front-whole : (bytes digits : List ℕ) (byte : ℕ) (p q : Point) (es : List Event) →
+    IsFront bytes digits byte p q es → NoLinks es × NoParts es
+front-whole bytes digits byte p q es is =
+    front-each (λ (xs : List Event). NoLinks xs × NoParts xs) bytes digits byte p q es is
+    (λ bare none same. (unlinked bare none same, apart bare none same))
+  where
+    by : Bool → Bool → Bool → List Event
+    by bare none same = front_by bare none same p is.start is.marker is.behind q
+
+    unlinked : (bare none same : Bool) → NoLinks (by bare none same)
+    unlinked bare none same = go bare none same
+      where
+        white : (same : Bool) →
+            NoLinks (cond same [] (pair n.SpaceOrTab is.behind q) ++ exit n.ListItemPrefix q ∷ [])
+        white true = (refl, tt)
+        white false = (refl, (refl, (refl, tt)))
+
+        inner : (none same : Bool) →
+            NoLinks
+            (enter n.ListItemPrefix is.start ∷ inside_by none same is.start is.marker is.behind q
+            ++ exit n.ListItemPrefix q ∷ [])
+        inner true same = (refl, (refl, (refl, white same)))
+        inner false same = (refl, (refl, (refl, (refl, (refl, white same)))))
+
+        go : (bare none same : Bool) → NoLinks (by bare none same)
+        go true none same = inner none same
+        go false none same = (refl, (refl, inner none same))
+
+    apart : (bare none same : Bool) → NoParts (by bare none same)
+    apart bare none same = go bare none same
+      where
+        white : (same : Bool) →
+            NoParts (cond same [] (pair n.SpaceOrTab is.behind q) ++ exit n.ListItemPrefix q ∷ [])
+        white true = (refl, tt)
+        white false = (refl, (refl, (refl, tt)))
+
+        inner : (none same : Bool) →
+            NoParts
+            (enter n.ListItemPrefix is.start ∷ inside_by none same is.start is.marker is.behind q
+            ++ exit n.ListItemPrefix q ∷ [])
+        inner true same = (refl, (refl, (refl, white same)))
+        inner false same = (refl, (refl, (refl, (refl, (refl, white same)))))
+
+        go : (bare none same : Bool) → NoParts (by bare none same)
+        go true none same = inner none same
+        go false none same = (refl, (refl, inner none same))

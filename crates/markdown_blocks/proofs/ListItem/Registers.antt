@@ -15,7 +15,7 @@ use Rattle.md_seam.specs.Transition.{Transition}
 use Rattle.markdown_blocks.proofs.LeafStarts.{start-registers}
 use Rattle.markdown_blocks.proofs.Registers.{Registers, adds}
 
-either : (x : Bool) (a b : Transition) → Registers a.world → Registers b.world → Registers (cond x a b).world
+pub either : (x : Bool) (a b : Transition) → Registers a.world → Registers b.world → Registers (cond x a b).world
 either true a b h k = h
 either false a b h k = k
 

@@ -17,6 +17,7 @@ use Rattle.md_containers.specs.ItemPrefix.{ItemPassed, held_as, item_behind, ite
 use Rattle.md_containers.specs.ItemPrefix.{item_indented, item_new, item_same}
 use Rattle.md_containers.specs.ItemRule.{item_at, item_on}
 use Rattle.md_containers.specs.QuoteRule.{indent_events}
+use Rattle.md_containers.proofs.FootnoteHeld.{IsWithin}
 use Rattle.md_containers.proofs.ItemCells.{item-is}
 use Rattle.md_containers.proofs.ItemFurther.{further-is}
 use Rattle.md_containers.proofs.ItemHeld.{IsHeld, further-held, new-held}
@@ -110,15 +111,11 @@ further-tried held c cells h is asked of =
 -- What is taken.
 
 -- no more is left than there was
-abbrev IsWithin : ℕ → Option ItemPassed → Type 0
-IsWithin n None = Unit {0}
-IsWithin n (Some t) = length t.cells ≤ n
-
 within-if : (n : ℕ) (x : Bool) (a b : Option ItemPassed) → IsWithin n a → IsWithin n b → IsWithin n (cond x a b)
 within-if n true a b h k = h
 within-if n false a b h k = k
 
-shorter-within : (n : ℕ) (o : Option ItemPassed) → IsShorter n o → IsWithin n o
+pub shorter-within : (n : ℕ) (o : Option ItemPassed) → IsShorter n o → IsWithin n o
 shorter-within n None lt = tt
 shorter-within n (Some t) lt = omega (arith, lt)
 

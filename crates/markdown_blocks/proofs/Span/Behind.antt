@@ -88,9 +88,9 @@ gap-facts bytes blank p at q front whole is fronts = record {
   still = both Still tt tt tt;
   untold = both Untold (refl, refl) (refl, refl) (refl, refl);
   no_parts =
-      each-append IsNoPart ended front (ending-no_parts blank p at) (fronts-no_parts bytes [] at q front fronts);
+      each-append IsNoPart ended front (ending-no_parts blank p at) (fronts-no_parts bytes at q front fronts);
   unlinked =
-      each-append IsUnlinked ended front (ending-unlinked blank p at) (fronts-unlinked bytes [] at q front fronts);
+      each-append IsUnlinked ended front (ending-unlinked blank p at) (fronts-unlinked bytes at q front fronts);
   before = ending-before bytes p at is;
   between =
       between-append bytes ended front
@@ -262,5 +262,5 @@ behind-unlinked bytes f row (next ∷ rows) are =
     (each-append IsUnlinked ended next.front
     (subst NoLinks (sym (ending-is (ending_name (is_blank_row row)) row are.0 are.1))
     (ending-unlinked (is_blank_row row) row.end are.0))
-    (fronts-unlinked bytes [] are.0 next.first next.front are.3)) are.4.unlinked)
+    (fronts-unlinked bytes are.0 next.first next.front are.3)) are.4.unlinked)
     (behind-unlinked bytes f next rows are.5)

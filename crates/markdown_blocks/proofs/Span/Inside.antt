@@ -226,7 +226,7 @@ front-inside bytes p q x leaf site front takes on is = record {
     nested = (fronts-balanced bytes [] p q front is refl, fronts-spans bytes [] p q front is)
 
     outside : NoParts front
-    outside = fronts-no_parts bytes [] p q front is
+    outside = fronts-no_parts bytes p q front is
 
     unlinked : NoLinks front
-    unlinked = fronts-unlinked bytes [] p q front is
+    unlinked = fronts-unlinked bytes p q front is

@@ -14,8 +14,8 @@ use Rattle.md_seam.specs.Events.Endings.{spot_behind}
 use Rattle.md_seam.specs.Events.Grammar.{Expression, behind, behind_block, blocks, inside, may_end, plain_text}
 use Rattle.md_seam.specs.Events.Grammar.{unread_text}
 use Rattle.md_seam.specs.Events.Nested.{around, exit}
-use Rattle.md_seam.specs.Events.Spelled.{IsQuiet, LeafKind, OfCode, OfFence, OfHtml, OfMath, OpenLeaf, Opens, Reading}
-use Rattle.md_seam.specs.Events.Spelled.{Role}
+use Rattle.md_seam.specs.Events.Spelled.{IsQuiet, LeafKind, OfCode, OfFence, OfFrontmatter, OfHtml, OfMath, OpenLeaf}
+use Rattle.md_seam.specs.Events.Spelled.{Opens, Reading, Role}
 use Rattle.md_seam.specs.Events.Spelled.{add_block, block_of, fresh, read, read_enter, read_exit, role}
 use Rattle.md_seam.specs.Events.Tiles.{part_kind}
 use Rattle.md_seam.proofs.EndingsLemmas as ending
@@ -115,6 +115,7 @@ lined-known OfCode lined = refl
 lined-known OfFence lined = refl
 lined-known OfMath lined = refl
 lined-known OfHtml lined = refl
+lined-known OfFrontmatter lined = refl
 lined-known _ lined = absurd lined
 
 pub around-plain : (bytes : List ℕ) (name : Name) (kind : LeafKind) (p q : Point) (end : Site) (es : List Event) →

@@ -198,7 +198,7 @@ rest-more bytes name left x after leaf to site end row next rows c q at ending f
       (each-append IsUnlinked (ended ++ next.front) (but_ends next.inside)
       (each-append IsUnlinked ended next.front
       (subst NoLinks (sym (ending-is n.LineEnding row q at)) (refl, (refl, tt)))
-      (fronts-unlinked bytes [] q next.first next.front front)) (subst NoLinks (sym parts) line.unlinked)) rest.unlinked;
+      (fronts-unlinked bytes q next.first next.front front)) (subst NoLinks (sym parts) line.unlinked)) rest.unlinked;
   same =
       ap₂ (λ (es fs : List Event). ended ++ next.front ++ but_ends es ++ fs) done rest.same;
 }

@@ -48,7 +48,7 @@ lines-filled options bytes row (next ∷ rows) h ys more =
     let rest : List Event = filled_from false ys more in
     ap (λ (l : List Event). chunk ++ filled_from false l lists) (append_assoc front lines ys)
     ∙ ap (λ (l : List Event). chunk ++ l)
-    (passes-filled front (lines ++ ys) lists (fronts-unlinked bytes [] h.3 next.first front h.6))
+    (passes-filled front (lines ++ ys) lists (fronts-unlinked bytes h.3 next.first front h.6))
     ∙ ap (λ (l : List Event). chunk ++ (front ++ l)) (lines-filled options bytes next rows h.7 ys more)
     ∙ sym (append_assoc chunk front (read ++ rest))
     ∙ sym (append_assoc (chunk ++ front) read rest)

@@ -1,5 +1,5 @@
 -- The text of a heading is read in the places of its chunks, and nothing else of it.
-use Rattle.std.proofs.Common.{◌≡◌, ℕ, Bool, true, List, [], ◌++◌, refl, subst₂, sym}
+use Rattle.std.proofs.Common.{◌≡◌, ℕ, Bool, true, List, ◌++◌, refl, subst₂, sym}
 use Rattle.md_engine.specs.declared.configuration.ParseOptions.{ParseOptions}
 use Rattle.md_engine.specs.declared.event.Content.{Content}
 use Rattle.md_engine.specs.declared.event.Content.TheVariants as content
@@ -39,7 +39,7 @@ turned-becomes options bytes row rows under h is wants reads wanted text =
     (text-becomes options bytes turn_leaf.text row rows wants reads wanted text refl h)
     (same gap
     (each-append IsUnlinked (pair n.LineEnding last.end turns.after) under.front (refl, (refl, tt))
-    (fronts-unlinked bytes [] turns.after under.first under.front turns.front))))
+    (fronts-unlinked bytes turns.after under.first under.front turns.front))))
     (same under.inside (line-inside options bytes under turns.is).unlinked)))
   where
     turns : Turns options bytes (last_row row rows) under

@@ -1,14 +1,15 @@
 // The document: what stands in front of its lines, and the containers of each.
 //
-//     document ::= [ byte_order_mark ] line *( line_ending line )
+//     document ::= [ byte_order_mark ] [ frontmatter line_ending ] line *( line_ending line )
 //     line     ::= *prefix *container flow
 //
-// Its table takes the mark, if there is one. The lines that follow are read by the table of flow, which has the states
-// of containers too. On each line the containers that are open are asked from the outermost in whether they go on, then
-// others may open, and flow reads the rest of the line. Only then is it known whether the line goes on the open
-// paragraph, so that all containers stay open although not all went on (CommonMark 5.1, "laziness"). Else those that
-// did not go on end: their ends are put where the line before ended, in front of its ending. Where nothing is left of
-// a line no container is asked, and none opens: what is held of each tells whether it goes on there.
+// Its table takes the mark and the frontmatter, if they stand there. The lines that follow are read by the table of
+// flow, which has the states of containers too. On each line the containers that are open are asked from the outermost
+// in whether they go on, then others may open, and flow reads the rest of the line. Only then is it known whether the
+// line goes on the open paragraph, so that all containers stay open although not all went on (CommonMark 5.1,
+// "laziness"). Else those that did not go on end: their ends are put where the line before ended, in front of its
+// ending. Where nothing is left of a line no container is asked, and none opens: what is held of each tells whether it
+// goes on there.
 
 ghost use Rattle.std.specs.Prelude.{◌≡◌, ◌≢◌, ◌≤◌, length, true};
 ghost use Rattle.md_engine.specs.Going.{SeesOn};
@@ -34,7 +35,9 @@ ghost use Rattle.markdown_blocks.specs.Document.{document_table_scheme, document
 ghost use Rattle.md_seam.specs.Transition.{IsAt, NeedsNothing};
 
 use crate::construct::registry;
-pub use crate::construct::registry::{container_new_before, container_new_before_not_block_quote};
+pub use crate::construct::registry::{
+    container_new_before, container_new_before_not_block_quote, container_new_before_not_list,
+};
 use crate::resolve;
 use md_engine::event::Name;
 use md_engine::message::Message;
@@ -43,13 +46,16 @@ use md_engine::resolve::Name as ResolveName;
 use md_engine::state::bom::State as BomState;
 use md_engine::state::document::State as DocumentState;
 use md_engine::state::flow::State as FlowState;
+use md_engine::state::frontmatter::State as FrontState;
 use md_engine::state::{Name as StateName, State};
 use md_engine::stay::Stay;
 use md_engine::subtokenize::Subresult;
 use md_engine::table::Table;
 use md_engine::tokenizer::{Container, ContainerKind, Flags, HeldLeaf, Tokenizer};
+use md_containers::frontmatter;
 use md_leaves::blank_line::ends_line;
 use md_leaves::partial_bom;
+use md_seam::space_or_tab;
 
 /// At the start of the text: before a byte order mark, if there is one.
 ///
@@ -69,18 +75,22 @@ pub fn start(tokenizer: &mut Tokenizer) -> State
     State::Retry(StateName::Bom(BomState::Start))
 }
 
-/// Behind the mark: the lines of the text begin.
+/// Behind the mark: before frontmatter, if there is some. The lines of the text begin behind it.
 ///
 /// ```markdown
-/// > | a
+/// > | ---
 ///     ^
+///   | a: b
+///   | ---
 /// ```
-pub fn before_frontmatter(_tokenizer: &mut Tokenizer) -> State
-    requires { IsAt NeedsNothing (StateName.Document DocumentState.BeforeFrontmatter) (world _tokenizer.old) }
-    ensures to { result ≡ (before_frontmatter_transition (world _tokenizer.old)).to }
-    ensures world { world _tokenizer.new ≡ (before_frontmatter_transition (world _tokenizer.old)).world }
+pub fn before_frontmatter(tokenizer: &mut Tokenizer) -> State
+    requires { IsAt NeedsNothing (StateName.Document DocumentState.BeforeFrontmatter) (world tokenizer.old) }
+    ensures to { result ≢ State.Error → result ≡ (before_frontmatter_transition (world tokenizer.old)).to }
+    ensures world { result ≢ State.Error →
+        world tokenizer.new ≡ (before_frontmatter_transition (world tokenizer.old)).world }
 {
-    State::Ok
+    or_error!(tokenizer.attempt(State::Ok, State::Ok));
+    State::Retry(StateName::Frontmatter(FrontState::Start))
 }
 
 /// The outermost container that was not asked yet whether it goes on.
@@ -454,6 +464,8 @@ fn call_state(tokenizer: &mut Tokenizer, name: StateName) -> State
 {
     match name {
         StateName::Bom(state) => partial_bom::call(tokenizer, state),
+        StateName::Frontmatter(state) => frontmatter::call(tokenizer, state),
+        StateName::SpaceOrTab(state) => space_or_tab::call(tokenizer, state),
         StateName::Document(state) => call(tokenizer, state),
         _ => State::Nok,
     }
@@ -477,8 +489,11 @@ impl Table for DocumentTable {
         call_state(tokenizer, name)
     }
 
-    fn stays(_name: StateName) -> Option<Stay> {
-        None
+    fn stays(name: StateName) -> Option<Stay> {
+        match name {
+            StateName::Frontmatter(state) => frontmatter::stays(state),
+            _ => None,
+        }
     }
 
     fn resolve(tokenizer: &mut Tokenizer, name: ResolveName) -> Result<Option<Subresult>, Message> {

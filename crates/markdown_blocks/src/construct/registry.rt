@@ -1,6 +1,6 @@
 // The constructs that are built: the one place of the frame's code that names them.
 //
-//     container ::= block_quote | list_item
+//     container ::= block_quote | list_item | gfm_footnote_definition
 //     leaf      ::= code_indented | raw_flow | html_flow | heading_atx | heading_setext
 //                 | thematic_break | gfm_table
 //
@@ -36,7 +36,7 @@ ghost use Rattle.md_seam.specs.Stays.{TakesEach};
 ghost use Rattle.md_seam.specs.Transition.{IsAt, NeedsNothing};
 
 use crate::construct::document;
-use md_containers::{block_quote, list_item, lists, plain_item};
+use md_containers::{block_quote, gfm_footnote_definition, list_item, lists, plain_item};
 use md_engine::class::is_white;
 use md_engine::configuration::ParseOptions;
 use md_engine::event::Event;
@@ -47,6 +47,7 @@ use md_engine::state::block_quote::State as QuoteState;
 use md_engine::state::code_indented::State as CodeState;
 use md_engine::state::document::State as DocumentState;
 use md_engine::state::flow::State as FlowState;
+use md_engine::state::gfm_footnote_definition::State as FootnoteState;
 use md_engine::state::gfm_table::State as TableState;
 use md_engine::state::heading_atx::State as HeadingState;
 use md_engine::state::heading_setext::State as SetextState;
@@ -63,6 +64,7 @@ use md_leaves::{heading_atx, heading_setext, thematic_break, underlines};
 use md_lines::{code_indented, raw_flow};
 use md_rich::html_flow;
 use md_seam::space_or_tab::look_behind;
+use md_tables::row::{Row, place_of};
 use md_tables::{gfm_table, heads, row_words, tables};
 
 /// The state of the document in front of the first container that may open.
@@ -108,6 +110,23 @@ pub fn container_new_before_not_block_quote(tokenizer: &mut Tokenizer) -> State
     document::try_new(tokenizer, ContainerKind::ListItem)
 }
 
+/// Before a footnote definition that may open.
+///
+/// ```markdown
+/// > | [^a]: b
+///     ^
+/// ```
+#[inline(always)]
+pub fn container_new_before_not_list(tokenizer: &mut Tokenizer) -> State
+    requires { IsAt NeedsNothing (StateName.Document DocumentState.ContainerNewBeforeNotList) (world tokenizer.old) }
+    ensures to { result ≢ State.Error →
+        result ≡ (new_before_transition ContainerKind.GfmFootnoteDefinition (world tokenizer.old)).to }
+    ensures world { result ≢ State.Error →
+        world tokenizer.new ≡ (new_before_transition ContainerKind.GfmFootnoteDefinition (world tokenizer.old)).world }
+{
+    document::try_new(tokenizer, ContainerKind::GfmFootnoteDefinition)
+}
+
 /// Calls the state of the document in front of a container that may open; those of containers that are not built refuse.
 #[inline(always)]
 pub fn before_opener(tokenizer: &mut Tokenizer, state: DocumentState) -> State
@@ -121,6 +140,7 @@ pub fn before_opener(tokenizer: &mut Tokenizer, state: DocumentState) -> State
         DocumentState::ContainerNewBeforeNotBlockQuote => {
             container_new_before_not_block_quote(tokenizer)
         }
+        DocumentState::ContainerNewBeforeNotList => container_new_before_not_list(tokenizer),
         _ => State::Nok,
     }
 }
@@ -132,7 +152,8 @@ pub fn next_opener(kind: ContainerKind) -> DocumentState
 {
     match kind {
         ContainerKind::BlockQuote => DocumentState::ContainerNewBeforeNotBlockQuote,
-        ContainerKind::ListItem => DocumentState::ContainersAfter,
+        ContainerKind::ListItem => DocumentState::ContainerNewBeforeNotList,
+        ContainerKind::GfmFootnoteDefinition => DocumentState::ContainersAfter,
     }
 }
 
@@ -141,7 +162,7 @@ pub fn next_opener(kind: ContainerKind) -> DocumentState
 pub fn last_opener() -> ContainerKind
     ensures { (w : World) → all_asked openers w ≡ asking (container_of result) w }
 {
-    ContainerKind::ListItem
+    ContainerKind::GfmFootnoteDefinition
 }
 
 /// Whether no container may open where this stands, which is no whitespace and does not end the line.
@@ -155,7 +176,8 @@ pub fn opens_none(current: Option<u8>) -> bool
             !(is_white(byte)
                 || byte == b'\n'
                 || block_quote::may_begin(current)
-                || list_item::may_begin(current))
+                || list_item::may_begin(current)
+                || gfm_footnote_definition::may_begin(current))
         }
     }
 }
@@ -499,6 +521,9 @@ pub fn opens_with(kind: ContainerKind) -> StateName
     match kind {
         ContainerKind::BlockQuote => StateName::BlockQuote(QuoteState::Start),
         ContainerKind::ListItem => StateName::ListItem(ItemState::Start),
+        ContainerKind::GfmFootnoteDefinition => {
+            StateName::GfmFootnoteDefinition(FootnoteState::Start)
+        }
     }
 }
 
@@ -511,6 +536,9 @@ pub fn may_open(tokenizer: &mut Tokenizer, kind: ContainerKind) -> bool
     match kind {
         ContainerKind::BlockQuote => block_quote::may_begin(look_behind(tokenizer)),
         ContainerKind::ListItem => list_item::may_begin(look_behind(tokenizer)),
+        ContainerKind::GfmFootnoteDefinition => {
+            gfm_footnote_definition::may_begin(look_behind(tokenizer))
+        }
     }
 }
 
@@ -523,7 +551,7 @@ pub fn may_go_on(tokenizer: &mut Tokenizer, kind: ContainerKind) -> bool
 {
     match kind {
         ContainerKind::BlockQuote => block_quote::may_begin(look_behind(tokenizer)),
-        ContainerKind::ListItem => true,
+        ContainerKind::ListItem | ContainerKind::GfmFootnoteDefinition => true,
     }
 }
 
@@ -534,7 +562,9 @@ pub fn has_plain_prefix(container: Container, tokenizer: &mut Tokenizer) -> bool
 {
     match container.kind {
         ContainerKind::BlockQuote => block_quote::is_plain_prefix(tokenizer),
-        ContainerKind::ListItem => plain_item::is_plain_indent(tokenizer, container),
+        ContainerKind::ListItem | ContainerKind::GfmFootnoteDefinition => {
+            plain_item::is_plain_indent(tokenizer, container)
+        }
     }
 }
 
@@ -549,7 +579,9 @@ pub fn take_plain_prefix(tokenizer: &mut Tokenizer) -> Result<(), Message>
 {
     match tokenizer.flags.asked.kind {
         ContainerKind::BlockQuote => block_quote::take_plain_prefix(tokenizer),
-        ContainerKind::ListItem => plain_item::take_plain_indent(tokenizer),
+        ContainerKind::ListItem | ContainerKind::GfmFootnoteDefinition => {
+            plain_item::take_plain_indent(tokenizer)
+        }
     }
 }
 
@@ -578,13 +610,16 @@ pub fn take_plain_opening(tokenizer: &mut Tokenizer) -> Result<(), Message>
     plain_item::take_plain_bullet(tokenizer)
 }
 
-/// The state in front of the prefix of a container on a further line.
+/// The state in front of the prefix of a container on a further line. That of a footnote definition is an indent, as an
+/// item's.
 pub fn goes_on_with(kind: ContainerKind) -> StateName
     ensures { result ≡ goes_on_with kind }
 {
     match kind {
         ContainerKind::BlockQuote => StateName::BlockQuote(QuoteState::ContStart),
-        ContainerKind::ListItem => StateName::ListItem(ItemState::ContStart),
+        ContainerKind::ListItem | ContainerKind::GfmFootnoteDefinition => {
+            StateName::ListItem(ItemState::ContStart)
+        }
     }
 }
 
@@ -605,6 +640,7 @@ pub fn call(tokenizer: &mut Tokenizer, name: StateName) -> State
     match name {
         StateName::BlockQuote(state) => block_quote::call(tokenizer, state),
         StateName::CodeIndented(state) => code_indented::call(tokenizer, state),
+        StateName::GfmFootnoteDefinition(state) => gfm_footnote_definition::call(tokenizer, state),
         StateName::GfmTable(state) => gfm_table::call(tokenizer, state),
         StateName::HeadingAtx(state) => heading_atx::call(tokenizer, state),
         StateName::HeadingSetext(state) => heading_setext::call(tokenizer, state),
@@ -633,9 +669,9 @@ fn call_heading(tokenizer: &mut Tokenizer, state: HeadingState) -> State
     }
 }
 
-/// Calls a state of a table; parts of its body are taken at once.
+/// Calls a state of a table, or takes parts of a row of its body at once.
 #[inline(always)]
-fn call_table(tokenizer: &mut Tokenizer, state: TableState) -> State
+fn call_in_table(tokenizer: &mut Tokenizer, state: TableState) -> State
     requires current { (world tokenizer.old).current ≡ looks (world tokenizer.old) }
     requires stands { stands flow_table_scheme (world tokenizer.old) (State.Next (StateName.GfmTable state)) }
     ensures runs { result ≢ State.Error →
@@ -643,10 +679,29 @@ fn call_table(tokenizer: &mut Tokenizer, state: TableState) -> State
         (world tokenizer.old) result (world tokenizer.new) }
     ensures sees { result ≢ State.Error → SeesOn result (world tokenizer.old) (world tokenizer.new) }
 {
-    match state {
-        TableState::BodyRowBreak => row_words::part(tokenizer),
-        TableState::BodyRowData => row_words::word(tokenizer),
-        _ => call(tokenizer, StateName::GfmTable(state)),
+    match place_of(Row::Body, state) {
+        Some(place) => row_words::call(tokenizer, Row::Body, place),
+        None => call(tokenizer, StateName::GfmTable(state)),
+    }
+}
+
+/// Calls a state of a table, and those that follow it, up to one that may stay or is of no table.
+#[inline(always)]
+fn call_table(tokenizer: &mut Tokenizer, first: TableState) -> State
+    requires current { (world tokenizer.old).current ≡ looks (world tokenizer.old) }
+    requires stands { stands flow_table_scheme (world tokenizer.old) (State.Next (StateName.GfmTable first)) }
+    ensures runs { result ≢ State.Error →
+        RunsHere (FlowStep (λ target other. ⟦<ResolveName as PartialEq>⟧.eq other target)) (StateName.GfmTable first)
+        (world tokenizer.old) result (world tokenizer.new) }
+    ensures sees { result ≢ State.Error → SeesOn result (world tokenizer.old) (world tokenizer.new) }
+{
+    let mut state = first;
+    loop {
+        let to = call_in_table(tokenizer, state);
+        let Some(next) = gfm_table::next(tokenizer, to) else {
+            return to;
+        };
+        state = next;
     }
 }
 

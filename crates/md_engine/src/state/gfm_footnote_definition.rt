@@ -9,8 +9,6 @@ pub enum State {
     LabelInside,
     LabelEscape,
     LabelAfter,
+    MarkerAfter,
     WhitespaceAfter,
-    ContStart,
-    ContBlank,
-    ContFilled,
 }

@@ -11,7 +11,7 @@ pub use crate::tokenizer::container::name::ContainerKind;
 /// A container that is open.
 #[derive(Clone, Copy)]
 pub struct Container {
-    /// The columns that a further line of a list item has to lose (CommonMark 5.2).
+    /// The columns that a further line of a list item has to lose (CommonMark 5.2), or of a footnote definition.
     pub width: usize,
     pub kind: ContainerKind,
     /// Whether the first line of a list item was blank behind its marker, and no further one was read yet.

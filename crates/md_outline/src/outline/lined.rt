@@ -1,6 +1,6 @@
 // What an outline knows of a leaf block of several lines that is open, and what it shows of it: indented code, fenced
-// code, math, HTML, setext headings, definitions and tables. Its lines are shown as they come, and the line of its word
-// is told later what its fences, its underline or its cells say.
+// code, math, HTML, setext headings, definitions, tables and frontmatter. Its lines are shown as they come, and the
+// line of its word is told later what its fences, its underline or its cells say.
 
 ghost use Rattle.std.specs.Prelude.{◌≡◌, ◌+◌, ◌∷◌, [], ◌++◌, if◌then◌else◌, OnOk};
 ghost use Rattle.std.specs.Str.{IsUtf8};
@@ -8,7 +8,7 @@ ghost use Rattle.md_definition.specs.Outline.{entries_of, entry, entry_with};
 ghost use Rattle.md_definition.specs.declared.outline.Word.TheVariants as word;
 ghost use Rattle.md_seam.specs.Events.Spelled as spelled;
 ghost use Rattle.md_outline.specs.LinedState.{begin_lines, closed_word, filled_line, form_of, has_own_lines};
-ghost use Rattle.md_outline.specs.LinedState.{is_heading, marked_word, with_head, without_end};
+ghost use Rattle.md_outline.specs.LinedState.{is_heading, marked_word, spaces_of, with_head, without_end};
 
 use crate::outline::lines::{next, push, text_of};
 use md_definition::outline::{OutlineLine, Word};
@@ -20,6 +20,8 @@ use md_engine::message::Message;
 pub enum Form {
     /// Each by itself, behind a line ending.
     Lines,
+    /// The same, without the virtual spaces in front of it: frontmatter.
+    Texts,
     /// As those of its text: a heading.
     Heading,
     /// As those of its parts: a definition.
@@ -50,7 +52,17 @@ impl Form {
     pub fn has_own_lines(self) -> bool
         ensures { result ≡ has_own_lines self }
     {
-        matches!(self, Form::Lines)
+        matches!(self, Form::Lines | Form::Texts)
+    }
+
+    /// The virtual spaces that a line is shown with, of those in front of it.
+    pub fn spaces(self, spaces: usize) -> usize
+        ensures { result ≡ spaces_of self spaces }
+    {
+        match self {
+            Form::Texts => 0,
+            _ => spaces,
+        }
     }
 }
 
@@ -62,6 +74,7 @@ pub fn form_of(word: Word) -> Form
         Word::Heading(_) => Form::Heading,
         Word::Definition => Form::Definition,
         Word::Table(_) => Form::Table,
+        Word::Frontmatter(_) => Form::Texts,
         _ => Form::Lines,
     }
 }
@@ -91,6 +104,7 @@ fn marked(word: Word, marker: u8) -> Word
     match word {
         Word::Fence { closed, .. } => Word::Fence { marker, closed },
         Word::Heading(_) => Word::Heading(underline_depth(marker)),
+        Word::Frontmatter(_) => Word::Frontmatter(marker),
         _ => word,
     }
 }

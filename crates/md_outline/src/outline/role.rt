@@ -48,6 +48,8 @@ pub enum Purpose {
     Marker,
     /// The digits of an item, which are not shown.
     Digits,
+    /// The label of a footnote definition.
+    FootnoteLabel,
 }
 
 /// A leaf block that is open, with what it was told.
@@ -85,6 +87,7 @@ pub enum Role<'a> {
 }
 
 /// What the events of this name mean.
+#[inline(always)]
 pub fn role_of<'a>(name: Name) -> Role<'a>
     ensures { result ≡ shown_as (spelled.role name) }
 {
@@ -95,6 +98,8 @@ pub fn role_of<'a>(name: Name) -> Role<'a>
         Name::ListItem => Role::Container(Word::Item),
         Name::ListItemValue => Role::Text(Purpose::Digits),
         Name::ListItemMarker => Role::Text(Purpose::Marker),
+        Name::GfmFootnoteDefinition => Role::Container(Word::Footnote),
+        Name::GfmFootnoteDefinitionLabelString => Role::Text(Purpose::FootnoteLabel),
         Name::ThematicBreak => Role::Leaf(Leaf::Break),
         Name::HeadingAtx => Role::Leaf(Leaf::Heading(Heading {
             markers: None,
@@ -125,6 +130,7 @@ pub fn role_of<'a>(name: Name) -> Role<'a>
         }),
         Name::MathFlow => Role::Lined(Word::Math { closed: false }),
         Name::HtmlFlow => Role::Lined(Word::Html),
+        Name::Frontmatter => Role::Lined(Word::Frontmatter(0)),
         Name::FrontmatterFence | Name::CodeFencedFence | Name::MathFlowFence => Role::Fence,
         Name::CodeFencedFenceInfo => Role::Text(Purpose::Part(Word::Info)),
         Name::CodeFencedFenceMeta | Name::MathFlowFenceMeta => {

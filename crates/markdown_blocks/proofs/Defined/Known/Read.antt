@@ -79,7 +79,7 @@ gap-unlinked bytes p q (OverLine a e b r s front) is =
     (pair_unless_empty n.SpaceOrTab r s)
     (each-append IsUnlinked (pair_unless_empty n.SpaceOrTab a e ++ pair n.LineEnding e b) front
     (each-append IsUnlinked (pair_unless_empty n.SpaceOrTab a e) (pair n.LineEnding e b) (white-unlinked a e)
-    (refl, (refl, tt))) (fronts-unlinked bytes [] b r front is.2.front_is)) (white-unlinked r s)
+    (refl, (refl, tt))) (fronts-unlinked bytes b r front is.2.front_is)) (white-unlinked r s)
 
 -- between two marks
 marks-read : (wants : Content → Bool) (reads : Readings) (name : Name) (p a b q : Point) (us ds : List Event) →

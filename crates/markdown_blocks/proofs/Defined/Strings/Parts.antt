@@ -91,7 +91,7 @@ strand-filled bytes p q _ (More _ e b r _ text front s run break further) ys mor
     let rest : List Event = filled_from false ys more in
     ap (λ (l : List Event). chunk ++ filled_from false l lists) (append_assoc front lines ys)
     ∙ ap (λ (l : List Event). chunk ++ l)
-    (passes-filled front (lines ++ ys) lists (fronts-unlinked bytes [] b r front break.front_is))
+    (passes-filled front (lines ++ ys) lists (fronts-unlinked bytes b r front break.front_is))
     ∙ ap (λ (l : List Event). chunk ++ (front ++ l)) (strand-filled bytes r q s further ys more)
     ∙ sym (append_assoc chunk front (read ++ rest))
     ∙ sym (append_assoc (chunk ++ front) read rest)

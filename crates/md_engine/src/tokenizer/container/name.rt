@@ -10,6 +10,7 @@ use crate::event::Name;
 pub enum ContainerKind {
     BlockQuote,
     ListItem,
+    GfmFootnoteDefinition,
 }
 
 /// The first of the kinds: of it is what no question is asked of yet.
@@ -21,7 +22,7 @@ pub(crate) fn first_kind() -> ContainerKind
 }
 
 /// Whether a container of a kind goes on over an empty line, of which it takes nothing, by whether it started blank: a
-/// list item does that did not (CommonMark 5.2).
+/// list item does that did not (CommonMark 5.2), and a footnote definition always.
 #[inline(always)]
 pub(crate) fn kind_goes_over(kind: ContainerKind, starts_blank: bool) -> bool
     ensures { result ≡ kind_goes_over kind starts_blank }
@@ -29,6 +30,7 @@ pub(crate) fn kind_goes_over(kind: ContainerKind, starts_blank: bool) -> bool
     match kind {
         ContainerKind::BlockQuote => false,
         ContainerKind::ListItem => !starts_blank,
+        ContainerKind::GfmFootnoteDefinition => true,
     }
 }
 
@@ -39,5 +41,6 @@ pub(crate) fn name_of(kind: ContainerKind) -> Name
     match kind {
         ContainerKind::BlockQuote => Name::BlockQuote,
         ContainerKind::ListItem => Name::ListItem,
+        ContainerKind::GfmFootnoteDefinition => Name::GfmFootnoteDefinition,
     }
 }

@@ -1,7 +1,6 @@
-use Rattle.std.proofs.Common.{◌≡◌, ℕ, ◌+◌, true, ◌++◌, take, drop, ap, inl, inr, sym, ◌∙◌, arith}
+use Rattle.std.proofs.Common.{◌≡◌, ℕ, ◌+◌, ◌++◌, take, drop, ap, inl, inr, sym, ◌∙◌, arith}
 use Rattle.std.specs.List.{prefix_len}
 use Rattle.std.specs.Prelude.{None}
-use Rattle.std.specs.Result.{is_ok}
 use Rattle.std.proofs.lemmas.List.{take_rest}
 use Rattle.std.proofs.lemmas.List.Elements.{All-nil}
 use Rattle.md_engine.specs.declared.event.Kind.TheVariants.{Enter}
@@ -52,16 +51,14 @@ loop-at-preserved g c =
     let wants = g.R.Reader.wants c.args.reader.now in
     let events = c.args.events.now in
     let at = c.loop-at.at in
-    let k : is_ok c.extend_from_slice.result ≡ true = c.if-is_err.ensures.negation in
-    let added = rw k at c.extend_from_slice.ensures.items in
-    let is : c.extend_from_slice.new.self.items ≡
-    c.loop-at.all.items ++ take (1 + c.staying-many.result) (drop at events) = rw (take_rest events at) at added in
+    let is : c.append.new.events.items ≡ c.loop-at.all.items ++ take (1 + c.staying-many.result) (drop at events) =
+    rw (take_rest events at) at c.in_ok-append-in_default.ensures in
     let count : 1 + c.staying-many.result ≡
     1
     + prefix_len (stays wants) (drop (at + 1) events) = ap (λ (n : ℕ). 1 + n)
     (c.staying-many.ensures.value ∙ ap (prefix_len (stays wants)) (take_rest events (at + 1))) in
     let leads = leads-stays wants (g.R.Reader.reads_as c.args.reader.now) events
-    (drop c.loop-at.found.placed c.loop-at.found.events.items) c.loop-at.all.items c.extend_from_slice.new.self.items c.loop-at.found.chunks at
+    (drop c.loop-at.found.placed c.loop-at.found.events.items) c.loop-at.all.items c.append.new.events.items c.loop-at.found.chunks at
     (1 + c.staying-many.result) unset c.loop-at-test.true in
     record {
       all = placed-place (g.R.Reader.text c.args.reader.now) _ _ _ _ _ is c.loop-at.invariant.all c.requires.placed;

@@ -82,13 +82,13 @@ loop-at-preserved-then-at-events c =
     let is = rw (take_rest events at) at c.in_ok-append.ensures in
     record {
       events =
-          walk-passed bytes c.args.options.now events c.append.new.events.items c.push.new.items.items _ (at + many)
+          walk-passed bytes c.args.options.now events c.append.new.events.items c.give.new.given.items _ (at + many)
           unset c.if-at-events.true (rw (take_rest events (at + many)) at (sym c.if-is_head.ensures))
-          c.in_ok-push.ensures
+          c.in_ok-give.ensures
           (walk-copied bytes c.args.options.now events c.loop-at.given.items c.append.new.events.items _ at many is
           (rw (take_rest events at) at c.until_chunk-many.ensures.value) c.loop-at.invariant.events);
       placed =
-          subst (ArePlaced bytes) (sym c.in_ok-push.ensures)
+          subst (ArePlaced bytes) (sym c.in_ok-give.ensures)
           (All-push (λ (e : Event). IsPlaced bytes e.point) _ _
           (copied-placed bytes events c.loop-at.given.items c.append.new.events.items at many is c.requires.placed
           c.loop-at.invariant.placed)

@@ -1,55 +1,56 @@
 use Rattle.std.proofs.Common.{◌≢◌, Bool, subst, sym}
 use Rattle.md_engine.specs.contracts.resolve.name.NamePartialEq.TheImpl as names
 use Rattle.md_engine.specs.declared.resolve.name.Name.{Name as ResolveName}
-use Rattle.md_engine.specs.declared.state.gfm_table.State.{State as TableState}
 use Rattle.md_engine.specs.declared.state.Name.TheVariants as n
 use Rattle.md_engine.specs.declared.state.State.TheVariants.{Error}
+use Rattle.md_engine.specs.Going.{SeesOn}
 use Rattle.md_engine.specs.Run.{RunsHere}
-use Rattle.md_engine.specs.World.{world}
-use Rattle.md_engine.proofs.StayLemmas.{within-world}
-use Rattle.md_engine.proofs.Walks.{runs-in}
-use Rattle.md_tables.specs.RowWords.{BodyStep}
+use Rattle.md_engine.specs.World.{World, world}
 use Rattle.markdown_blocks.specs.States.{FlowStep}
-use Rattle.markdown_blocks.proofs.FlowCalls.{called-once}
-use Rattle.markdown_blocks.proofs.GfmTable.Calls.{table-flows}
+use Rattle.markdown_blocks.proofs.GfmTable.Calls.{answers-fine, stood-first, stood-goes, stood-leaves}
 use Rattle.markdown_blocks.proofs.construct.registry.call_table.Goals as goal
 
 -- whether a name that is registered is the one that is looked for
 abbrev is_name : ResolveName → ResolveName → Bool
 is_name target other = names.ghosts.eq other target
 
-pub returns-in-BodyRowBreak : goal.returns-in-BodyRowBreak
-returns-in-BodyRowBreak c =
-    let w = world c.args.tokenizer.now in
-    let w' = world c.part.new.tokenizer in
-    record {
-      runs = λ fine.
-          subst (λ (x : TableState). RunsHere (FlowStep is_name) (n.GfmTable x) w c.part.result w')
-          (sym c.in-BodyRowBreak.is)
-          (λ is_end s v named sees may.
-          runs-in BodyStep (FlowStep is_name) is_end s v c.part.result w' (table-flows is_name)
-          (c.part.ensures.runs fine is_end s v named sees may));
-      sees = c.part.ensures.sees;
-    }
+pub loop-next-init : goal.loop-next-init
+loop-next-init c =
+    stood-first is_name (n.GfmTable c.args.first) (world c.args.tokenizer.now) c.requires.current c.requires.stands
 
-pub returns-in-BodyRowData : goal.returns-in-BodyRowData
-returns-in-BodyRowData c =
-    let w = world c.args.tokenizer.now in
-    let w' = world c.word.new.tokenizer in
-    record {
-      runs = λ fine.
-          subst (λ (x : TableState). RunsHere (FlowStep is_name) (n.GfmTable x) w c.word.result w')
-          (sym c.in-BodyRowData.is)
-          (λ is_end s v named sees may.
-          runs-in BodyStep (FlowStep is_name) is_end s v c.word.result w' (table-flows is_name)
-          (c.word.ensures.runs fine is_end s v named sees may));
-      sees = c.word.ensures.sees;
-    }
+pub loop-next-preserved : goal.loop-next-preserved
+loop-next-preserved c =
+    let to = c.call_in_table-to.result in
+    let u = world c.call_in_table-to.new.tokenizer in
+    let fine : to ≢ Error = answers-fine to _ u _ c.in-Some.ensures.some in
+    (stood-goes is_name (n.GfmTable c.args.first) (world c.args.tokenizer.now) (n.GfmTable c.loop-next.state)
+    (world c.loop-next.tokenizer) to u _ _ c.loop-next.invariant (c.call_in_table-to.ensures.runs fine)
+    (c.call_in_table-to.ensures.sees fine) c.in-Some.ensures.some).0
 
-pub returns-in_default : goal.returns-in_default
-returns-in_default c =
-    let once = λ (fine : c.call.result ≢ Error).
-    called-once is_name (n.GfmTable c.args.state) (world c.args.tokenizer.now) c.call.result
-    (world c.call.new.tokenizer) c.requires.current c.requires.stands (within-world c.args.tokenizer.now) fine
-    (c.call.ensures.to fine) (c.call.ensures.world fine) in
-    record { runs = λ fine. (once fine).0; sees = λ fine. (once fine).1 }
+pub loop-next-smaller : goal.loop-next-smaller
+loop-next-smaller c =
+    let to = c.call_in_table-to.result in
+    let u = world c.call_in_table-to.new.tokenizer in
+    let fine : to ≢ Error = answers-fine to _ u _ c.in-Some.ensures.some in
+    (stood-goes is_name (n.GfmTable c.args.first) (world c.args.tokenizer.now) (n.GfmTable c.loop-next.state)
+    (world c.loop-next.tokenizer) to u _ _ c.loop-next.invariant (c.call_in_table-to.ensures.runs fine)
+    (c.call_in_table-to.ensures.sees fine) c.in-Some.ensures.some).1
+
+pub returns-in_default-clause-runs : goal.returns-in_default-clause-runs
+returns-in_default-clause-runs c = λ fine.
+    let first = n.GfmTable c.args.first in
+    let old = world c.args.tokenizer.now in
+    let to = c.call_in_table-to.result in
+    subst (λ (x : World). RunsHere (FlowStep is_name) first old to x) (sym (c.next.ensures.none c.in_default.is))
+    (stood-leaves is_name first old (n.GfmTable c.loop-next.state) (world c.loop-next.tokenizer) to
+    (world c.call_in_table-to.new.tokenizer) c.loop-next.invariant (c.call_in_table-to.ensures.runs fine)
+    (c.call_in_table-to.ensures.sees fine)).0
+
+pub returns-in_default-clause-sees : goal.returns-in_default-clause-sees
+returns-in_default-clause-sees c = λ fine.
+    let old = world c.args.tokenizer.now in
+    let to = c.call_in_table-to.result in
+    subst (λ (x : World). SeesOn to old x) (sym (c.next.ensures.none c.in_default.is))
+    (stood-leaves is_name (n.GfmTable c.args.first) old (n.GfmTable c.loop-next.state) (world c.loop-next.tokenizer) to
+    (world c.call_in_table-to.new.tokenizer) c.loop-next.invariant (c.call_in_table-to.ensures.runs fine)
+    (c.call_in_table-to.ensures.sees fine)).1

@@ -1,8 +1,9 @@
-use Rattle.std.proofs.Common.{◌+◌, ◌∷◌, [], ◌++◌, refl}
+use Rattle.std.proofs.Common.{◌+◌, ◌∷◌, [], ◌++◌, ap, refl, ◌∙◌}
 use Rattle.md_definition.specs.Outline.{entries_of, entry_with}
 use Rattle.md_definition.specs.declared.outline.Word.TheVariants as word
 use Rattle.md_outline.specs.DefinitionState.{destination_told, part_ended}
-use Rattle.md_outline.specs.LinedState.{filled_line, without_end}
+use Rattle.md_outline.specs.FootnoteState.{label_told}
+use Rattle.md_outline.specs.LinedState.{filled_line, shown_spaces, without_end}
 use Rattle.md_outline.specs.OutlineSteps.{state_of}
 use Rattle.md_outline.specs.TableState.{cell_told}
 use Rattle.md_outline.proofs.OutlineLemmas.{block-end, delimiter-end, label-end, markers-end, on_ok-map, part-end, title-end}
@@ -56,8 +57,16 @@ returns-in-Line-clause-read c =
     (state_of c.args.self.now) (entries_of c.fill_line.new.lines.items)
     (λ text.
     without_end (entries_of c.args.self.now.lines.items)
-    ++ filled_line (c.args.self.now.depth + 1) c.args.self.now.spaces text ∷ [])
-    c.in-Some.is c.in-Line.is cut c.part-text.ensures reads refl)
+    ++ filled_line (c.args.self.now.depth + 1) (shown_spaces c.args.self.now.lined c.args.self.now.spaces) text ∷ [])
+    c.in-Some.is c.in-Line.is cut c.part-text.ensures
+    (λ utf8.
+    reads utf8
+    ∙ ap
+    (λ n.
+    without_end (entries_of c.args.self.now.lines.items)
+    ++ filled_line (c.args.self.now.depth + 1) n c.part-text.result.now ∷ [])
+    c.shown_spaces-spaces.ensures)
+    refl)
     c.fill_line.ensures
 
 pub returns-in-Label-clause-read : goal.returns-in-Label-clause-read
@@ -112,3 +121,14 @@ returns-in-Delimiter-clause-read c =
     c.args.self.now.text c.args.purpose (state_of c.args.self.now) (state_of c.end_delimiter.new.self)
     c.in-Some.is c.in-Delimiter.is cut c.part-text.ensures reads)
     c.end_delimiter.ensures.read
+
+pub returns-in-FootnoteLabel-clause-read : goal.returns-in-FootnoteLabel-clause-read
+returns-in-FootnoteLabel-clause-read c =
+    on_ok-map c.fill_label.result
+    (λ reads cut.
+    part-end c.args.self.now.bytes.now c.part-text.result.now c.in-Some.span c.args.end c.args.self.now.text
+    c.args.purpose purpose.FootnoteLabel
+    (state_of c.args.self.now) (entries_of c.fill_label.new.lines.items)
+    (λ text. label_told c.args.self.now.depth text (entries_of c.args.self.now.lines.items))
+    c.in-Some.is c.in-FootnoteLabel.is cut c.part-text.ensures reads refl)
+    c.fill_label.ensures

@@ -1,43 +1,20 @@
 use Rattle.md_engine.specs.World.{world}
-use Rattle.md_engine.proofs.Loops.{call-runs, call-sees}
-use Rattle.md_engine.proofs.StayLemmas.{within-world}
-use Rattle.md_seam.proofs.SpacesGoods.{does-fall, does-remain, does-setting, does-stands}
-use Rattle.md_tables.specs.HeadStates.{HeadStep, head_scheme, head_transition}
-use Rattle.md_tables.proofs.HeadStates.{head_does}
+use Rattle.md_engine.proofs.Walks.{here-keeps}
+use Rattle.md_tables.specs.HeadStates.{HeadStep, head_scheme}
+use Rattle.md_tables.proofs.HeadStates.{head-keeps}
 use Rattle.md_tables.proofs.heads.HeadTableTable.call.Goals as goal
 
 pub returns-clause-stands : goal.returns-clause-stands
 returns-clause-stands c = λ fine.
-    let w = world c.args.tokenizer.now in
-    does-stands head_scheme c.args.name w (head_transition c.args.name w) _ _ (c.call_state.ensures.to fine)
-    (c.call_state.ensures.world fine) (head_does c.args.name w c.requires.current c.requires.stands)
+    (here-keeps HeadStep head_scheme c.args.name (world c.args.tokenizer.now) _ _ head-keeps c.requires.current
+    c.requires.stands (c.call_state.ensures.runs fine)).0
 
 pub returns-clause-falls : goal.returns-clause-falls
 returns-clause-falls c = λ fine.
-    let w = world c.args.tokenizer.now in
-    does-fall head_scheme c.args.name w (head_transition c.args.name w) _ _ (c.call_state.ensures.to fine)
-    (c.call_state.ensures.world fine) (head_does c.args.name w c.requires.current c.requires.stands)
+    (here-keeps HeadStep head_scheme c.args.name (world c.args.tokenizer.now) _ _ head-keeps c.requires.current
+    c.requires.stands (c.call_state.ensures.runs fine)).1
 
 pub returns-clause-setting : goal.returns-clause-setting
 returns-clause-setting c = λ fine.
-    let w = world c.args.tokenizer.now in
-    does-setting head_scheme c.args.name w (head_transition c.args.name w) _ (c.call_state.ensures.world fine)
-    (head_does c.args.name w c.requires.current c.requires.stands)
-
-pub returns-clause-runs : goal.returns-clause-runs
-returns-clause-runs c = λ fine.
-    let w = world c.args.tokenizer.now in
-    call-runs HeadStep c.args.name w _ _ (record { to_is = c.call_state.ensures.to fine; new_is = c.call_state.ensures.world fine }) fine
-    (does-setting head_scheme c.args.name w (head_transition c.args.name w) _ (c.call_state.ensures.world fine)
-    (head_does c.args.name w c.requires.current c.requires.stands))
-    (within-world c.args.tokenizer.now)
-
-pub returns-clause-sees : goal.returns-clause-sees
-returns-clause-sees c = λ fine.
-    let w = world c.args.tokenizer.now in
-    call-sees _ w _
-    (does-remain head_scheme c.args.name w (head_transition c.args.name w) _ _ (c.call_state.ensures.to fine)
-    (c.call_state.ensures.world fine) (head_does c.args.name w c.requires.current c.requires.stands))
-    (does-setting head_scheme c.args.name w (head_transition c.args.name w) _ (c.call_state.ensures.world fine)
-    (head_does c.args.name w c.requires.current c.requires.stands))
-    c.requires.current
+    (here-keeps HeadStep head_scheme c.args.name (world c.args.tokenizer.now) _ _ head-keeps c.requires.current
+    c.requires.stands (c.call_state.ensures.runs fine)).2

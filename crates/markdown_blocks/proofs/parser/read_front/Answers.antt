@@ -1,0 +1,12 @@
+use Rattle.std.proofs.Common.{arith, refl}
+use Rattle.markdown_blocks.proofs.DocumentReads.{document-reads-from}
+use Rattle.markdown_blocks.proofs.MarkLemmas.{placed-first}
+use Rattle.markdown_blocks.proofs.parser.read_front.Goals as goal
+
+pub new-tokenizer-requires : goal.new-tokenizer-requires
+new-tokenizer-requires c = placed-first c.args.bytes.now c.requires
+
+pub returns : goal.returns
+returns c =
+    document-reads-from _ c.args.bytes.now c.args.options.now _ _ _ _ _ _ c.new-tokenizer.ensures refl
+    (omega (arith, c.requires)) (c.push.ensures.runs c.in_default.not-Error) c.in_ok-flush.ensures

@@ -1,0 +1,300 @@
+// Footnote definitions (own choice, as on GitHub).
+//
+//     gfm_footnote_definition ::= small_indent '[' '^' label ']' ':' [ space_or_tab ]
+//     label                   ::= 1*999( pair | any but '[', ']', space, tab and eol )
+//     pair                    ::= '\' ( '[' | ']' | '\' )
+//
+// Pairs are read from left to right, and each byte of one counts. `start` adds the begin of `GfmFootnoteDefinition` in
+// front of the indent. Then stands the indent, and `GfmFootnoteDefinitionPrefix` around `GfmFootnoteDefinitionLabel`,
+// `DefinitionMarker` and all whitespace behind it. In the label stand `GfmFootnoteDefinitionLabelMarker`,
+// `GfmFootnoteDefinitionMarker`, `GfmFootnoteDefinitionLabelString` around one linked `Data`, and
+// `GfmFootnoteDefinitionLabelMarker`.
+//
+// A further line goes on if its indent is 4 columns at least, and loses these; a blank one always, and loses at most
+// as many. That is what an item of this width asks for that did not start blank; so the states of an item read it.
+
+ghost use Rattle.std.specs.Prelude.{◌≡◌, ◌≢◌, ◌<◌, ◌==◌, length};
+ghost use Rattle.md_engine.specs.World.{world};
+ghost use Rattle.md_engine.specs.declared.state.Name.{Name as StateName};
+ghost use Rattle.md_engine.specs.declared.state.State.{State};
+ghost use Rattle.md_engine.specs.declared.state.gfm_footnote_definition.State.{State as FootnoteState};
+ghost use Rattle.md_containers.specs.Footnote.{closed_code, footnote_transition, label_after_transition};
+ghost use Rattle.md_containers.specs.Footnote.{label_at_marker_transition, label_before_transition};
+ghost use Rattle.md_containers.specs.Footnote.{label_escape_transition, label_inside_transition};
+ghost use Rattle.md_containers.specs.Footnote.{marker_after_transition};
+ghost use Rattle.md_containers.specs.Footnote.{may_begin, refused, start_transition, taken_as};
+ghost use Rattle.md_containers.specs.Footnote.{whitespace_after_transition};
+ghost use Rattle.md_definition.specs.Containers.{is_label_mark};
+ghost use Rattle.md_seam.specs.Look.{may_with};
+ghost use Rattle.md_seam.specs.Transition.{IsAt, NeedsNothing};
+
+pub use crate::list_item::{cont_blank, cont_filled, cont_start};
+use md_engine::event::{Content, Link, Name};
+use md_engine::or_error;
+use md_engine::state::gfm_footnote_definition::State as FootnoteState;
+use md_engine::state::{Name as StateName, State};
+use md_engine::tokenizer::Tokenizer;
+use md_seam::space_or_tab::{is_space_or_tab, small_indent, space_or_tab, space_or_tab_min_max};
+
+/// A label has at most so many bytes.
+const MOST: usize = 999;
+
+/// A further line loses so many columns.
+const WIDTH: usize = 4;
+
+/// Whether a backslash takes this.
+fn is_label_mark(byte: u8) -> bool
+    ensures { result ≡ is_label_mark byte }
+{
+    byte == b'[' || byte == b'\\' || byte == b']'
+}
+
+/// Whether a footnote definition may open here, by what stands first behind whitespace: `[`, if that is known.
+pub fn may_begin(first: Option<u8>) -> bool
+    ensures { result ≡ may_with may_begin first }
+{
+    matches!(first, None | Some(b'['))
+}
+
+/// Before a footnote definition.
+///
+/// ```markdown
+/// > | [^a]: b
+///     ^
+/// ```
+pub fn start(tokenizer: &mut Tokenizer) -> State
+    requires { IsAt NeedsNothing (StateName.GfmFootnoteDefinition FootnoteState.Start) (world tokenizer.old) }
+    ensures to { result ≢ State.Error → result ≡ (start_transition (world tokenizer.old)).to }
+    ensures world { result ≢ State.Error → world tokenizer.new ≡ (start_transition (world tokenizer.old)).world }
+{
+    if !tokenizer.options.constructs.gfm_footnote_definition {
+        return State::Nok;
+    }
+    or_error!(tokenizer.enter(Name::GfmFootnoteDefinition));
+    if is_space_or_tab(tokenizer.current) {
+        let max = small_indent(tokenizer);
+        space_or_tab_min_max(
+            tokenizer,
+            0,
+            max,
+            State::Next(StateName::GfmFootnoteDefinition(FootnoteState::LabelBefore)),
+            State::Nok,
+        )
+    } else {
+        State::Retry(StateName::GfmFootnoteDefinition(FootnoteState::LabelBefore))
+    }
+}
+
+/// Behind the indent, at `[`.
+///
+/// ```markdown
+/// > | [^a]: b
+///     ^
+/// ```
+pub fn label_before(tokenizer: &mut Tokenizer) -> State
+    requires { IsAt NeedsNothing (StateName.GfmFootnoteDefinition FootnoteState.LabelBefore) (world tokenizer.old) }
+    ensures to { result ≢ State.Error → result ≡ (label_before_transition (world tokenizer.old)).to }
+    ensures world { result ≢ State.Error →
+        world tokenizer.new ≡ (label_before_transition (world tokenizer.old)).world }
+{
+    if tokenizer.current != Some(b'[') {
+        return State::Nok;
+    }
+    or_error!(tokenizer.enter(Name::GfmFootnoteDefinitionPrefix));
+    or_error!(tokenizer.enter(Name::GfmFootnoteDefinitionLabel));
+    or_error!(tokenizer.enter(Name::GfmFootnoteDefinitionLabelMarker));
+    tokenizer.consume();
+    or_error!(tokenizer.exit(Name::GfmFootnoteDefinitionLabelMarker));
+    State::Next(StateName::GfmFootnoteDefinition(FootnoteState::LabelAtMarker))
+}
+
+/// Behind `[`, at `^`.
+///
+/// ```markdown
+/// > | [^a]: b
+///      ^
+/// ```
+pub fn label_at_marker(tokenizer: &mut Tokenizer) -> State
+    requires { IsAt NeedsNothing (StateName.GfmFootnoteDefinition FootnoteState.LabelAtMarker) (world tokenizer.old) }
+    ensures to { result ≢ State.Error → result ≡ (label_at_marker_transition (world tokenizer.old)).to }
+    ensures world { result ≢ State.Error →
+        world tokenizer.new ≡ (label_at_marker_transition (world tokenizer.old)).world }
+{
+    if tokenizer.current != Some(b'^') {
+        return State::Nok;
+    }
+    let link = Link {
+        previous: false,
+        next: false,
+        content: Content::String,
+    };
+    or_error!(tokenizer.enter(Name::GfmFootnoteDefinitionMarker));
+    tokenizer.consume();
+    or_error!(tokenizer.exit(Name::GfmFootnoteDefinitionMarker));
+    or_error!(tokenizer.enter(Name::GfmFootnoteDefinitionLabelString));
+    or_error!(tokenizer.enter_link(Name::Data, link));
+    State::Next(StateName::GfmFootnoteDefinition(FootnoteState::LabelInside))
+}
+
+/// Refuses, at rest.
+fn refuse(tokenizer: &mut Tokenizer) -> State
+    ensures to { result ≡ State.Nok }
+    ensures world { world tokenizer.new ≡ (refused (world tokenizer.old)).world }
+{
+    tokenizer.scratch.size = 0;
+    State::Nok
+}
+
+/// Takes a byte of the label, if there is room for it.
+fn take(tokenizer: &mut Tokenizer, state: FootnoteState) -> State
+    requires { (world tokenizer.old).point.index < length (world tokenizer.old).setting.bytes }
+    ensures to { result ≡ (taken_as (world tokenizer.old) state).to }
+    ensures world { world tokenizer.new ≡ (taken_as (world tokenizer.old) state).world }
+{
+    if tokenizer.scratch.size >= MOST {
+        return refuse(tokenizer);
+    }
+    tokenizer.consume();
+    tokenizer.scratch.size += 1;
+    State::Next(StateName::GfmFootnoteDefinition(state))
+}
+
+/// At the `]` that ends the label, if something stands in it.
+fn close(tokenizer: &mut Tokenizer) -> State
+    requires { (world tokenizer.old).point.index < length (world tokenizer.old).setting.bytes }
+    ensures to { result ≢ State.Error →
+        result ≡ (closed_code (world tokenizer.old) ((world tokenizer.old).scratch.size == 0)).to }
+    ensures world { result ≢ State.Error →
+        world tokenizer.new ≡ (closed_code (world tokenizer.old) ((world tokenizer.old).scratch.size == 0)).world }
+{
+    if tokenizer.scratch.size == 0 {
+        return refuse(tokenizer);
+    }
+    or_error!(tokenizer.exit(Name::Data));
+    or_error!(tokenizer.exit(Name::GfmFootnoteDefinitionLabelString));
+    or_error!(tokenizer.enter(Name::GfmFootnoteDefinitionLabelMarker));
+    tokenizer.consume();
+    or_error!(tokenizer.exit(Name::GfmFootnoteDefinitionLabelMarker));
+    or_error!(tokenizer.exit(Name::GfmFootnoteDefinitionLabel));
+    tokenizer.scratch.size = 0;
+    State::Next(StateName::GfmFootnoteDefinition(FootnoteState::LabelAfter))
+}
+
+/// In the label.
+///
+/// ```markdown
+/// > | [^a]: b
+///       ^
+/// ```
+pub fn label_inside(tokenizer: &mut Tokenizer) -> State
+    requires { IsAt NeedsNothing (StateName.GfmFootnoteDefinition FootnoteState.LabelInside) (world tokenizer.old) }
+    ensures to { result ≢ State.Error → result ≡ (label_inside_transition (world tokenizer.old)).to }
+    ensures world { result ≢ State.Error →
+        world tokenizer.new ≡ (label_inside_transition (world tokenizer.old)).world }
+{
+    match tokenizer.current {
+        Some(b']') => close(tokenizer),
+        None | Some(b'\t' | b'\n' | b' ' | b'[') => refuse(tokenizer),
+        Some(b'\\') => take(tokenizer, FootnoteState::LabelEscape),
+        _ => take(tokenizer, FootnoteState::LabelInside),
+    }
+}
+
+/// Behind `\`.
+///
+/// ```markdown
+/// > | [^\]]: b
+///        ^
+/// ```
+pub fn label_escape(tokenizer: &mut Tokenizer) -> State
+    requires { IsAt NeedsNothing (StateName.GfmFootnoteDefinition FootnoteState.LabelEscape) (world tokenizer.old) }
+    ensures to { result ≡ (label_escape_transition (world tokenizer.old)).to }
+    ensures world { world tokenizer.new ≡ (label_escape_transition (world tokenizer.old)).world }
+{
+    match tokenizer.current {
+        Some(byte) if is_label_mark(byte) => take(tokenizer, FootnoteState::LabelInside),
+        _ => State::Retry(StateName::GfmFootnoteDefinition(FootnoteState::LabelInside)),
+    }
+}
+
+/// Behind the label, at `:`.
+///
+/// ```markdown
+/// > | [^a]: b
+///         ^
+/// ```
+pub fn label_after(tokenizer: &mut Tokenizer) -> State
+    requires { IsAt NeedsNothing (StateName.GfmFootnoteDefinition FootnoteState.LabelAfter) (world tokenizer.old) }
+    ensures to { result ≢ State.Error → result ≡ (label_after_transition (world tokenizer.old)).to }
+    ensures world { result ≢ State.Error →
+        world tokenizer.new ≡ (label_after_transition (world tokenizer.old)).world }
+{
+    if tokenizer.current != Some(b':') {
+        return State::Nok;
+    }
+    or_error!(tokenizer.enter(Name::DefinitionMarker));
+    tokenizer.consume();
+    or_error!(tokenizer.exit(Name::DefinitionMarker));
+    State::Next(StateName::GfmFootnoteDefinition(FootnoteState::MarkerAfter))
+}
+
+/// Behind `:`. All whitespace that follows belongs to the prefix.
+///
+/// ```markdown
+/// > | [^a]: b
+///          ^
+/// ```
+pub fn marker_after(tokenizer: &mut Tokenizer) -> State
+    requires { IsAt NeedsNothing (StateName.GfmFootnoteDefinition FootnoteState.MarkerAfter) (world tokenizer.old) }
+    ensures to { result ≢ State.Error → result ≡ (marker_after_transition (world tokenizer.old)).to }
+    ensures world { result ≢ State.Error →
+        world tokenizer.new ≡ (marker_after_transition (world tokenizer.old)).world }
+{
+    if is_space_or_tab(tokenizer.current) {
+        space_or_tab(
+            tokenizer,
+            State::Next(StateName::GfmFootnoteDefinition(FootnoteState::WhitespaceAfter)),
+            State::Nok,
+        )
+    } else {
+        State::Retry(StateName::GfmFootnoteDefinition(FootnoteState::WhitespaceAfter))
+    }
+}
+
+/// Behind the prefix: the footnote definition opens.
+///
+/// ```markdown
+/// > | [^a]: b
+///           ^
+/// ```
+pub fn whitespace_after(tokenizer: &mut Tokenizer) -> State
+    requires { IsAt NeedsNothing (StateName.GfmFootnoteDefinition FootnoteState.WhitespaceAfter)
+        (world tokenizer.old) }
+    ensures to { result ≢ State.Error → result ≡ (whitespace_after_transition (world tokenizer.old)).to }
+    ensures world { result ≢ State.Error →
+        world tokenizer.new ≡ (whitespace_after_transition (world tokenizer.old)).world }
+{
+    tokenizer.flags.asked.width = WIDTH;
+    tokenizer.flags.asked.starts_blank = false;
+    or_error!(tokenizer.exit(Name::GfmFootnoteDefinitionPrefix));
+    State::Ok
+}
+
+/// Calls a state of a footnote definition.
+pub fn call(tokenizer: &mut Tokenizer, state: FootnoteState) -> State
+    requires { IsAt NeedsNothing (StateName.GfmFootnoteDefinition state) (world tokenizer.old) }
+    ensures to { result ≢ State.Error → result ≡ (footnote_transition state (world tokenizer.old)).to }
+    ensures world { result ≢ State.Error →
+        world tokenizer.new ≡ (footnote_transition state (world tokenizer.old)).world }
+{
+    match state {
+        FootnoteState::Start => start(tokenizer),
+        FootnoteState::LabelBefore => label_before(tokenizer),
+        FootnoteState::LabelAtMarker => label_at_marker(tokenizer),
+        FootnoteState::LabelInside => label_inside(tokenizer),
+        FootnoteState::LabelEscape => label_escape(tokenizer),
+        FootnoteState::LabelAfter => label_after(tokenizer),
+        FootnoteState::MarkerAfter => marker_after(tokenizer),
+        FootnoteState::WhitespaceAfter => whitespace_after(tokenizer),
+    }
+}

@@ -1,0 +1,63 @@
+// The labels of the footnote definitions of a text, as what refers to them finds them: in normal form.
+
+ghost use Rattle.std.specs.Prelude.{◌≡◌, ◌&&◌, map, string_bytes, IfOk};
+ghost use Rattle.md_content.specs.FootnoteLabels.{footnote_labels_in, is_footnote_label};
+ghost use Rattle.md_seam.specs.Events.Nested.{is_enter, is_exit};
+ghost use Rattle.md_seam.specs.Events.Spelled.{byte_at};
+
+use crate::labels::{between, push_label};
+use md_engine::event::{Event, Kind, Name, Point};
+use md_engine::message::Message;
+use std::alloc::Global;
+
+/// Whether a label begins here.
+fn begins_label(event: &Event) -> bool
+    ensures { result ≡ is_enter event.now.kind && is_footnote_label event.now.name }
+{
+    matches!(event.name, Name::GfmFootnoteDefinitionLabelString)
+        && matches!(event.kind, Kind::Enter)
+}
+
+/// Whether a label ends here.
+fn ends_label(event: &Event) -> bool
+    ensures { result ≡ is_exit event.now.kind && is_footnote_label event.now.name }
+{
+    matches!(event.name, Name::GfmFootnoteDefinitionLabelString) && matches!(event.kind, Kind::Exit)
+}
+
+/// The first byte behind a point: one that cuts a tab is in front of the next.
+fn byte_at(point: Point) -> Result<usize, Message>
+    ensures { IfOk result (λ byte. byte ≡ byte_at point) }
+{
+    if point.vs == 0 {
+        return Ok(point.index);
+    }
+    match point.index.checked_add(1) {
+        Some(next) => Ok(next),
+        None => Err(Message),
+    }
+}
+
+/// The normal forms of all labels of footnote definitions, in the order of the text, repeats kept. Nothing is allocated
+/// where there is none.
+///
+/// An `Err` says that memory ran out.
+pub fn footnote_labels(
+    alloc: Global,
+    bytes: &[u8],
+    events: &[Event],
+) -> Result<Vec<String>, Message>
+    ensures { IfOk result (λ found. map string_bytes found.items ≡ footnote_labels_in bytes.now events.now) }
+{
+    let mut found = Vec::new(alloc);
+    let mut from = 0;
+    for event in events {
+        if begins_label(event) {
+            from = byte_at(event.point)?;
+        }
+        if ends_label(event) {
+            push_label(alloc, &mut found, between(bytes, from, event.point.index))?;
+        }
+    }
+    Ok(found)
+}

@@ -1,0 +1,70 @@
+-- The events of frontmatter, one behind the other: from where in it to where they go.
+--
+-- Each fence, line ending and text of it has a lemma here. `passes-append` puts them together, from `at_front` to
+-- `behind_front`, and all of it is `passes-front`.
+use Rattle.std.proofs.Common.{◌≡◌, ℕ, true, false, cond, ◌==◌, List, ◌++◌, length, slice_range, refl, ap, subst}
+use Rattle.std.specs.Prelude.{nat_lt}
+use Rattle.md_engine.specs.declared.event.Event.{Event}
+use Rattle.md_engine.specs.declared.event.Name.TheVariants as n
+use Rattle.md_engine.specs.declared.event.Point.{Point}
+use Rattle.md_definition.specs.Texts.{first_byte}
+use Rattle.md_seam.specs.Events.Nested.{around, pair}
+use Rattle.md_seam.specs.Events.Spelled.{IsFence, OfFrontmatter, byte_at}
+use Rattle.md_seam.proofs.SpelledLemmas.{Quiet, Roles}
+use Rattle.md_outline.specs.LinesStand.{AtEnd, AtEnding, AtInfo, AtLine, AtMarkers, Outside, Site}
+use Rattle.md_outline.proofs.LinesPass.{Passes, passes-append, passes-around, passes-ending, passes-leaf, passes-quiet}
+
+-- in front of its first fence, on a line that is empty yet, on one that has its text, and behind its last fence
+abbrev pub at_front : Site
+at_front = AtMarkers OfFrontmatter
+
+abbrev pub on_line : Site
+on_line = AtLine OfFrontmatter
+
+abbrev pub behind_line : Site
+behind_line = AtEnding OfFrontmatter
+
+abbrev pub behind_front : Site
+behind_front = AtEnd OfFrontmatter
+
+-- All of it.
+pub passes-front : (bytes : List ℕ) (p q : Point) (es : List Event) → Passes bytes at_front behind_front es →
+    Passes bytes Outside Outside (around n.Frontmatter p q es)
+passes-front bytes p q es h = passes-leaf bytes n.Frontmatter OfFrontmatter p q behind_front es refl tt tt h
+
+-- The first fence: its markers, of which the first is no byte of value 0, and whitespace.
+pub passes-front_fence : (bytes : List ℕ) (p q end : Point) (white : List Event) → Roles Quiet white →
+    (first_byte (slice_range bytes (byte_at p) end.index) == 0) ≡ false →
+    Passes bytes at_front behind_line (around n.FrontmatterFence p q (pair n.FrontmatterSequence p end ++ white))
+passes-front_fence bytes p q end white quiet some =
+    passes-around bytes at_front at_front (AtInfo OfFrontmatter) behind_line IsFence n.FrontmatterFence p q
+    (pair n.FrontmatterSequence p end ++ white) refl (tt, refl)
+    (passes-append bytes at_front (AtInfo OfFrontmatter) (AtInfo OfFrontmatter) (pair n.FrontmatterSequence p end) white
+    (λ ys more. (tt, (some, more))) (passes-quiet bytes (AtInfo OfFrontmatter) white quiet))
+    (tt, refl)
+
+-- A line ending, behind which a line begins: on a line without a text,
+pub passes-empty_line : (bytes : List ℕ) (p q : Point) → Passes bytes on_line on_line (pair n.LineEnding p q)
+passes-empty_line bytes p q = passes-ending bytes p q on_line tt
+
+-- and behind the text of a line, or behind the first fence, where the text goes on.
+pub passes-next_line : (bytes : List ℕ) (p q : Point) → nat_lt q.index (length bytes) ≡ true →
+    Passes bytes behind_line on_line (pair n.LineEnding p q)
+passes-next_line bytes p q goes =
+    subst (λ (s : Site). Passes bytes behind_line s (pair n.LineEnding p q))
+    (ap (λ x. cond x on_line behind_line) goes) (passes-ending bytes p q behind_line tt)
+
+-- The text of a line.
+pub passes-front_chunk : (bytes : List ℕ) (p q : Point) →
+    Passes bytes on_line behind_line (pair n.FrontmatterChunk p q)
+passes-front_chunk bytes p q ys more = (tt, (tt, more))
+
+-- The last fence.
+pub passes-last_fence : (bytes : List ℕ) (p q end : Point) (white : List Event) → Roles Quiet white →
+    Passes bytes on_line behind_front (around n.FrontmatterFence p q (pair n.FrontmatterSequence p end ++ white))
+passes-last_fence bytes p q end white quiet =
+    passes-around bytes on_line behind_front behind_front behind_front IsFence n.FrontmatterFence p q
+    (pair n.FrontmatterSequence p end ++ white) refl (tt, refl)
+    (passes-append bytes behind_front behind_front behind_front (pair n.FrontmatterSequence p end) white
+    (λ ys more. (tt, (tt, more))) (passes-quiet bytes behind_front white quiet))
+    (tt, refl)

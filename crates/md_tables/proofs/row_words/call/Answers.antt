@@ -1,0 +1,12 @@
+use Rattle.md_engine.specs.World.{world}
+use Rattle.md_tables.specs.Row.{name_at}
+use Rattle.md_tables.specs.declared.row.Place.TheVariants as place
+use Rattle.md_tables.proofs.RowWords.{passes-runs}
+use Rattle.md_tables.proofs.row_words.call.Goals as goal
+
+pub returns-in-None-clause-sees : goal.returns-in-None-clause-sees
+returns-in-None-clause-sees c = λ fine.
+    let r = c.args.row in
+    (passes-runs r (name_at r c.args.place) (world c.args.tokenizer.now) (name_at r place.Break)
+    (world c.reach.new.tokenizer) c.parts.result (world c.parts.new.tokenizer) c.in-None.ensures
+    (c.parts.ensures.runs fine) (c.parts.ensures.sees fine)).1

@@ -1,0 +1,36 @@
+use Rattle.std.proofs.Common.{[], ◌∷◌, sym, ◌∙◌}
+use Rattle.md_seam.specs.Events.Nested.{enter, exit}
+use Rattle.md_tables.specs.Cells.{cell_name}
+use Rattle.md_tables.specs.Tabled.{tabled_from}
+use Rattle.md_tables.specs.declared.cells.Stage.TheVariants.{Behind}
+use Rattle.md_tables.proofs.PartsWalk.{gives, last-goes, pipe-goes}
+use Rattle.md_tables.proofs.tables.Walk.pipe_within.Goals as goal
+
+pub returns-then-row_ends-clause-in_all : goal.returns-then-row_ends-clause-in_all
+returns-then-row_ends-clause-in_all c =
+    let now = c.args.self.now in
+    let k = c.args.kind in
+    let begin = c.args.begin.now in
+    let end = c.args.end.now in
+    let rest = c.args.behind.now in
+    gives now.rows.given.items c.give_two_last.new.given.items (begin ∷ end ∷ exit (cell_name k) end.point ∷ [])
+    (tabled_from now.section now.rows.stage (begin ∷ end ∷ rest)) (tabled_from now.section Behind rest)
+    (rw c.cell_name-name.ensures at c.in_ok-give_two_last.ensures)
+    (rw c.requires.stage
+    (last-goes now.section k begin end rest c.requires.section c.requires.pipe
+    (sym c.row_ends.ensures ∙ c.if-row_ends.true)))
+
+pub returns-clause-in_all : goal.returns-clause-in_all
+returns-clause-in_all c =
+    let now = c.args.self.now in
+    let k = c.args.kind in
+    let begin = c.args.begin.now in
+    let end = c.args.end.now in
+    let rest = c.args.behind.now in
+    gives now.rows.given.items c.give_between.new.given.items
+    (exit (cell_name k) begin.point ∷ enter (cell_name k) begin.point ∷ begin ∷ end ∷ [])
+    (tabled_from now.section now.rows.stage (begin ∷ end ∷ rest)) (tabled_from now.section now.rows.stage rest)
+    (rw c.cell_name-name.ensures at c.in_ok-give_between.ensures)
+    (rw c.requires.stage
+    (pipe-goes now.section k begin end rest c.requires.section c.requires.pipe
+    (sym c.row_ends.ensures ∙ c.if-row_ends.false)))

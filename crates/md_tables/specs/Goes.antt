@@ -1,0 +1,40 @@
+-- The walk that gives tables their heads, bodies and cells.
+use Rattle.std.specs.Prelude.{Bool, true, false, ◌&&◌, List, ◌++◌}
+use Rattle.md_engine.specs.declared.event.Event.{Event}
+use Rattle.md_engine.specs.declared.event.Name.{Name}
+use Rattle.md_engine.specs.declared.event.Name.TheVariants as n
+use Rattle.md_seam.specs.Events.Nested.{is_enter, is_exit}
+use Rattle.md_tables.specs.Tabled.{tabled_from}
+use Rattle.md_tables.specs.declared.tables.Section.{Section}
+use Rattle.md_tables.specs.declared.tables.Section.TheVariants.{Between, Outside}
+use Rattle.md_tables.specs.declared.tables.Walk.{Walk}
+
+-- what it gives in all, with these events left
+abbrev pub in_all : Walk → List Event → List Event
+in_all w rest = w.rows.given.items ++ tabled_from w.section w.rows.stage rest
+
+abbrev pub in_table : Section → Bool
+in_table Outside = false
+in_table _ = true
+
+-- behind the head, and in front of the first row of the body
+abbrev pub is_between : Section → Bool
+is_between Between = true
+is_between _ = false
+
+-- the end of a row of text
+abbrev pub is_text_row : Name → Bool
+is_text_row n.GfmTableRow = true
+is_text_row _ = false
+
+abbrev pub ends_text_row : Event → Bool
+ends_text_row e = is_exit e.kind && is_text_row e.name
+
+-- the begin and the end of a part with such a name
+abbrev pub is_pair : (Name → Bool) → Event → Event → Bool
+is_pair test a b = (is_enter a.kind && test a.name) && (is_exit b.kind && test b.name)
+
+-- the ending of a line
+abbrev pub is_ending : Name → Bool
+is_ending n.LineEnding = true
+is_ending _ = false

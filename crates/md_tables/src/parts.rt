@@ -1,0 +1,290 @@
+// Parts of a table that are passed at once: their begin, and their end right behind it.
+
+ghost use Rattle.std.specs.Prelude.{◌≡◌, ◌≤◌, ◌∷◌, IfOk, drop, length, true};
+ghost use Rattle.md_tables.specs.Goes.{ends_text_row, in_all, in_table, is_between, is_ending, is_pair};
+ghost use Rattle.md_tables.specs.Cells.{is_divider, is_inner, is_white};
+ghost use Rattle.md_tables.specs.declared.cells.Stage.TheVariants.{Behind, Front, Inner, Outside, Within};
+
+use crate::cells::{
+    RowKind, Stage, begins_row, cell_name, ends_inner, goes_on, inner_name, is_inner, row_ends,
+};
+use crate::giving::{
+    give, give_between, give_first, give_last, give_two, give_two_first, give_two_last, give_whole,
+};
+use crate::tables::{Section, Walk};
+use md_engine::event::{Event, Kind, Name};
+use md_engine::message::Message;
+
+/// Whether these are whitespace.
+#[inline(always)]
+fn is_white_pair(begin: &Event, end: &Event) -> bool
+    ensures { result ≡ is_pair is_white begin.now end.now }
+{
+    matches!(begin.kind, Kind::Enter)
+        && matches!(begin.name, Name::SpaceOrTab)
+        && matches!(end.kind, Kind::Exit)
+        && matches!(end.name, Name::SpaceOrTab)
+}
+
+/// Whether these are a pipe.
+#[inline(always)]
+fn is_pipe(begin: &Event, end: &Event) -> bool
+    ensures { result ≡ is_pair is_divider begin.now end.now }
+{
+    matches!(begin.kind, Kind::Enter)
+        && matches!(begin.name, Name::GfmTableCellDivider)
+        && matches!(end.kind, Kind::Exit)
+        && matches!(end.name, Name::GfmTableCellDivider)
+}
+
+/// Whether these are a piece of what the cells of a row hold.
+#[inline(always)]
+fn is_piece(kind: RowKind, begin: &Event, end: &Event) -> bool
+    ensures { result ≡ is_pair (is_inner kind) begin.now end.now }
+{
+    matches!(begin.kind, Kind::Enter)
+        && is_inner(kind, begin.name)
+        && matches!(end.kind, Kind::Exit)
+        && is_inner(kind, end.name)
+}
+
+/// Whether these are a line ending.
+#[inline(always)]
+fn is_ending(begin: &Event, end: &Event) -> bool
+    ensures { result ≡ is_pair is_ending begin.now end.now }
+{
+    matches!(begin.kind, Kind::Enter)
+        && matches!(begin.name, Name::LineEnding)
+        && matches!(end.kind, Kind::Exit)
+        && matches!(end.name, Name::LineEnding)
+}
+
+/// Whether a row of text ends here.
+#[inline(always)]
+fn ends_text_row(event: &Event) -> bool
+    ensures { result ≡ ends_text_row event.now }
+{
+    matches!(event.kind, Kind::Exit) && matches!(event.name, Name::GfmTableRow)
+}
+
+/// Whether this is between the head and the body of a table.
+#[inline(always)]
+fn is_between(section: Section) -> bool
+    ensures { result ≡ is_between section }
+{
+    matches!(section, Section::Between)
+}
+
+impl Walk {
+    /// Goes on in a cell, in front of what it holds, with a piece of that: the whole of it, or its begin.
+    #[inline(always)]
+    fn piece_within(
+        &mut self,
+        kind: RowKind,
+        begin: &Event,
+        end: &Event,
+        behind: &[Event],
+    ) -> Result<usize, Message>
+        requires section { in_table self.old.section ≡ true }
+        requires stage { self.old.rows.stage ≡ Within kind }
+        requires piece { is_pair (is_inner kind) begin.now end.now ≡ true }
+        ensures section { self.new.section ≡ self.old.section }
+        ensures within { IfOk result (λ many. many ≤ 2) }
+        ensures in_all { IfOk result (λ many.
+            in_all self.new (drop many (begin.now ∷ end.now ∷ behind.now))
+            ≡ in_all self.old (begin.now ∷ end.now ∷ behind.now)) }
+    {
+        let name = inner_name(kind);
+        if goes_on(kind, behind) {
+            give_first(&mut self.rows.given, name, begin)?;
+            self.rows.stage = Stage::Inner(kind);
+            return Ok(1);
+        }
+        give_whole(&mut self.rows.given, name, begin, end)?;
+        Ok(2)
+    }
+
+    /// Goes on in a cell at a pipe, which ends the cell, and begins the next one if it is not the last of its row.
+    #[inline(always)]
+    fn pipe_within(
+        &mut self,
+        kind: RowKind,
+        begin: &Event,
+        end: &Event,
+        behind: &[Event],
+    ) -> Result<usize, Message>
+        requires section { in_table self.old.section ≡ true }
+        requires stage { self.old.rows.stage ≡ Within kind }
+        requires pipe { is_pair is_divider begin.now end.now ≡ true }
+        ensures section { self.new.section ≡ self.old.section }
+        ensures within { IfOk result (λ many. many ≤ 2) }
+        ensures in_all { IfOk result (λ many.
+            in_all self.new (drop many (begin.now ∷ end.now ∷ behind.now))
+            ≡ in_all self.old (begin.now ∷ end.now ∷ behind.now)) }
+    {
+        let name = cell_name(kind);
+        if row_ends(behind) {
+            give_two_last(&mut self.rows.given, begin, end, name)?;
+            self.rows.stage = Stage::Behind;
+            return Ok(2);
+        }
+        give_between(&mut self.rows.given, name, begin, end)?;
+        Ok(2)
+    }
+
+    /// Goes on in a cell, in front of what it holds or behind that.
+    #[inline(always)]
+    fn part_within(&mut self, kind: RowKind, events: &[Event]) -> Result<usize, Message>
+        requires section { in_table self.old.section ≡ true }
+        requires stage { self.old.rows.stage ≡ Within kind }
+        ensures section { self.new.section ≡ self.old.section }
+        ensures within { IfOk result (λ many. many ≤ length events.now) }
+        ensures in_all { IfOk result (λ many. in_all self.new (drop many events.now) ≡ in_all self.old events.now) }
+    {
+        let [begin, end, behind @ ..] = events else {
+            return Ok(0);
+        };
+        if is_white_pair(begin, end) {
+            give_two(&mut self.rows.given, begin, end)?;
+            return Ok(2);
+        }
+        if is_piece(kind, begin, end) {
+            return self.piece_within(kind, begin, end, behind);
+        }
+        if is_pipe(begin, end) {
+            return self.pipe_within(kind, begin, end, behind);
+        }
+        Ok(0)
+    }
+
+    /// Goes on in what a cell holds at the end of a piece of it: up to the next piece, or behind all of it.
+    #[inline(always)]
+    fn part_inner(&mut self, kind: RowKind, events: &[Event]) -> Result<usize, Message>
+        requires section { in_table self.old.section ≡ true }
+        requires stage { self.old.rows.stage ≡ Inner kind }
+        ensures section { self.new.section ≡ self.old.section }
+        ensures within { IfOk result (λ many. many ≤ length events.now) }
+        ensures in_all { IfOk result (λ many. in_all self.new (drop many events.now) ≡ in_all self.old events.now) }
+    {
+        let [end, behind @ ..] = events else {
+            return Ok(0);
+        };
+        if !ends_inner(kind, end) {
+            return Ok(0);
+        }
+        if !goes_on(kind, behind) {
+            give_last(&mut self.rows.given, end, inner_name(kind))?;
+            self.rows.stage = Stage::Within(kind);
+            return Ok(1);
+        }
+        match kind {
+            RowKind::Text => Ok(4),
+            RowKind::Delimiter => {
+                give_two(&mut self.rows.given, end, &behind[0])?;
+                Ok(2)
+            }
+        }
+    }
+
+    /// Goes on in front of the first cell of a row with its pipe.
+    #[inline(always)]
+    fn part_front(&mut self, kind: RowKind, events: &[Event]) -> Result<usize, Message>
+        requires section { in_table self.old.section ≡ true }
+        requires stage { self.old.rows.stage ≡ Front kind }
+        ensures section { self.new.section ≡ self.old.section }
+        ensures within { IfOk result (λ many. many ≤ length events.now) }
+        ensures in_all { IfOk result (λ many. in_all self.new (drop many events.now) ≡ in_all self.old events.now) }
+    {
+        let [begin, end, ..] = events else {
+            return Ok(0);
+        };
+        if !is_pipe(begin, end) {
+            return Ok(0);
+        }
+        give_two_first(&mut self.rows.given, cell_name(kind), begin, end)?;
+        self.rows.stage = Stage::Within(kind);
+        Ok(2)
+    }
+
+    /// Goes on between two rows with the ending of a line, or with the begin of a row with which no body begins.
+    #[inline(always)]
+    fn part_outside(&mut self, events: &[Event]) -> Result<usize, Message>
+        requires section { in_table self.old.section ≡ true }
+        requires stage { self.old.rows.stage ≡ Outside }
+        ensures section { self.new.section ≡ self.old.section }
+        ensures within { IfOk result (λ many. many ≤ length events.now) }
+        ensures in_all { IfOk result (λ many. in_all self.new (drop many events.now) ≡ in_all self.old events.now) }
+    {
+        let [begin, end, ..] = events else {
+            return Ok(0);
+        };
+        if is_ending(begin, end) {
+            give_two(&mut self.rows.given, begin, end)?;
+            return Ok(2);
+        }
+        if is_between(self.section) {
+            return Ok(0);
+        }
+        let Some(kind) = begins_row(begin) else {
+            return Ok(0);
+        };
+        give(&mut self.rows.given, begin)?;
+        self.rows.stage = Stage::Front(kind);
+        Ok(1)
+    }
+
+    /// Goes on behind the last pipe of a row of text with the end of the row.
+    #[inline(always)]
+    fn part_behind(&mut self, events: &[Event]) -> Result<usize, Message>
+        requires section { in_table self.old.section ≡ true }
+        requires stage { self.old.rows.stage ≡ Behind }
+        ensures section { self.new.section ≡ self.old.section }
+        ensures within { IfOk result (λ many. many ≤ length events.now) }
+        ensures in_all { IfOk result (λ many. in_all self.new (drop many events.now) ≡ in_all self.old events.now) }
+    {
+        let [end, ..] = events else {
+            return Ok(0);
+        };
+        if !ends_text_row(end) {
+            return Ok(0);
+        }
+        give(&mut self.rows.given, end)?;
+        self.rows.stage = Stage::Outside;
+        Ok(1)
+    }
+
+    /// Goes on with a part, if one stands here, and says how many events it has.
+    #[inline(always)]
+    fn part(&mut self, events: &[Event]) -> Result<usize, Message>
+        requires { in_table self.old.section ≡ true }
+        ensures section { self.new.section ≡ self.old.section }
+        ensures within { IfOk result (λ many. many ≤ length events.now) }
+        ensures in_all { IfOk result (λ many. in_all self.new (drop many events.now) ≡ in_all self.old events.now) }
+    {
+        match self.rows.stage {
+            Stage::Within(kind) => self.part_within(kind, events),
+            Stage::Inner(kind) => self.part_inner(kind, events),
+            Stage::Front(kind) => self.part_front(kind, events),
+            Stage::Outside => self.part_outside(events),
+            Stage::Behind => self.part_behind(events),
+            _ => Ok(0),
+        }
+    }
+
+    /// Goes on with the parts that stand here, and says how many events they have.
+    pub(crate) fn parts(&mut self, events: &[Event]) -> Result<usize, Message>
+        requires { in_table self.old.section ≡ true }
+        ensures within { IfOk result (λ many. many ≤ length events.now) }
+        ensures in_all { IfOk result (λ many. in_all self.new (drop many events.now) ≡ in_all self.old events.now) }
+    {
+        let mut at = 0;
+        while at < events.len() {
+            let many = self.part(&events[at..])?;
+            if many == 0 {
+                return Ok(at);
+            }
+            at += many;
+        }
+        Ok(at)
+    }
+}
