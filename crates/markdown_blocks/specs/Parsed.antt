@@ -59,9 +59,10 @@ pub record IsItemable (options : ParseOptions) (text : List ℕ) : Type 0 where
   pub no_mark : has_mark text ≡ false
   pub no_front : front_of options (lines_of text) ≡ None
 
--- What is known of a text that was read: its events nest, stand at its points, spell its tree and tile it, and
--- the labels are those of that tree.
-pub record IsParsed (text : List ℕ) (options : ParseOptions) (events : List Event) (state : ParseState) : Type 0 where
+-- What is known of a text that was read with an inline layer, whatever it is: its events nest, stand at its points,
+-- spell its tree and tile it, and the labels are those of that tree.
+pub record IsRead (reads : Document → Part → List Event → Type 0) (text : List ℕ) (options : ParseOptions)
+    (events : List Event) (state : ParseState) : Type 0 where
   pub bytes : state.bytes.now ≡ text
   pub options_are : state.options.now ≡ options
   -- enters and exits match like brackets, and their points never go back
@@ -80,23 +81,34 @@ pub record IsParsed (text : List ℕ) (options : ParseOptions) (events : List Ev
   pub tree : spelled events text ≡ tree options text
   -- no construct occurs in it that is off
   pub on : are_on options (spelled events text) ≡ true
-  -- one for one, the events are those of the lines of the text, with what the plain layer reads in the place of each
-  -- chunk
-  pub events_are : events ≡ plain_read text (block_list options text)
-  -- every byte is accounted for: the innermost pairs lie side by side, `Data` over each line of a text part among them
-  pub tiles : Tiles (reads_plain text) text events
+  -- one for one, the events are those of the lines of the text, with what the layer reads in the places of the chunks of
+  -- each text part
+  pub events_are : Substituted wants_text
+      (λ content chunks answer. reads (document_of state) (record { kind = text_kind content; chunks = chunks }) answer)
+      [] 0 (block_list options text) events
+  -- every byte is accounted for: what stands in the place of each chunk covers it,
+  pub tiles : Tiles (reads (document_of state)) text events
   pub blocks_are : tiles.blocks ≡ block_list options text
+  -- and the innermost pairs of all events lie side by side
+  pub covers : Covers first_point (pieces events) (end_point text)
   -- so every byte stands in a piece that says what it is, and no block holds bytes of its own
   pub held : (index : ℕ) → index < length text → Holds text (pieces tiles.blocks) index
-  -- each part stands where the grammar has it, with what it must hold
-  pub grammar : keeps_grammar plain_text events ≡ true
-  -- each piece is over what its name says, and no block is a piece
-  pub pieces_are : pieces_stand text (pieces events) ≡ true
-  -- endings of blank lines are told from others
-  pub endings : endings_stand events ≡ true
   -- `outline` shows that tree
   pub outlined : IsOutlined events text
   -- the labels of its definitions, in their normal forms and in the order of the text, repeats kept, and those of its
   -- footnote definitions
   pub definitions : map string_bytes state.definitions.items ≡ (labels (spelled events text)).definitions
   pub footnotes : map string_bytes state.gfm_footnote_definitions.items ≡ (labels (spelled events text)).footnotes
+
+-- What is known of a text that was read with the plain layer.
+pub record IsParsed (text : List ℕ) (options : ParseOptions) (events : List Event) (state : ParseState) : Type 0 where
+  pub read : IsRead (λ document part answer. reads_plain document.bytes part answer) text options events state
+  -- one for one, the events are those of the lines of the text, with what the plain layer reads in the place of each
+  -- chunk
+  pub events_are : events ≡ plain_read text (block_list options text)
+  -- each part stands where the grammar has it, with what it must hold
+  pub grammar : keeps_grammar plain_text events ≡ true
+  -- each piece is over what its name says, and no block is a piece
+  pub pieces_are : pieces_stand text (pieces events) ≡ true
+  -- endings of blank lines are told from others
+  pub endings : endings_stand events ≡ true

@@ -159,4 +159,8 @@ pub enum Name {
     // What is read later, until it is.
     Content,
     Data,
+    // What an inline layer may find in a text: a link, its brackets, and the text between them.
+    Link,
+    LabelMarker,
+    LabelText,
 }

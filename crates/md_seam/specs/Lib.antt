@@ -8,3 +8,4 @@ pub mod Ahead
 pub mod Look
 pub mod Substituted
 pub mod Events
+pub mod TextPart

@@ -15,6 +15,10 @@ use Rattle.md_seam.specs.Events.Prefix.{is_prefix}
 abbrev pub Readings : Type 1
 Readings = Content → List Chunk → List Event → Type 0
 
+-- which parts a reader may be asked for: of which content they are, and their chunks
+abbrev pub Asked : Type 1
+Asked = Content → List Chunk → Type 0
+
 abbrev pub wanted_link : (Content → Bool) → Option Link → Option Content
 wanted_link wants None = None
 wanted_link wants (Some link) = if wants link.content then Some link.content else None
@@ -90,5 +94,20 @@ Substituted wants reads left chunks (e ∷ f ∷ es) out = elim (wanted wants e)
     | suc more ↦
         (rest : List Event) × (is : out ≡ take (share more left f.point.index) left ++ rest)
         × Substituted wants reads (drop (share more left f.point.index) left) more es rest
+  ]
+]
+
+-- Whether the reader may be asked for each part that begins among some events. Of a part that has begun, so many chunks
+-- are left.
+abbrev pub EachAsked : (Content → Bool) → Asked → ℕ → List Event → Type 0
+EachAsked wants asked chunks [] = Unit {0}
+EachAsked wants asked chunks (e ∷ []) = Unit {0}
+EachAsked wants asked chunks (e ∷ f ∷ es) = elim (wanted wants e) [
+  | None ↦ EachAsked wants asked chunks (f ∷ es)
+  | Some content ↦ elim chunks [
+    | zero ↦
+        asked content (chunk_of e f ∷ chunks_behind wants es)
+        × EachAsked wants asked (length (chunks_behind wants es)) es
+    | suc more ↦ EachAsked wants asked more es
   ]
 ]

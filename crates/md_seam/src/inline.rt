@@ -1,9 +1,9 @@
 // What the block parser hands to an inline layer: the text parts of a document, each as the chunks that it stands in.
 
-ghost use Rattle.std.specs.Prelude.{ℕ, IfOk, List};
+ghost use Rattle.std.specs.Prelude.{IfOk, List};
 ghost use Rattle.md_engine.specs.declared.event.Event.{Event};
-ghost use Rattle.md_seam.specs.Events.Inline.{Part};
-ghost use Rattle.md_seam.specs.Parts.{AreChunks, ArePlaced};
+ghost use Rattle.md_seam.specs.Events.Inline.{KeepsFrame, Part};
+ghost use Rattle.md_seam.specs.TextPart.{Document, IsTextPart, document_of};
 
 use md_engine::event::{Event, Point};
 use md_engine::message::Message;
@@ -29,11 +29,16 @@ pub struct Chunk {
 }
 
 /// Reads text parts.
+///
+/// The part that it is asked for is one of the document, and `state` has the labels of the whole document: those of
+/// definitions behind the part too.
 pub trait Inline {
-    /// What it may give for a part of a text.
-    ghost reads: { Self → List ℕ → Part → List Event → Type 0 };
+    /// What it may give for a part of a document.
+    ghost reads: { Self → Document → Part → List Event → Type 0 };
 
     /// The events of a text part that stands in these chunks.
+    ///
+    /// An `Err` says that memory ran out.
     fn read(
         &self,
         alloc: Global,
@@ -41,8 +46,11 @@ pub trait Inline {
         chunks: &[Chunk],
         state: &ParseState,
     ) -> Result<Vec<Event>, Message>
-        requires { AreChunks state.now.bytes.now chunks.now }
-        ensures placed { IfOk result (λ events. ArePlaced state.now.bytes.now events.items) }
-        ensures reading { IfOk result
-            (λ events. reads self.now state.now.bytes.now (record { kind = kind; chunks = chunks.now }) events.items) };
+        requires { IsTextPart (document_of state.now) (record { kind = kind; chunks = chunks.now }) }
+        ensures { IfOk result
+            (λ events. reads self.now (document_of state.now) (record { kind = kind; chunks = chunks.now })
+            events.items) };
+
+    /// What it gives keeps the promise of every layer.
+    ghost keeps_frame: { (layer : Self) (document : Document) → KeepsFrame document.bytes (reads layer document) };
 }

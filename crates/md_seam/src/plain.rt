@@ -132,7 +132,7 @@ fn read_lines(alloc: Global, chunks: &[Chunk], state: &ParseState) -> Result<Vec
 }
 
 impl Inline for Plain {
-    ghost reads = { λ plain. PlainReads };
+    ghost reads = { λ plain document part events. events ≡ plain_events document.bytes part };
 
     fn read(
         &self,

@@ -8,7 +8,7 @@ ghost use Rattle.std.specs.Prelude.{take};
 ghost use Rattle.std.specs.List.{prefix_len};
 ghost use Rattle.md_engine.specs.declared.event.Content.{Content};
 ghost use Rattle.md_seam.specs.Parts.{AreChunks, ArePlaced};
-ghost use Rattle.md_seam.specs.Substituted.{Begun, Readings, Substituted, belongs, chunk_of, chunks_from, is_plain_prefix};
+ghost use Rattle.md_seam.specs.Substituted.{Asked, Begun, EachAsked, Readings, Substituted, belongs, chunk_of, chunks_from, is_plain_prefix};
 ghost use Rattle.md_seam.specs.Substituted.{share, stays, wanted};
 
 use crate::inline::Chunk;
@@ -28,6 +28,9 @@ pub trait Reader {
     /// Of which contents it reads parts.
     ghost wants: { Self → Content → Bool };
 
+    /// Which parts it may be asked for.
+    ghost may_read: { Self → Asked };
+
     /// What it may give for a part.
     ghost reads_as: { Self → Readings };
 
@@ -44,7 +47,8 @@ pub trait Reader {
         chunks: &[Chunk],
         spare: Vec<Event>,
     ) -> Result<Vec<Event>, Message>
-        requires { AreChunks (text self.now) chunks.now }
+        requires chunks { AreChunks (text self.now) chunks.now }
+        requires asked { may_read self.now content chunks.now }
         ensures placed { IfOk result (λ events. ArePlaced (text self.now) events.items) }
         ensures reading { IfOk result (λ events. reads_as self.now content chunks.now events.items) };
 }
@@ -196,6 +200,8 @@ impl Found {
         requires within { 1 < length events.now }
         requires placed { ArePlaced (R.text reader.now) events.now }
         requires found { ArePlaced (R.text reader.now) self.old.events.items }
+        requires asked { self.old.chunks ≡ 0 →
+            R.may_read reader.now content (chunks_from (R.wants reader.now) events.now) }
         ensures chunks { OnOk result (0 < self.new.chunks) }
         ensures placed { OnOk result (ArePlaced (R.text reader.now) self.new.events.items) }
         ensures begun { OnOk result
@@ -248,6 +254,7 @@ pub fn subtokenize<R: Reader>(
     spare: Vec<Event>,
 ) -> Result<Vec<Event>, Message>
     requires placed { ArePlaced (R.text reader.now) events.now }
+    requires asked { EachAsked (R.wants reader.now) (R.may_read reader.now) 0 events.now }
     requires empty { spare.items ≡ [] }
     ensures placed { IfOk result (λ all. ArePlaced (R.text reader.now) all.items) }
     ensures substituted { IfOk result

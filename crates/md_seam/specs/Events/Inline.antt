@@ -1,6 +1,6 @@
 -- What every inline layer promises of the events that it answers for a text part, and what the plain layer answers.
 use Rattle.std.specs.Prelude.{◌≡◌, ℕ, ◌<◌, Bool, true, false, ◌&&◌, ◌==◌, if◌then◌else◌, IsTrue, List, [], ◌∷◌, ◌++◌}
-use Rattle.std.specs.Prelude.{length, slice_range, Some, None}
+use Rattle.std.specs.Prelude.{length, take, drop, slice_range, Some, None}
 use Rattle.std.specs.List.{list_all}
 use Rattle.md_engine.specs.declared.event.Point.{Point}
 use Rattle.md_engine.specs.declared.event.Event.{Event}
@@ -14,6 +14,7 @@ use Rattle.md_definition.specs.Lines.{without_ending}
 use Rattle.md_definition.specs.Texts.{split_lines}
 use Rattle.md_seam.specs.Events.Places.{first_point, is_placed, are_placed, same_place, at_or_before, past_text}
 use Rattle.md_seam.specs.Events.Nested.{Balanced, Forward, last_point, pair}
+use Rattle.md_seam.specs.Substituted.{share}
 
 -- A text part: what it may hold, and its chunks, one a line.
 pub record Part : Type 0 where
@@ -122,12 +123,6 @@ together (xs ∷ xss) = xs ++ together xss
 abbrev pub plain_events : List ℕ → Part → List Event
 plain_events bytes part = together (plain_chunks bytes part.chunks)
 
--- the plain layer answers so for a part whose chunks are lines that end between two bytes
-abbrev pub PlainReads : List ℕ → Part → List Event → Type 0
-PlainReads bytes part events =
-    (end : Point) → IsTrue (are_lines bytes end part.chunks) → IsTrue (list_all ends_whole part.chunks) →
-    events ≡ plain_events bytes part
-
 -- The promise of every layer.
 
 -- whether a name may stand inside a text part: the others are names of blocks and of their parts
@@ -137,6 +132,9 @@ is_inline n.SpaceOrTab = true
 is_inline n.LineEnding = true
 is_inline n.BlankLineEnding = true
 is_inline n.Data = true
+is_inline n.Link = true
+is_inline n.LabelMarker = true
+is_inline n.LabelText = true
 is_inline _ = false
 
 abbrev pub is_line_ending : Name → Bool
@@ -157,23 +155,30 @@ Fills (chunk ∷ chunks) (events ∷ rest) =
 Fills [] (events ∷ rest) = ⊥
 Fills (chunk ∷ chunks) [] = ⊥
 
+-- what stands in the place of each chunk: by bytes, what begins before the end of a chunk belongs to it, and what ends
+-- there at last
+abbrev pub cut_at : List Chunk → List Event → List (List Event)
+cut_at [] events = []
+cut_at (chunk ∷ chunks) events =
+    take (share (length chunks) events chunk.after.index) events
+    ∷ cut_at chunks (drop (share (length chunks) events chunk.after.index) events)
+
 -- What the events of a text part are in every layer: brackets over the whole part, at points of the text, with no name
--- of a block, and with one `LineEnding` over each ending of a chunk and none elsewhere. They are cut into what stands
--- in the place of each chunk, and no piece reaches over two.
+-- of a block, and with one `LineEnding` over each ending of a chunk and none elsewhere. What stands in the place of each
+-- chunk covers it with its innermost pairs, so that none reaches over two.
 pub record Framed (bytes : List ℕ) (part : Part) (events : List Event) : Type 0 where
   pub balanced : Balanced events
   pub placed : IsTrue (are_placed bytes events)
   pub inline : IsTrue (list_all (λ (e : Event). is_inline e.name) events)
   pub endings : line_endings events ≡ endings_of bytes part.chunks
-  pub cut : List (List Event)
-  pub whole : together cut ≡ events
-  pub fills : Fills part.chunks cut
+  pub fills : Fills part.chunks (cut_at part.chunks events)
 
 -- A text part that may be read: it has a chunk at least, and its chunks stand in the text, one behind the other, one a
--- line.
+-- line, and none ends within a tab.
 pub record IsPart (bytes : List ℕ) (part : Part) : Type 0 where
   pub end : Point
   pub lines : IsTrue (are_lines bytes end part.chunks)
+  pub whole : IsTrue (list_all ends_whole part.chunks)
   pub some : 0 < length part.chunks
   pub order : IsTrue (in_order first_point part.chunks)
   pub placed : IsTrue (list_all (chunk_placed bytes) part.chunks)

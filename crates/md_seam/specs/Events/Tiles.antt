@@ -2,6 +2,8 @@
 use Rattle.std.specs.Prelude.{◌≡◌, ℕ, zero, suc, Bool, true, false, ◌&&◌, ◌||◌, ◌==◌, not, if◌then◌else◌, IsTrue, List}
 use Rattle.std.specs.Prelude.{[], ◌∷◌, ◌++◌, length, map, slice_range, Option, Some, None}
 use Rattle.std.specs.List.{list_all}
+use Rattle.md_engine.specs.declared.event.Content.{Content}
+use Rattle.md_engine.specs.declared.event.Content.TheVariants as c
 use Rattle.md_engine.specs.declared.event.Point.{Point}
 use Rattle.md_engine.specs.declared.event.Event.{Event}
 use Rattle.md_engine.specs.declared.event.Kind.{Kind}
@@ -101,15 +103,25 @@ abbrev pub begins_at : Point → List Chunk → Bool
 begins_at p [] = false
 begins_at p (chunk ∷ chunks) = same_place p chunk.first
 
+-- what an event of a part with this kind is linked by, if it is
+abbrev pub of_kind : PartKind → Content → Bool
+of_kind k.Text c.Text = true
+of_kind k.String c.String = true
+of_kind _ _ = false
+
+abbrev pub links_kind : PartKind → Event → Bool
+links_kind kind e = elim e.link [ None ↦ true | Some link ↦ of_kind kind link.content ]
+
 abbrev pub part_stands : List ℕ → Kind → Option PartKind → Point → List Event → Bool
 part_stands bytes Enter (Some kind) p es =
     begins_at p (chunks (pieces (inside_part es))) && list_all (is_white_piece bytes) (pieces (inside_part es))
-    && are_lines bytes (part_end es) (chunks (pieces (inside_part es)))
+    && are_lines bytes (part_end es) (chunks (pieces (inside_part es))) && list_all (links_kind kind) (inside_part es)
 part_stands bytes Enter None p es = true
 part_stands bytes Exit kind p es = true
 
 -- Whether each text part stands as one chunk a line, from where it begins, and each reaches over the line's ending
--- where the part goes on behind it; nothing else is left out of the chunks but spaces, tabs and container prefixes.
+-- where the part goes on behind it; nothing else is left out of the chunks but spaces, tabs and container prefixes. The
+-- chunks are linked as what the part may hold.
 abbrev pub parts_stand : List ℕ → List Event → Bool
 parts_stand bytes [] = true
 parts_stand bytes (e ∷ es) = part_stands bytes e.kind (part_kind e.name) e.point es && parts_stand bytes es
