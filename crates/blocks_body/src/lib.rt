@@ -16,9 +16,9 @@ use std::alloc::Global;
 pub struct Blocks;
 
 impl Body for Blocks {
-    ghost use Rattle.markdown_blocks.specs.Parsed.{IsBuilt};
+    ghost use Rattle.markdown_blocks.specs.Parsed.{IsWithoutMdx};
 
-    ghost accepts = { IsBuilt };
+    ghost accepts = { IsWithoutMdx };
 
     ghost outlines = { Outlines };
 

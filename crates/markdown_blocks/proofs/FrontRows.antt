@@ -21,7 +21,7 @@ use Rattle.md_definition.proofs.TextsLemmas.{NoEnding}
 use Rattle.markdown_blocks.specs.Change.{change_by, interrupts, open_behind, others_of}
 use Rattle.markdown_blocks.specs.Fronted.{Contained, Prefixed, contained, contained_behind, contained_by, contained_of}
 use Rattle.markdown_blocks.specs.Fronted.{no_prefix, one_more, prefixes_new, prefixes_on}
-use Rattle.markdown_blocks.specs.Parsed.{IsBuilt}
+use Rattle.markdown_blocks.specs.Parsed.{IsWithoutMdx}
 use Rattle.markdown_blocks.specs.Passed.{Passed}
 use Rattle.markdown_blocks.specs.Registry.{goes_at, opens_at}
 use Rattle.markdown_blocks.specs.Rows.{Front, Held, held_at, held_behind, held_by, in_front, is_lazy, line_kind}
@@ -203,7 +203,7 @@ prefixes_by options size r taken = elim taken [
 -- with as much room as there is, and with more
 new-is : (options : ParseOptions) (interrupting : Bool) (line : Line) (text past : List ℕ) (room size : ℕ) (r : Rest)
     (stop : List Cell) (p : Point) →
-    IsBuilt options → RestAt text past r p → NoEnding r.bytes → Stops stop →
+    IsWithoutMdx options → RestAt text past r p → NoEnding r.bytes → Stops stop →
     length (rest_cells line r p ++ stop) < 2 ^ 63 →
     length (rest_cells line r p ++ stop) ≤ room → length r.bytes ≤ size →
     HasNew line text past p (past_rest r p) stop (rest_cells line r p ++ stop)
@@ -341,7 +341,7 @@ new-inside line text past went on stop new more fed at none false has = has
 
 held-behind : (options : ParseOptions) (line : Line) (text past : List ℕ) (p end : Point) (stop cells : List Cell)
     (cs : List Container) (still : HeldLeaf) (went : Front) (on : Prefixed) →
-    IsBuilt options → AreRead cs → Stops stop → length cells < 2 ^ 63 →
+    IsWithoutMdx options → AreRead cs → Stops stop → length cells < 2 ^ 63 →
     HasWent line text past p end stop cells went on →
     HasHeld line text past p end stop cells (held_behind options cs still went)
     (contained_behind options cs still on)
@@ -392,7 +392,7 @@ held-behind options line text past p end stop cells cs still went on built read 
 -- which containers go on and open on a line, what stands in front of it, and what is left of it
 pub held-is : (options : ParseOptions) (line : Line) (text past : List ℕ) (cs : List Container) (still : HeldLeaf)
     (r : Rest) (stop : List Cell) (p : Point) →
-    IsBuilt options → AreRead cs → RestAt text past r p → NoEnding r.bytes → Stops stop →
+    IsWithoutMdx options → AreRead cs → RestAt text past r p → NoEnding r.bytes → Stops stop →
     length (rest_cells line r p ++ stop) < 2 ^ 63 →
     HasHeld line text past p (past_rest r p) stop (rest_cells line r p ++ stop)
     (held_at options cs still (rest_cells line r p ++ stop) p) (contained options cs still r)

@@ -10,7 +10,7 @@ use Rattle.md_definition.specs.State.{Container, Path}
 use Rattle.md_definition.specs.Step.{step, steps}
 use Rattle.markdown_blocks.specs.Change.{open_behind}
 use Rattle.markdown_blocks.specs.Fronted.{Contained}
-use Rattle.markdown_blocks.specs.Parsed.{IsBuilt}
+use Rattle.markdown_blocks.specs.Parsed.{IsWithoutMdx}
 use Rattle.markdown_blocks.specs.Stands.{IsPlain, containers_of}
 use Rattle.markdown_blocks.proofs.LineSteps.{contained_at, goes_further, renewed}
 use Rattle.markdown_blocks.proofs.StepBehind.{GoesOn, containers-all, containers-step, goes-on, plain-renewed}
@@ -53,7 +53,7 @@ told-some options p (suc n) (r ∷ s ∷ rs) less = told-some options (step opti
 
 -- What is open behind such a line.
 
-pub plain-over : (options : ParseOptions) (over : Bool) (p : Path) (r : Rest) → IsBuilt options → IsPlain p →
+pub plain-over : (options : ParseOptions) (over : Bool) (p : Path) (r : Rest) → IsWithoutMdx options → IsPlain p →
     IsPlain (step_over options over p r)
 plain-over options over p r built plain = go (over && goes_further options (contained_at options p r))
   where
@@ -61,7 +61,7 @@ plain-over options over p r built plain = go (over && goes_further options (cont
     go true = plain-renewed (contained_at options p r).change.stays p plain
     go false = plain-step options p r built plain
 
-pub containers-over : (options : ParseOptions) (over : Bool) (p : Path) (r : Rest) → IsBuilt options → IsPlain p →
+pub containers-over : (options : ParseOptions) (over : Bool) (p : Path) (r : Rest) → IsWithoutMdx options → IsPlain p →
     containers_of (step_over options over p r) ≡ open_behind (contained_at options p r).change
 containers-over options over p r built plain = go over (goes_further options c) refl
   where

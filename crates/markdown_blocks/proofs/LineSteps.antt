@@ -24,7 +24,7 @@ use Rattle.md_definition.proofs.TakenLemmas.{LeavesFewer}
 use Rattle.markdown_blocks.specs.Change.{Change, change_by, interrupts, is_none, met, others_of}
 use Rattle.markdown_blocks.specs.Fronted.{Contained, Prefixed, contained, no_prefix, one_more, prefixes_new}
 use Rattle.markdown_blocks.specs.Fronted.{prefixes_behind, prefixes_on}
-use Rattle.markdown_blocks.specs.Parsed.{IsBuilt}
+use Rattle.markdown_blocks.specs.Parsed.{IsWithoutMdx}
 use Rattle.markdown_blocks.specs.Registry.{LeafName, leaf, shuts_out, text_leaf}
 use Rattle.markdown_blocks.specs.Rows.{BlankRow, LeafRow, RowKind, TextRow, is_further, is_lazy, is_text, takes_head}
 use Rattle.markdown_blocks.specs.Rows.{kind_of, line_kind}
@@ -141,7 +141,7 @@ fresh-plain options on bs r unlazy =
         ap (fresh_by bs r) (untext-found options on NoText r (context-none on unlazy) refl e)
         ∙ by (other_at options on r)
 
-pub fresh-found : (options : ParseOptions) (bs : Blocks) (r : Rest) → IsBuilt options →
+pub fresh-found : (options : ParseOptions) (bs : Blocks) (r : Rest) → IsWithoutMdx options →
     fresh_line options bs r ≡ spot_by options bs [] r (line_kind options held_leaf.None r)
 fresh-found options bs r built =
     fresh-plain options held_leaf.None bs r refl
@@ -164,7 +164,7 @@ text_spot options bs lines r kind =
     (come_by options (text_leaf.held lines) r kind))
     (spot_by options bs lines r kind)
 
-text-found : (options : ParseOptions) (bs : Blocks) (k : Kept) (ks : List Kept) (r : Rest) → IsBuilt options →
+text-found : (options : ParseOptions) (bs : Blocks) (k : Kept) (ks : List Kept) (r : Rest) → IsWithoutMdx options →
     text_line options bs (k ∷ ks) r ≡ text_spot options bs (k ∷ ks) r (line_kind options (text_on (k ∷ ks)) r)
 unfolding text_line
 text-found options bs k ks r built =
@@ -321,7 +321,7 @@ stepped-more options p went c new =
     other = behind_path (kept_to options went p) (new_line options held_leaf.None (c ∷ new.containers) new.rest)
 
 -- the containers that open in a new one
-opened-new : (options : ParseOptions) (n : ℕ) (r : Rest) → IsBuilt options →
+opened-new : (options : ParseOptions) (n : ℕ) (r : Rest) → IsWithoutMdx options →
     opened options n r ≡
     new_line options held_leaf.None (prefixes_new options false n r).containers (prefixes_new options false n r).rest End
 opened-new options zero r built = ap At (fresh-found options End r built)
@@ -337,7 +337,7 @@ opened-new options (suc n) r built = go (λ s. opened-new options n s built) (op
     go below None = ap At (fresh-found options End r built)
     go below (Some t) = ap (Within End t.container) (below t.rest)
 
-entered-new : (options : ParseOptions) (bs : Blocks) (t : Taken) → IsBuilt options →
+entered-new : (options : ParseOptions) (bs : Blocks) (t : Taken) → IsWithoutMdx options →
     entered options bs t ≡
     new_line options held_leaf.None (t.container ∷ (all_new options false t.rest).containers)
     (all_new options false t.rest).rest bs
@@ -351,7 +351,7 @@ IsStepped options bs r open_leaf =
     At (leaf_line options (record { here = bs; leaf = open_leaf }) r) ≡
     stepped options (At (record { here = bs; leaf = open_leaf })) [] (no_prefix r)
 
-text-stepped : (options : ParseOptions) (bs : Blocks) (r : Rest) → IsBuilt options → (k : Kept) (ks : List Kept) →
+text-stepped : (options : ParseOptions) (bs : Blocks) (r : Rest) → IsWithoutMdx options → (k : Kept) (ks : List Kept) →
     IsStepped options bs r (text_leaf.held (k ∷ ks))
 text-stepped options bs r built k ks =
     ap At (text-found options bs k ks r built) ∙ go (line_kind options (text_on (k ∷ ks)) r)
@@ -386,7 +386,7 @@ text-stepped options bs r built k ks =
         to true = refl
         to false = refl
 
-span-stepped : (options : ParseOptions) (bs : Blocks) (r : Rest) → IsBuilt options → (open_leaf : Leaf) →
+span-stepped : (options : ParseOptions) (bs : Blocks) (r : Rest) → IsWithoutMdx options → (open_leaf : Leaf) →
     FurtherSpan open_leaf → IsStepped options bs r open_leaf
 span-stepped options bs r built open_leaf is =
     ap At (span-line options s r open_leaf is.lines)
@@ -435,7 +435,7 @@ span-stepped options bs r built open_leaf is =
         ap At (fresh-plain options still (shut options s) r unlazy_leaf)
         ∙ unlazy (other_kind options still r) false (other-begins options still r is.lines)
 
-leaf-stepped : (options : ParseOptions) (bs : Blocks) (open_leaf : Leaf) (r : Rest) → IsBuilt options →
+leaf-stepped : (options : ParseOptions) (bs : Blocks) (open_leaf : Leaf) (r : Rest) → IsWithoutMdx options →
     IsBuiltLeaf open_leaf → IsStepped options bs r open_leaf
 leaf-stepped options bs open_leaf r built plain =
     text-laws.cases (IsStepped options bs r) none (text-stepped options bs r built)
@@ -466,7 +466,7 @@ new-others options still c cs went = go (shuts_out still)
     go false = refl
 
 -- where all containers go on
-step-at : (options : ParseOptions) (s : Spot) (r : Rest) → IsBuilt options → IsBuiltLeaf s.leaf →
+step-at : (options : ParseOptions) (s : Spot) (r : Rest) → IsWithoutMdx options → IsBuiltLeaf s.leaf →
     all_continued options s r ≡
     stepped options (At s) [] (prefixes_behind options (kind_of_leaf s.leaf) [] (no_prefix r))
 unfolding all_continued
@@ -508,7 +508,7 @@ at_spot-longer (At s) lines more e =
 at_spot-longer (Within before container p) lines more e = ap (Within before container) (at_spot-longer p lines more e)
 
 -- where this container does not go on, and none opens
-lazy-stepped : (options : ParseOptions) (before : Blocks) (c : Container) (p : Path) (r : Rest) → IsBuilt options →
+lazy-stepped : (options : ParseOptions) (before : Blocks) (c : Container) (p : Path) (r : Rest) → IsWithoutMdx options →
     (leaf : Leaf) → (spot p).leaf ≡ leaf → IsBuiltLeaf leaf →
     lazy_by options before c p r (with_lazy options leaf r) ≡
     cond (is_lazy (kind_of_leaf leaf) [] (line_kind options (met_by false (kind_of_leaf leaf)) r))
@@ -595,7 +595,7 @@ lazy-stepped options before c p r built leaf e plain =
         cond x (Within before c (longer (renewed (containers_of p) p) (kept r ∷ []))) (other kind))
         (lazy-none still [] kind unlazy))
 
-step-stopped : (options : ParseOptions) (before : Blocks) (c : Container) (p : Path) (r : Rest) → IsBuilt options →
+step-stopped : (options : ParseOptions) (before : Blocks) (c : Container) (p : Path) (r : Rest) → IsWithoutMdx options →
     IsPlain p →
     stopped options before c p r ≡
     stepped options (Within before c p) []
@@ -671,7 +671,7 @@ stepped_on options p on =
     stepped options p on.containers
     (prefixes_behind options (still_of p) (others_of (containers_of p) on.containers) on)
 
-pub step-new : (options : ParseOptions) (p : Path) (r : Rest) → IsBuilt options → IsPlain p →
+pub step-new : (options : ParseOptions) (p : Path) (r : Rest) → IsWithoutMdx options → IsPlain p →
     step options p r ≡ stepped_on options p (prefixes_on options (containers_of p) r)
 step-new options (At s) r built plain = step-at options s r built plain
 step-new options (Within before c p) r built plain = go (λ s. step-new options p s built plain) (continues options c r)
@@ -714,7 +714,7 @@ path_by options p c lazy further =
     (cond further (further_path options p c) (new_path options p c))
 
 -- What a line does to the containers and the leaf that are open, by its containers.
-pub step-contained : (options : ParseOptions) (p : Path) (r : Rest) → IsBuilt options → IsPlain p →
+pub step-contained : (options : ParseOptions) (p : Path) (r : Rest) → IsWithoutMdx options → IsPlain p →
     let c = contained_at options p r in
     step options p r ≡ path_by options p c (goes_lazy options p c) (goes_further options c)
 unfolding contained

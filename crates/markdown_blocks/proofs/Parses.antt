@@ -47,7 +47,7 @@ use Rattle.markdown_blocks.specs.BlockList.{block_list}
 use Rattle.markdown_blocks.specs.Front.{body_point, front_events}
 use Rattle.markdown_blocks.specs.FlowReads.{FlowReads, text_cells, text_rows}
 use Rattle.markdown_blocks.specs.Footnotes.{footnotes_listed}
-use Rattle.markdown_blocks.specs.Parsed.{IsBuilt, IsSmall, reads_plain}
+use Rattle.markdown_blocks.specs.Parsed.{IsWithoutMdx, IsSmall, reads_plain}
 use Rattle.markdown_blocks.specs.Registry.{resolved}
 use Rattle.markdown_blocks.specs.Rows.{Row, groups, groups_events}
 use Rattle.markdown_blocks.specs.Unread.{listed_groups, unread_groups}
@@ -104,7 +104,7 @@ text-quiet options bytes p =
     rows_at-no_content options (suc (length (text_cells bytes options p))) [] held_leaf.None
     (text_cells bytes options p) p
 
-text-are : (options : ParseOptions) (bytes : List ℕ) → IsBuilt options → length bytes < 2 ^ 61 →
+text-are : (options : ParseOptions) (bytes : List ℕ) → IsWithoutMdx options → length bytes < 2 ^ 61 →
     AreRows options bytes [] held_leaf.None (body_point options bytes) (lines_of options bytes) (rows_of options bytes)
 text-are options bytes built small =
     let begins = begun options bytes in
@@ -115,7 +115,7 @@ part-of : (options : ParseOptions) (bytes : List ℕ) →
 part-of options bytes = (begun options bytes).fronted.part
 
 -- The events of a text, once flow and content were read, and heads of tables in front of content.
-content-are : (options : ParseOptions) (bytes : List ℕ) → IsBuilt options → length bytes < 2 ^ 61 →
+content-are : (options : ParseOptions) (bytes : List ℕ) → IsWithoutMdx options → length bytes < 2 ^ 61 →
     (found : Found) (new : World) → (flow : FlowReads bytes options (body_point options bytes) found new) →
     flow.content ≡ unread_groups options bytes (groups (rows_of options bytes))
 content-are options bytes built small found new flow =
@@ -131,7 +131,7 @@ content-are options bytes built small found new flow =
 
 -- Then the resolvers of leaves ran, setext headings were set, the lines of each leaf of several were joined, tables got
 -- their cells, and lists were put around items.
-resolved-are : (options : ParseOptions) (bytes : List ℕ) → IsBuilt options → length bytes < 2 ^ 61 →
+resolved-are : (options : ParseOptions) (bytes : List ℕ) → IsWithoutMdx options → length bytes < 2 ^ 61 →
     (found : Found) (new : World) → (flow : FlowReads bytes options (body_point options bytes) found new) →
     new.events ≡ listed bytes (listed_groups options bytes (groups (rows_of options bytes)))
 resolved-are options bytes built small found new flow =
@@ -148,7 +148,7 @@ resolved-are options bytes built small found new flow =
     (refl, refl) (text-are options bytes built small) (text-quiet options bytes (body_point options bytes)))
 
 -- The labels that content found are those of the tree.
-labels-are : (options : ParseOptions) (bytes : List ℕ) → IsBuilt options → length bytes < 2 ^ 61 →
+labels-are : (options : ParseOptions) (bytes : List ℕ) → IsWithoutMdx options → length bytes < 2 ^ 61 →
     (found : Found) (new : World) → FlowReads bytes options (body_point options bytes) found new →
     found.definitions ≡ (labels (tree options bytes)).definitions
 labels-are options bytes built small found new flow =
@@ -169,7 +169,7 @@ labels-are options bytes built small found new flow =
     ∙ ap defined_in (sym (tree-body options bytes p (front_events options bytes) begins))
 
 -- The labels of footnote definitions among the events are those of the tree too,
-footnotes-are : (options : ParseOptions) (bytes : List ℕ) → IsBuilt options → length bytes < 2 ^ 61 →
+footnotes-are : (options : ParseOptions) (bytes : List ℕ) → IsWithoutMdx options → length bytes < 2 ^ 61 →
     (found : Found) (new : World) → FlowReads bytes options (body_point options bytes) found new →
     footnote_labels_in bytes new.events ≡ (labels (tree options bytes)).footnotes
 footnotes-are options bytes built small found new flow =
@@ -197,7 +197,7 @@ footnotes-are options bytes built small found new flow =
     ∙ ap noted_in (sym (tree-body options bytes p (front_events options bytes) begins))
 
 -- and where footnote definitions are off there are none
-listed-are : (options : ParseOptions) (bytes : List ℕ) → IsBuilt options → length bytes < 2 ^ 61 →
+listed-are : (options : ParseOptions) (bytes : List ℕ) → IsWithoutMdx options → length bytes < 2 ^ 61 →
     (found : Found) (new : World) → FlowReads bytes options (body_point options bytes) found new →
     footnotes_listed options bytes new.events ≡ (labels (tree options bytes)).footnotes
 listed-are options bytes built small found new flow = go options.constructs.gfm_footnote_definition refl
@@ -208,7 +208,7 @@ listed-are options bytes built small found new flow = go options.constructs.gfm_
     go false e = sym (off-in options (tree options bytes) e (tree-on options bytes))
 
 -- And then texts were read.
-pub events-are : (options : ParseOptions) (bytes : List ℕ) → IsBuilt options → length bytes < 2 ^ 61 →
+pub events-are : (options : ParseOptions) (bytes : List ℕ) → IsWithoutMdx options → length bytes < 2 ^ 61 →
     (found : Found) (new : World) → FlowReads bytes options (body_point options bytes) found new →
     (wants : Content → Bool) (reads : Readings) → wants content.Text ≡ true → wants content.String ≡ true →
     ReadsText bytes reads → ReadsString bytes reads →
@@ -240,7 +240,7 @@ abbrev read_of : ParseOptions → List ℕ → List Event
 read_of options bytes = front_events options bytes ++ groups_events options bytes (groups (rows_of options bytes))
 
 -- the lists may be put around items before texts are read or behind
-read-listed : (options : ParseOptions) (bytes : List ℕ) → IsBuilt options → length bytes < 2 ^ 61 →
+read-listed : (options : ParseOptions) (bytes : List ℕ) → IsWithoutMdx options → length bytes < 2 ^ 61 →
     listed bytes (read_of options bytes) ≡ plain_read bytes (listed bytes (blocks_of options bytes))
 read-listed options bytes built small =
     let p : Point = body_point options bytes in
@@ -255,7 +255,7 @@ read-listed options bytes built small =
     (text-quiet options bytes p)))
 
 -- The blocks of a text, in front of the resolver of lists.
-blocks-unlisted : (options : ParseOptions) (bytes : List ℕ) → IsBuilt options → length bytes < 2 ^ 61 →
+blocks-unlisted : (options : ParseOptions) (bytes : List ℕ) → IsWithoutMdx options → length bytes < 2 ^ 61 →
     IsTrue (are_placed bytes (blocks_of options bytes)) → IsUnlisted bytes (blocks_of options bytes)
 blocks-unlisted options bytes built small placed =
     let p : Point = body_point options bytes in
@@ -291,7 +291,7 @@ unfolding block_list
 block_list-is options bytes = refl
 
 -- With what was read in the place of its chunks, the block list of a text tiles it.
-tiles-are : (options : ParseOptions) (bytes : List ℕ) → IsBuilt options → length bytes < 2 ^ 61 →
+tiles-are : (options : ParseOptions) (bytes : List ℕ) → IsWithoutMdx options → length bytes < 2 ^ 61 →
     IsTrue (are_placed bytes (listed bytes (blocks_of options bytes))) →
     (tiles : Tiles (reads_plain bytes) bytes (listed bytes (read_of options bytes))) ×
     (tiles.blocks ≡ block_list options bytes)
@@ -333,7 +333,7 @@ pub record Reads (options : ParseOptions) (bytes : List ℕ) (blocks events : Li
   pub pieces_are : pieces_stand bytes (pieces events) ≡ true
   pub endings : endings_stand events ≡ true
 
-listed-reads : (options : ParseOptions) (bytes : List ℕ) → IsBuilt options → IsUtf8 bytes → length bytes < 2 ^ 61 →
+listed-reads : (options : ParseOptions) (bytes : List ℕ) → IsWithoutMdx options → IsUtf8 bytes → length bytes < 2 ^ 61 →
     Reads options bytes (listed bytes (blocks_of options bytes)) (listed bytes (read_of options bytes))
 listed-reads options bytes built utf8 small =
     let p : Point = body_point options bytes in
@@ -383,7 +383,8 @@ listed-reads options bytes built utf8 small =
     }
 
 -- The lists stand behind the front.
-pub text-reads : (options : ParseOptions) (bytes : List ℕ) → IsBuilt options → IsUtf8 bytes → length bytes < 2 ^ 61 →
+pub text-reads : (options : ParseOptions) (bytes : List ℕ) → IsWithoutMdx options → IsUtf8 bytes →
+    length bytes < 2 ^ 61 →
     (items events : List Event) → items ≡ listed bytes (listed_groups options bytes (groups (rows_of options bytes))) →
     events ≡ listed bytes (groups_events options bytes (groups (rows_of options bytes))) →
     Reads options bytes (front_events options bytes ++ items) (front_events options bytes ++ events)
@@ -403,7 +404,7 @@ text-reads options bytes built utf8 small items events before is =
 -- The same in the words of the calls that `parse` makes.
 pub parsed-reads : (options : ParseOptions) (bytes text : List ℕ) (start : Point) (found : Found) (new : World)
     (mark items body events : List Event) →
-    bytes ≡ text → IsBuilt options → IsUtf8 text → IsSmall text →
+    bytes ≡ text → IsWithoutMdx options → IsUtf8 text → IsSmall text →
     start ≡ body_point options bytes → mark ≡ front_events options bytes → FlowReads bytes options start found new →
     (wants : Content → Bool) (reads : Readings) → wants content.Text ≡ true → wants content.String ≡ true →
     ReadsText bytes reads → ReadsString bytes reads →
@@ -428,7 +429,7 @@ parsed-reads options bytes text start found new mark items body events same buil
     (body-is ∙ ap (λ (l : List ℕ). listed l (groups_events options l (groups (rows_of options l)))) same)))
 
 pub parsed-labels : (options : ParseOptions) (bytes text : List ℕ) (start : Point) (found : Found) (new : World) →
-    bytes ≡ text → IsBuilt options → IsSmall text → start ≡ body_point options bytes →
+    bytes ≡ text → IsWithoutMdx options → IsSmall text → start ≡ body_point options bytes →
     FlowReads bytes options start found new →
     found.definitions ≡ (labels (tree options text)).definitions
 parsed-labels options bytes text start found new same built most starts flow =
@@ -439,7 +440,8 @@ parsed-labels options bytes text start found new same built most starts flow =
 
 pub parsed-footnotes : (options : ParseOptions) (bytes text : List ℕ) (start : Point) (found : Found) (new : World)
     (items : List Event) →
-    bytes ≡ text → IsBuilt options → IsSmall text → start ≡ body_point options bytes → FlowReads bytes options start found new →
+    bytes ≡ text → IsWithoutMdx options → IsSmall text → start ≡ body_point options bytes →
+    FlowReads bytes options start found new →
     items ≡ new.events → footnotes_listed options bytes items ≡ (labels (tree options text)).footnotes
 parsed-footnotes options bytes text start found new items same built most starts flow are =
     let small : length text < 2 ^ 61 = omega (arith, most) in

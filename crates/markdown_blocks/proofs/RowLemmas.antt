@@ -27,7 +27,7 @@ use Rattle.md_definition.proofs.TextsLemmas.{split-line, split-next}
 use Rattle.markdown_blocks.specs.Change.{open_behind}
 use Rattle.markdown_blocks.specs.FlowReads.{text_cells, text_rows, text_setting}
 use Rattle.markdown_blocks.specs.Fronted.{Contained, contained, rest_from, rest_line}
-use Rattle.markdown_blocks.specs.Parsed.{IsBuilt}
+use Rattle.markdown_blocks.specs.Parsed.{IsWithoutMdx}
 use Rattle.markdown_blocks.specs.Rows.{behind_held, leaf_behind, Held, Row, RowKind, after_ending, closes_before}
 use Rattle.markdown_blocks.specs.Rows.{ends_blank, held_at, inside_of}
 use Rattle.markdown_blocks.specs.Rows.{line_kind, onto_rows, row_kind, row_of, rows_at, rows_by, stays_blank}
@@ -209,7 +209,7 @@ record HasRow (options : ParseOptions) (bytes : List ℕ) (open_before : List Co
 
 has-row : (options : ParseOptions) (bytes behind : List ℕ) (said : Line) (open_before : List Container)
     (still : HeldLeaf) (line : List ℕ) (p : Point) (stop : List Cell) →
-    IsBuilt options → length bytes < 2 ^ 61 → AreRead open_before → length (spread said line p ++ stop) < 2 ^ 63 →
+    IsWithoutMdx options → length bytes < 2 ^ 61 → AreRead open_before → length (spread said line p ++ stop) < 2 ^ 63 →
     NoEnding line → Stops stop → p.vs ≡ 0 → 1 ≤ p.column → drop p.index bytes ≡ line ++ behind →
     HasRow options bytes open_before still p line stop
     (held_at options open_before still (spread said line p ++ stop) p)
@@ -268,7 +268,7 @@ rows-onto options bytes line open_before still row p q (next ∷ lines) (below �
 -- the last line
 last-rows : (options : ParseOptions) (n : ℕ) (bytes : List ℕ) (said : Line) (open_before : List Container)
     (still : HeldLeaf) (line : List ℕ) (p : Point) (cells : List Cell) →
-    IsBuilt options → length bytes < 2 ^ 61 → AreRead open_before → length cells < 2 ^ 63 →
+    IsWithoutMdx options → length bytes < 2 ^ 61 → AreRead open_before → length cells < 2 ^ 63 →
     NoEnding line → p.index ≤ length bytes → p.vs ≡ 0 → 1 ≤ p.column → drop p.index bytes ≡ line →
     cells ≡ spread said line p ++ [] →
     AreRows options bytes open_before still p (split_lines (drop p.index bytes))
@@ -300,7 +300,7 @@ last-rows options n bytes said open_before still line p cells built room read sh
 -- a line with its ending, before others
 next-rows : (options : ParseOptions) (n : ℕ) (bytes : List ℕ) (said : Line) (open_before : List Container)
     (still : HeldLeaf) (line : List ℕ) (ending : Ending) (rest : List ℕ) (p q : Point) (cells more : List Cell) →
-    IsBuilt options → length bytes < 2 ^ 61 → AreRead open_before → length cells < 2 ^ 63 →
+    IsWithoutMdx options → length bytes < 2 ^ 61 → AreRead open_before → length cells < 2 ^ 63 →
     NoEnding line → EndsBefore ending rest → p.vs ≡ 0 → 1 ≤ p.column →
     drop p.index bytes ≡ line ++ ending_bytes ending ++ rest → drop q.index bytes ≡ rest →
     IsEnding bytes (past_text line p) q →
@@ -345,7 +345,7 @@ next-rows options n bytes said open_before still line ending rest p q cells more
 -- The rows from the start of a line on are the lines that are left of the text.
 pub rows-are : (options : ParseOptions) (n : ℕ) (x : Setting) (open_before : List Container) (still : HeldLeaf)
     (p : Point) →
-    IsBuilt options → AreRead open_before → HasLines x p → length (text_feed x p) < n →
+    IsWithoutMdx options → AreRead open_before → HasLines x p → length (text_feed x p) < n →
     AreRows options x.bytes open_before still p (split_lines (drop p.index x.bytes))
     (rows_at options n open_before still (text_feed x p) p)
 rows-are options zero x open_before still p built read h short = absurd (omega arith)
@@ -433,7 +433,7 @@ rows-are options (suc n) x open_before still p built read h short =
         (is-ending x.bytes h'.ending h'.rest end behind h'.before) fed (more q lines (omega arith))
 
 -- So are those that a new tokenizer reads to the end of a text.
-pub fresh-rows : (options : ParseOptions) (bytes : List ℕ) (p : Point) → IsBuilt options → length bytes < 2 ^ 61 →
+pub fresh-rows : (options : ParseOptions) (bytes : List ℕ) (p : Point) → IsWithoutMdx options → length bytes < 2 ^ 61 →
     p.index ≤ length bytes → p.vs ≡ 0 → 1 ≤ p.column →
     AreRows options bytes [] held_leaf.None p (split_lines (drop p.index bytes)) (text_rows options bytes p)
 fresh-rows options bytes p built small index whole column =

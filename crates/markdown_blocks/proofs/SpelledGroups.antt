@@ -53,7 +53,7 @@ use Rattle.markdown_blocks.specs.Registry.{container_name, shape_of}
 use Rattle.markdown_blocks.specs.Change.{Change, ends_of, is_none}
 use Rattle.markdown_blocks.specs.Fed.{close_containers}
 use Rattle.markdown_blocks.specs.Fronted.{Contained, contained, rest_from}
-use Rattle.markdown_blocks.specs.Parsed.{IsBuilt}
+use Rattle.markdown_blocks.specs.Parsed.{IsWithoutMdx}
 use Rattle.markdown_blocks.specs.Rows.{BlankRow, Group, LeafRow, Lines, Row, RowKind, TextRow}
 use Rattle.markdown_blocks.specs.Rows.{ending_events, ending_of, groups_events, is_text}
 use Rattle.markdown_blocks.specs.Rows.{last_row, line_kind, onto_groups, tail_events}
@@ -762,7 +762,7 @@ line-behind options bytes cs still p line row is =
     (contained options cs still (rest_from p line)).rest) (line-is options bytes cs still p line row is)
 
 pub still-line : (options : ParseOptions) (bytes : List ℕ) (a : Path) (p : Point) (line : List ℕ) (row : Row) →
-    IsBuilt options →
+    IsWithoutMdx options →
     IsPlain a → f.IsLine options bytes (containers_of a) (still_of a) p line row →
     still_of (step options a (rest_from p line)) ≡ row.behind
 still-line options bytes a p line row built plain is =

@@ -48,7 +48,7 @@ use Rattle.markdown_blocks.specs.Registry.{shape_of, text_leaf, turn_leaf}
 use Rattle.markdown_blocks.specs.Change.{Change, is_none}
 use Rattle.markdown_blocks.specs.Fed.{last_leaves, close_containers, rests_from}
 use Rattle.markdown_blocks.specs.Fronted.{Contained, rest_from, rest_line}
-use Rattle.markdown_blocks.specs.Parsed.{IsBuilt}
+use Rattle.markdown_blocks.specs.Parsed.{IsWithoutMdx}
 use Rattle.markdown_blocks.specs.Rows.{BlankRow, Group, LeafRow, Lines, Row, RowKind, Single, TextRow}
 use Rattle.markdown_blocks.specs.Rows.{ending_of, groups, groups_events, is_lazy, is_text}
 use Rattle.markdown_blocks.specs.Rows.{last_row, leaf_done, line_kind, onto_groups}
@@ -162,7 +162,7 @@ MeansLine options bytes p a row gs last =
 
 row-means : (options : ParseOptions) (bytes : List ℕ) (p : Path) (a : Point) (line : List ℕ) (row : Row)
     (gs : List Group) (last : Reading) (over : Bool) →
-    IsBuilt options → IsPlain p →
+    IsWithoutMdx options → IsPlain p →
     f.IsLine options bytes (containers_of p) (still_of p) a line row → nat_lt a.index (length bytes) ≡ not over →
     Follows options bytes (step_over options over p (rest_from a line)) row gs last →
     MeansLine options bytes p a row (onto_groups row row.kind gs) last
@@ -447,7 +447,7 @@ row-means options bytes p a line row gs last over built plain is in_text follows
 
 -- where nothing follows
 row-ends : (options : ParseOptions) (bytes : List ℕ) (p : Path) (a : Point) (line : List ℕ) (row : Row) (over : Bool) →
-    IsBuilt options → IsPlain p → f.IsLine options bytes (containers_of p) (still_of p) a line row →
+    IsWithoutMdx options → IsPlain p → f.IsLine options bytes (containers_of p) (still_of p) a line row →
     nat_lt a.index (length bytes) ≡ not over →
     MeansLine options bytes p a row (groups (row ∷ []))
     (close_containers (length row.leaves) (reading options (step_over options over p (rest_from a line))))
@@ -590,7 +590,7 @@ not-spanned row below gs begins = go below.kind
 -- what follows a line, by what is read of the lines below
 follows-below : (options : ParseOptions) (bytes : List ℕ) (p : Path) (row below : Row) (gs : List Group) (q : Point)
     (line : List ℕ) (last : Reading) →
-    IsBuilt options → IsPlain p → takes_lazy row.behind ≡ is_text row.kind → still_of p ≡ row.behind →
+    IsWithoutMdx options → IsPlain p → takes_lazy row.behind ≡ is_text row.kind → still_of p ≡ row.behind →
     row.leaves ≡ below.change.closes → row.after ≡ Some q → f.IsEnding bytes row.end q →
     f.IsLine options bytes (containers_of p) (still_of p) q line below →
     (x y : Bool) → is_lazy (still_of p) below.change.opens below.kind ≡ x → is_further below.kind below.on ≡ y →
@@ -726,7 +726,7 @@ RowsMean options bytes p a last (row ∷ rows) = MeansLine options bytes p a row
 -- the lines behind the first stand behind what it does
 pub rows-below : (options : ParseOptions) (bytes : List ℕ) (a : Path) (p : Point) (line next : List ℕ)
     (lines : List (List ℕ)) (row below : Row) (rows : List Row) →
-    IsBuilt options → IsPlain a →
+    IsWithoutMdx options → IsPlain a →
     (are : f.AreRows options bytes (containers_of a) (still_of a) p (line ∷ next ∷ lines) (row ∷ below ∷ rows)) →
     let b : Path = step options a (rest_from p line) in
     f.AreRows options bytes (containers_of b) (still_of b) are.2 (next ∷ lines) (below ∷ rows)
@@ -755,7 +755,7 @@ LinesMean options bytes a p n rests rows =
 -- The groups of the lines of a text, up to any of them, are read as what these lines do.
 rows-mean : (options : ParseOptions) (bytes : List ℕ) (a : Path) (p : Point) (n : ℕ) (lines : List (List ℕ))
     (rows : List Row) →
-    IsBuilt options → IsPlain a →
+    IsWithoutMdx options → IsPlain a →
     f.AreRows options bytes (containers_of a) (still_of a) p lines rows →
     LinesMean options bytes a p n (rests_from p lines) rows
 rows-mean options bytes a p zero (line ∷ []) (row ∷ []) built plain are =
@@ -791,7 +791,7 @@ rows-mean options bytes a p n lines rows built plain are = absurd are
 
 -- behind the last line of a text all containers end
 all-leave : (options : ParseOptions) (bytes : List ℕ) (a : Path) (p : Point) (lines : List (List ℕ)) (rows : List Row) →
-    IsBuilt options → IsPlain a →
+    IsWithoutMdx options → IsPlain a →
     f.AreRows options bytes (containers_of a) (still_of a) p lines rows →
     last_leaves rows ≡ containers_of (steps_over options a (told (rests_from p lines)))
 all-leave options bytes a p (line ∷ []) (row ∷ []) built plain are =
@@ -809,7 +809,7 @@ all-leave options bytes a p lines rows built plain are = absurd are
 -- behind them.
 pub lines-read : (options : ParseOptions) (bytes : List ℕ) (p : Point) (n : ℕ) (lines : List (List ℕ))
     (rows : List Row) →
-    IsBuilt options → f.AreRows options bytes [] held_leaf.None p lines rows →
+    IsWithoutMdx options → f.AreRows options bytes [] held_leaf.None p lines rows →
     read bytes unread (groups_events options bytes (groups (take n rows))) ≡
     close_containers (length (last_leaves (take n rows)))
     (reading options (steps_over options (At (spot_of End)) (take n (told (rests_from p lines)))))
@@ -846,7 +846,7 @@ lines-read options bytes p (suc n) lines rows built are =
 
 -- The events of a text are read as what its lines come to, with all of it closed.
 rows-final : (options : ParseOptions) (bytes : List ℕ) (p : Point) (lines : List (List ℕ)) (rows : List Row) →
-    IsBuilt options → f.AreRows options bytes [] held_leaf.None p lines rows →
+    IsWithoutMdx options → f.AreRows options bytes [] held_leaf.None p lines rows →
     read bytes unread (groups_events options bytes (groups rows)) ≡
     final options (steps_over options (At (spot_of End)) (told (rests_from p lines)))
 rows-final options bytes p lines rows built are =
@@ -865,7 +865,7 @@ rows-final options bytes p lines rows built are =
 
 -- So they spell it.
 pub spelled-rows : (options : ParseOptions) (bytes : List ℕ) (p : Point) (lines : List (List ℕ)) (rows : List Row) →
-    IsBuilt options → f.AreRows options bytes [] held_leaf.None p lines rows →
+    IsWithoutMdx options → f.AreRows options bytes [] held_leaf.None p lines rows →
     spelled (groups_events options bytes (groups rows)) bytes ≡
     closed options (steps_over options (At (spot_of End)) (told (rests_from p lines)))
 unfolding spelled
@@ -874,7 +874,7 @@ spelled-rows options bytes p lines rows built are =
 
 -- with nothing left open around it
 pub rows-outer : (options : ParseOptions) (bytes : List ℕ) (p : Point) (lines : List (List ℕ)) (rows : List Row) →
-    IsBuilt options → f.AreRows options bytes [] held_leaf.None p lines rows →
+    IsWithoutMdx options → f.AreRows options bytes [] held_leaf.None p lines rows →
     (read bytes unread (groups_events options bytes (groups rows))).outer ≡ []
 rows-outer options bytes p lines rows built are =
     ap (λ (r : Reading). r.outer) (rows-final options bytes p lines rows built are)

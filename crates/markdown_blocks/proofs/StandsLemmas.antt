@@ -24,7 +24,7 @@ use Rattle.markdown_blocks.specs.Change.{open_behind}
 use Rattle.markdown_blocks.specs.Fed.{FlowRan, StandsBehind, fed, flow_begins, last_leaves, close_containers}
 use Rattle.markdown_blocks.specs.Fed.{line_begins, rests_from}
 use Rattle.markdown_blocks.specs.Fronted.{rest_from}
-use Rattle.markdown_blocks.specs.Parsed.{IsBuilt}
+use Rattle.markdown_blocks.specs.Parsed.{IsWithoutMdx}
 use Rattle.markdown_blocks.specs.Rows.{Row, groups, groups_events}
 use Rattle.markdown_blocks.specs.Stands.{AreOpen, IsPlain, StandsFor, containers_of, still_of, reading}
 use Rattle.markdown_blocks.specs.States.{FlowStep}
@@ -44,7 +44,7 @@ abbrev IsLeft : List Container → HeldLeaf → Path → List Row → Type 0
 IsLeft cs still p rows = (containers_of p ≡ open_after cs rows) × (still_of p ≡ leaf_after still rows)
 
 step-left : (options : ParseOptions) (bytes : List ℕ) (a : Path) (p : Point) (line : List ℕ) (row : Row) →
-    IsBuilt options → IsPlain a → f.IsLine options bytes (containers_of a) (still_of a) p line row →
+    IsWithoutMdx options → IsPlain a → f.IsLine options bytes (containers_of a) (still_of a) p line row →
     IsLeft (containers_of a) (still_of a) (step options a (rest_from p line)) (row ∷ [])
 step-left options bytes a p line row built plain is =
     let r : Rest = rest_from p line in (
@@ -54,7 +54,7 @@ step-left options bytes a p line row built plain is =
 
 steps-left : (options : ParseOptions) (bytes : List ℕ) (a : Path) (p : Point) (n : ℕ) (lines : List (List ℕ))
     (rows : List Row) →
-    IsBuilt options → IsPlain a → f.AreRows options bytes (containers_of a) (still_of a) p lines rows →
+    IsWithoutMdx options → IsPlain a → f.AreRows options bytes (containers_of a) (still_of a) p lines rows →
     IsLeft (containers_of a) (still_of a) (steps options a (take n (rests_from p lines))) (take n rows)
 steps-left options bytes a p zero lines rows built plain are = (refl, refl)
 steps-left options bytes a p (suc zero) (line ∷ []) (row ∷ []) built plain are =
@@ -95,7 +95,7 @@ rests-size p (line ∷ lines) = ap (λ (n : ℕ). suc n) (length-map lines (rest
 -- where the flags hold the containers of this path, and whether text is open.
 pub flags-stand : (options : ParseOptions) (bytes : List ℕ) (p : Point) (n : ℕ) (lines : List (List ℕ))
     (rows : List Row) (g : Flags) →
-    IsBuilt options → f.AreRows options bytes [] held_leaf.None p lines rows → n < length rows →
+    IsWithoutMdx options → f.AreRows options bytes [] held_leaf.None p lines rows → n < length rows →
     let path : Path = steps options (At (spot_of End)) (take n (rests_from p lines)) in
     AreOpen g.containers (containers_of path) → g.leaf ≡ still_of path →
     (r : Reading) × StandsFor options g r path ×
@@ -114,7 +114,7 @@ flags-stand options bytes p n lines rows g built are further containers still =
 
 -- Whenever a line of a text has been fed.
 
-pub stands-behind : (bytes : List ℕ) (options : ParseOptions) (p : Point) (n : ℕ) (w : World) → IsBuilt options →
+pub stands-behind : (bytes : List ℕ) (options : ParseOptions) (p : Point) (n : ℕ) (w : World) → IsWithoutMdx options →
     length bytes < 2 ^ 61 → p.index ≤ length bytes → p.vs ≡ 0 → 1 ≤ p.column → LineFed bytes options p n w →
     StandsBehind bytes options p n w
 stands-behind bytes options p n w built small index whole column is =

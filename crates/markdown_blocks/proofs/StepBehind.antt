@@ -19,7 +19,7 @@ use Rattle.markdown_blocks.specs.Change.{is_none, open_behind}
 use Rattle.markdown_blocks.specs.Fronted.{Contained}
 use Rattle.markdown_blocks.specs.HeldLeaf.{IsBuiltLeaf, has_lines, kind_of_leaf, left_by, may_go_on, takes_lazy}
 use Rattle.markdown_blocks.specs.Leaf.Paragraph.{held_of, open_lines}
-use Rattle.markdown_blocks.specs.Parsed.{IsBuilt}
+use Rattle.markdown_blocks.specs.Parsed.{IsWithoutMdx}
 use Rattle.markdown_blocks.specs.Registry.{GfmTable, IsOpenSpan, LeafName, further_of, leaf, text_leaf, turn_leaf}
 use Rattle.markdown_blocks.specs.Rows.{BlankRow, LeafRow, RowKind, TextRow, is_further, is_lazy, is_text, line_behind}
 use Rattle.markdown_blocks.specs.Rows.{line_kind, takes_head}
@@ -258,7 +258,7 @@ plain-further options p c goes =
     (subst (λ (kind : RowKind). IsBuiltLeaf (left_by (come_by options (spot p).leaf c.rest kind))) (sym goes.kind)
     goes.is.built)
 
-pub plain-step : (options : ParseOptions) (p : Path) (r : Rest) → IsBuilt options → IsPlain p →
+pub plain-step : (options : ParseOptions) (p : Path) (r : Rest) → IsWithoutMdx options → IsPlain p →
     IsPlain (step options p r)
 plain-step options p r built plain =
     subst IsPlain (sym (step-contained options p r built plain))
@@ -342,7 +342,7 @@ containers-all options p r e =
     let none : length change.closes ≡ 0 = ap length e in
     containers-renewed change.stays p (omega (arith, sizes))
 
-pub containers-step : (options : ParseOptions) (p : Path) (r : Rest) → IsBuilt options → IsPlain p →
+pub containers-step : (options : ParseOptions) (p : Path) (r : Rest) → IsWithoutMdx options → IsPlain p →
     containers_of (step options p r) ≡ open_behind (contained_at options p r).change
 containers-step options p r built plain =
     ap containers_of (step-contained options p r built plain)
@@ -447,7 +447,7 @@ still-further options p c goes =
     ∙ ap (λ (on : HeldLeaf). (leaf goes.is.name).holds options on c.rest) (sym goes.on)
     ∙ ap (line_behind options c.on c.rest) (sym goes.kind)
 
-pub still-step : (options : ParseOptions) (p : Path) (r : Rest) → IsBuilt options → IsPlain p →
+pub still-step : (options : ParseOptions) (p : Path) (r : Rest) → IsWithoutMdx options → IsPlain p →
     let c = contained_at options p r in
     still_of (step options p r) ≡ line_behind options c.on c.rest (line_kind options c.on c.rest)
 still-step options p r built plain =

@@ -34,7 +34,7 @@ use Rattle.markdown_blocks.specs.Change.{change_by, interrupts, others_of}
 use Rattle.markdown_blocks.specs.Fed.{rests_from}
 use Rattle.markdown_blocks.specs.Fronted.{Contained, Prefixed, contained, no_prefix, one_more, prefixes_new}
 use Rattle.markdown_blocks.specs.Fronted.{prefixes_on}
-use Rattle.markdown_blocks.specs.Parsed.{IsBuilt}
+use Rattle.markdown_blocks.specs.Parsed.{IsWithoutMdx}
 use Rattle.markdown_blocks.specs.Registry.{text_leaf}
 use Rattle.markdown_blocks.specs.Rows.{BlankRow, LeafRow, Row, RowKind, TextRow, groups, groups_events, is_lazy}
 use Rattle.markdown_blocks.specs.Rows.{line_kind}
@@ -75,7 +75,7 @@ read-stay options p r h =
     (kinds-read (change.stays ++ change.closes) (containers_of p)
     (contained-kinds options (containers_of p) (still_of p) r) h)
 
-read-new : (options : ParseOptions) (interrupting : Bool) (n : ℕ) (r : Rest) → IsBuilt options →
+read-new : (options : ParseOptions) (interrupting : Bool) (n : ℕ) (r : Rest) → IsWithoutMdx options →
     AreRead (prefixes_new options interrupting n r).containers
 read-new options interrupting zero r built = tt
 read-new options interrupting (suc n) r built =
@@ -90,7 +90,7 @@ read-new options interrupting (suc n) r built =
     go below (Some t) read = (read, below t.rest)
 
 -- and those that open on it
-read-open : (options : ParseOptions) (cs : List Container) (still : HeldLeaf) (r : Rest) → IsBuilt options →
+read-open : (options : ParseOptions) (cs : List Container) (still : HeldLeaf) (r : Rest) → IsWithoutMdx options →
     AreRead (contained options cs still r).change.opens
 unfolding contained
 read-open options cs still r built =
@@ -126,7 +126,8 @@ shallow-read : (p : Path) → HoldsShallow p → AreRead (containers_of p)
 shallow-read (At s) h = tt
 shallow-read (Within before container p) h = (h.1, shallow-read p h.2)
 
-shallow-shut : (options : ParseOptions) (s : Spot) → IsBuilt options → IsBuiltLeaf s.leaf → are_shallow s.here ≡ true →
+shallow-shut : (options : ParseOptions) (s : Spot) → IsWithoutMdx options → IsBuiltLeaf s.leaf →
+    are_shallow s.here ≡ true →
     are_shallow (shut options s) ≡ true
 shallow-shut options s built plain h =
     text-laws.cases (λ (leaf : Leaf). are_shallow (then_leaf options s.here leaf) ≡ true) h text
@@ -137,7 +138,7 @@ shallow-shut options s built plain h =
         subst (λ (bs : Blocks). are_shallow bs ≡ true) (sym (text-laws.shut options s.here (k ∷ ks)))
         (text-laws.shallow options s.here (texts (k ∷ ks)) h)
 
-shallow-closed : (options : ParseOptions) (p : Path) → IsBuilt options → IsPlain p → HoldsShallow p →
+shallow-closed : (options : ParseOptions) (p : Path) → IsWithoutMdx options → IsPlain p → HoldsShallow p →
     are_shallow (closed options p) ≡ true
 shallow-closed options (At s) built plain h = shallow-shut options s built plain h
 shallow-closed options (Within before container p) built plain h =
@@ -145,7 +146,8 @@ shallow-closed options (Within before container p) built plain h =
     shallow-then before (container_block container (closed options p)) h.0
     (read-shallow container (closed options p) h.1 below)
 
-shallow-kept : (options : ParseOptions) (cs : List Container) (p : Path) → IsBuilt options → IsPlain p → AreRead cs →
+shallow-kept : (options : ParseOptions) (cs : List Container) (p : Path) → IsWithoutMdx options → IsPlain p →
+    AreRead cs →
     HoldsShallow p → HoldsShallow (kept_to options cs p)
 shallow-kept options [] p built plain read h = shallow-closed options p built plain h
 shallow-kept options (c ∷ cs) (At s) built plain read h = shallow-shut options s built plain h
@@ -204,7 +206,7 @@ shallow-further options p c goes stay h =
     (subst (λ (kind : RowKind). ComesShallow (come_by options (spot p).leaf c.rest kind)) (sym goes.kind)
     goes.is.shallow) (shallow-renewed c.change.stays p stay h)
 
-shallow-step : (options : ParseOptions) (p : Path) (r : Rest) → IsBuilt options → IsPlain p → HoldsShallow p →
+shallow-step : (options : ParseOptions) (p : Path) (r : Rest) → IsWithoutMdx options → IsPlain p → HoldsShallow p →
     HoldsShallow (step options p r)
 shallow-step options p r built plain h =
     subst HoldsShallow (sym (step-contained options p r built plain))
@@ -228,13 +230,14 @@ shallow-step options p r built plain h =
         (shallow-kept options c.change.stays p built plain stay h)
         (λ bs k. shallow-new_line options c.on c.change.opens c.rest bs e open_new k)
 
-plain-steps : (options : ParseOptions) (p : Path) (rs : List Rest) → IsBuilt options → IsPlain p →
+plain-steps : (options : ParseOptions) (p : Path) (rs : List Rest) → IsWithoutMdx options → IsPlain p →
     IsPlain (steps options p rs)
 plain-steps options p [] built plain = plain
 plain-steps options p (r ∷ rs) built plain =
     plain-steps options (step options p r) rs built (plain-step options p r built plain)
 
-shallow-steps : (options : ParseOptions) (p : Path) (rs : List Rest) → IsBuilt options → IsPlain p → HoldsShallow p →
+shallow-steps : (options : ParseOptions) (p : Path) (rs : List Rest) → IsWithoutMdx options → IsPlain p →
+    HoldsShallow p →
     HoldsShallow (steps options p rs)
 shallow-steps options p [] built plain h = h
 shallow-steps options p (r ∷ rs) built plain h =
@@ -245,7 +248,7 @@ shallow-steps options p (r ∷ rs) built plain h =
 abbrev come : ParseOptions → List Rest → Blocks
 come options rs = closed options (steps options (At (spot_of End)) rs)
 
-shallow-come : (options : ParseOptions) (rs : List Rest) → IsBuilt options → are_shallow (come options rs) ≡ true
+shallow-come : (options : ParseOptions) (rs : List Rest) → IsWithoutMdx options → are_shallow (come options rs) ≡ true
 shallow-come options rs built =
     shallow-closed options (steps options (At (spot_of End)) rs) built
     (plain-steps options (At (spot_of End)) rs built tt) (shallow-steps options (At (spot_of End)) rs built tt refl)
@@ -349,7 +352,7 @@ renewed-some zero p = refl
 renewed-some (suc n) (At s) = refl
 renewed-some (suc n) (Within before c p) = ap (Within before c) (renewed-some n p)
 
-step-empty : (options : ParseOptions) (p : Path) (column : ℕ) → IsBuilt options → IsPlain p →
+step-empty : (options : ParseOptions) (p : Path) (column : ℕ) → IsWithoutMdx options → IsPlain p →
     AreRead (containers_of p) → closed options (step_over options true p (rest_at column [])) ≡ closed options p
 step-empty options p column built plain read = go (goes_further options c) refl
   where
@@ -437,7 +440,7 @@ step-empty options p column built plain read = go (goes_further options c) refl
 abbrev come_over : ParseOptions → List Rest → Blocks
 come_over options rs = closed options (steps_over options (At (spot_of End)) (told rs))
 
-behind-empty : (options : ParseOptions) (column : ℕ) (p : Path) (rs : List Rest) → IsBuilt options → IsPlain p →
+behind-empty : (options : ParseOptions) (column : ℕ) (p : Path) (rs : List Rest) → IsWithoutMdx options → IsPlain p →
     HoldsShallow p →
     closed options (steps_over options p (told (rs ++ rest_at column [] ∷ []))) ≡ closed options (steps options p rs)
 behind-empty options column p [] built plain h = step-empty options p column built plain (shallow-read p h)
@@ -454,7 +457,7 @@ behind-empty options column p (r ∷ rs) built plain h =
     some [] = refl
     some (x ∷ xs) = refl
 
-come-empty : (options : ParseOptions) (column : ℕ) (lines : List (List ℕ)) → IsBuilt options →
+come-empty : (options : ParseOptions) (column : ℕ) (lines : List (List ℕ)) → IsWithoutMdx options →
     come_over options (rests_at column (lines ++ [] ∷ [])) ≡ come options (rests_at column lines)
 come-empty options column [] built = behind-empty options column (At (spot_of End)) [] built tt refl
 come-empty options column (line ∷ lines) built =
@@ -545,7 +548,7 @@ split-or_empty (b ∷ bs) = go (ends_line b bs) (is_ending b) refl refl (split-o
         subst (IsOrEmpty (onto_first b (split_lines bs))) (sym (without_ending-onto b (full_lines_of bs) f))
         (or_empty-byte b (split_lines bs) (lines_of bs) s)
 
-come-split : (options : ParseOptions) (column : ℕ) (split lines : List (List ℕ)) → IsBuilt options →
+come-split : (options : ParseOptions) (column : ℕ) (split lines : List (List ℕ)) → IsWithoutMdx options →
     IsOrEmpty split lines → come_over options (rests_at column split) ≡ come options (rests_at column lines)
 come-split options column split lines built (inl e) =
     ap (closed options) (steps-full options column (At (spot_of End)) split e.1)
@@ -569,7 +572,7 @@ tree-body options bytes p front begun =
     begun.preamble_is
 
 -- They are not too deep for an outline.
-pub body-shallow : (options : ParseOptions) (bytes : List ℕ) (p : Point) → IsBuilt options →
+pub body-shallow : (options : ParseOptions) (bytes : List ℕ) (p : Point) → IsWithoutMdx options →
     are_shallow (body_of options bytes p) ≡ true
 body-shallow options bytes p built =
     shallow-come options (rests_at (p.column - 1) (lines_of (drop p.index bytes))) built
@@ -579,7 +582,7 @@ rests-at p [] = refl
 rests-at p (line ∷ lines) = refl
 
 -- The events of the lines of a text are read as what the lines come to.
-pub body-rows : (options : ParseOptions) → IsBuilt options → (bytes : List ℕ) (p : Point) (rows : List Row) →
+pub body-rows : (options : ParseOptions) → IsWithoutMdx options → (bytes : List ℕ) (p : Point) (rows : List Row) →
     f.AreRows options bytes [] held_leaf.None p (split_lines (drop p.index bytes)) rows →
     spelled (groups_events options bytes (groups rows)) bytes ≡ body_of options bytes p
 body-rows options built bytes p rows are =

@@ -21,7 +21,7 @@ use Rattle.md_definition.specs.Step.{spot_of, steps}
 use Rattle.md_definition.specs.Texts.{split_lines}
 use Rattle.md_definition.specs.Tree.{End}
 use Rattle.markdown_blocks.specs.Fronted.{rest_from}
-use Rattle.markdown_blocks.specs.Parsed.{IsBuilt}
+use Rattle.markdown_blocks.specs.Parsed.{IsWithoutMdx}
 use Rattle.markdown_blocks.specs.Rows.{Row, behind_row, groups, groups_events, rows_events}
 use Rattle.markdown_blocks.specs.Stands.{StandsFor}
 use Rattle.markdown_blocks.specs.States.{FlowStep}
@@ -102,7 +102,7 @@ pub record FlowRan (bytes : List ℕ) (options : ParseOptions) (p : Point) (end 
   pub lines : suc (fed (FlowStep same_name) true line_begins (flow_begins bytes options p) end at run) ≡
       length (text_rows options bytes p)
   -- and whenever one had been fed, what the tokenizer held stood for what is open behind the lines so far
-  pub stands : IsBuilt options → p.index ≤ length bytes → p.vs ≡ 0 → 1 ≤ p.column →
+  pub stands : IsWithoutMdx options → p.index ≤ length bytes → p.vs ≡ 0 → 1 ≤ p.column →
       (t : State) (v : World) (t' : State) (v' : World)
       (before : Runs (FlowStep same_name) true line_begins (flow_begins bytes options p) t v)
       (call : Calls (FlowStep same_name) true t v t' v') →

@@ -32,8 +32,8 @@ use Rattle.markdown_blocks.specs.BlockList.{block_list}
 abbrev pub IsSmall : List ℕ → Type 0
 IsSmall text = length text ≤ (2 ^ 64 - 1) / 8
 
--- the constructs that are asked for are there: all but those of MDX
-pub record IsBuilt (options : ParseOptions) : Type 0 where
+-- the constructs of MDX, which are not built, are off
+pub record IsWithoutMdx (options : ParseOptions) : Type 0 where
   pub mdx_esm : options.constructs.mdx_esm ≡ false
   pub mdx_expression_flow : options.constructs.mdx_expression_flow ≡ false
   pub mdx_expression_text : options.constructs.mdx_expression_text ≡ false

@@ -10,7 +10,7 @@ ghost use Rattle.md_leaves.specs.Turned.{turned};
 ghost use Rattle.markdown_blocks.specs.Document.{ReadsFront};
 ghost use Rattle.markdown_blocks.specs.FlowReads.{FlowReads, lines_joined, tables_set};
 ghost use Rattle.markdown_blocks.specs.Footnotes.{footnotes_listed};
-ghost use Rattle.markdown_blocks.specs.Parsed.{IsBuilt, IsParsed, IsSmall};
+ghost use Rattle.markdown_blocks.specs.Parsed.{IsWithoutMdx, IsParsed, IsSmall};
 ghost use Rattle.markdown_blocks.specs.Registry.{stays_alone};
 ghost use Rattle.markdown_blocks.specs.TextReads.{text_kind, wants_text};
 
@@ -275,7 +275,7 @@ pub fn parse<'a>(
     options: &'a ParseOptions,
 ) -> Result<(Vec<Event>, ParseState<'a>), Message>
     requires size { IsSmall value.now }
-    requires built { IsBuilt options.now }
+    requires built { IsWithoutMdx options.now }
     ensures { IfOk result (λ parsed. IsParsed value.now options.now parsed.0.items parsed.1) }
 {
     let bytes = value.as_bytes();
