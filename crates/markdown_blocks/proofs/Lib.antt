@@ -136,6 +136,9 @@ pub mod PieceRows
 pub mod EndingFacts
 pub mod EndingRows
 pub mod Parses
+pub mod TextBlocks
+pub mod ReadsWith
+pub mod FrontUnlinked
 pub mod PartedRows
 pub mod PlainEvents
 pub mod GroupedBlocks

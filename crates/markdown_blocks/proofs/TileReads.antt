@@ -161,19 +161,19 @@ unfolding text_front
 none-point options = refl
 
 empty-none : (options : ParseOptions) →
-    front_events options [] ++ groups_events options [] (groups (text_rows options [] (body_point options []))) ≡ []
+    front_events options [] ++ listed_groups options [] (groups (text_rows options [] (body_point options []))) ≡ []
 empty-none options =
     ap
     (λ (es : List Event).
-    es ++ groups_events options [] (groups (text_rows options [] (body_point options [])))) (none-front options)
-    ∙ end-read options [] (body_point options []) (omega arith) (omega arith)
+    es ++ listed_groups options [] (groups (text_rows options [] (body_point options [])))) (none-front options)
+    ∙ end-unread options [] (body_point options []) (omega arith) (omega arith)
 
-pub groups-empty : (options : ParseOptions) (bytes : List ℕ) → bytes ≡ [] →
+pub blocks-empty : (options : ParseOptions) (bytes : List ℕ) → bytes ≡ [] →
     front_events options bytes
-    ++ groups_events options bytes (groups (text_rows options bytes (body_point options bytes))) ≡
+    ++ listed_groups options bytes (groups (text_rows options bytes (body_point options bytes))) ≡
     []
-groups-empty options bytes e =
+blocks-empty options bytes e =
     subst
     (λ (l : List ℕ).
-    front_events options l ++ groups_events options l (groups (text_rows options l (body_point options l))) ≡ [])
+    front_events options l ++ listed_groups options l (groups (text_rows options l (body_point options l))) ≡ [])
     (sym e) (empty-none options)

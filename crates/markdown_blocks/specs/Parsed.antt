@@ -9,15 +9,17 @@ use Rattle.md_engine.specs.declared.parse_state.ParseState.{ParseState}
 use Rattle.md_seam.specs.Events.Endings.{endings_stand}
 use Rattle.md_seam.specs.Events.Grammar.{keeps_grammar, plain_text}
 use Rattle.md_seam.specs.Events.Held.{Holds}
-use Rattle.md_seam.specs.Events.Inline.{Part, pieces, plain_events}
+use Rattle.md_seam.specs.Events.Inline.{Covers, Part, pieces, plain_events}
 use Rattle.md_definition.specs.Meaning.{tree}
 use Rattle.md_seam.specs.Events.Nested.{Nested}
 use Rattle.md_seam.specs.Events.On.{are_on}
 use Rattle.md_seam.specs.Events.Pieces.{pieces_stand}
-use Rattle.md_seam.specs.Events.Places.{are_placed}
+use Rattle.md_seam.specs.Events.Places.{are_placed, first_point}
 use Rattle.md_definition.specs.Preamble.{front_of, has_mark}
 use Rattle.md_seam.specs.Events.Spelled.{spelled}
-use Rattle.md_seam.specs.Events.Tiles.{Tiles, plain_read}
+use Rattle.md_seam.specs.Events.Tiles.{Tiles, end_point, plain_read}
+use Rattle.md_seam.specs.Substituted.{Substituted}
+use Rattle.md_seam.specs.TextPart.{Document, document_of, text_kind, wants_text}
 use Rattle.md_definition.specs.Ascii.{plus}
 use Rattle.md_definition.specs.Bytes.{begins}
 use Rattle.md_definition.specs.Label.{labels}

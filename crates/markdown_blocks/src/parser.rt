@@ -7,12 +7,12 @@ ghost use Rattle.md_engine.specs.Found.{found_in};
 ghost use Rattle.md_engine.specs.Place.{IsPlaced};
 ghost use Rattle.md_engine.specs.World.{fresh, world};
 ghost use Rattle.md_leaves.specs.Turned.{turned};
+ghost use Rattle.md_seam.specs.TextPart.{IsTextPart, document_of, text_kind, wants_text};
 ghost use Rattle.markdown_blocks.specs.Document.{ReadsFront};
 ghost use Rattle.markdown_blocks.specs.FlowReads.{FlowReads, lines_joined, tables_set};
 ghost use Rattle.markdown_blocks.specs.Footnotes.{footnotes_listed};
-ghost use Rattle.markdown_blocks.specs.Parsed.{IsWithoutMdx, IsParsed, IsSmall};
+ghost use Rattle.markdown_blocks.specs.Parsed.{IsParsed, IsRead, IsSmall, IsWithoutMdx};
 ghost use Rattle.markdown_blocks.specs.Registry.{stays_alone};
-ghost use Rattle.markdown_blocks.specs.TextReads.{text_kind, wants_text};
 
 use crate::construct::document::DocumentTable;
 use crate::construct::flow::FlowTable;
@@ -65,7 +65,10 @@ impl<I: Inline> Reader for TextReader<'_, '_, I> {
 
     ghost wants = { λ reader. wants_text };
 
-    ghost reads_as = { λ reader content chunks events. I.reads reader.inline.now reader.state.now.bytes.now
+    ghost may_read = { λ reader content chunks. IsTextPart (document_of reader.state.now)
+        (record { kind = text_kind content; chunks = chunks }) };
+
+    ghost reads_as = { λ reader content chunks events. I.reads reader.inline.now (document_of reader.state.now)
         (record { kind = text_kind content; chunks = chunks }) events };
 
     fn reads(&self, content: Content) -> bool {
@@ -265,18 +268,21 @@ fn behind_front(mut front: Vec<Event>, mut body: Vec<Event>) -> Result<Vec<Event
     Ok(front)
 }
 
-/// Reads a text: its events, and what else is known of it.
+/// Reads a text, its text parts by an inline layer: its events, and what else is known of it.
 ///
-/// The text has at most `usize::MAX / 8` bytes, and the constructs of MDX are off. A byte order mark in front of the text
-/// is taken as such. An `Err` says that memory ran out; then nothing is handed out.
-pub fn parse<'a>(
+/// The labels of the whole text are known before the layer reads a part. The text has at most `usize::MAX / 8` bytes,
+/// and the constructs of MDX are off. A byte order mark in front of the text is taken as such. An `Err` says that memory
+/// ran out; then nothing is handed out.
+pub fn parse_with<'a, I: Inline>(
     alloc: Global,
+    inline: &I,
     value: &'a str,
     options: &'a ParseOptions,
 ) -> Result<(Vec<Event>, ParseState<'a>), Message>
     requires size { IsSmall value.now }
     requires built { IsWithoutMdx options.now }
-    ensures { IfOk result (λ parsed. IsParsed value.now options.now parsed.0.items parsed.1) }
+    ensures { IfOk result
+        (λ parsed. IsRead (I.reads inline.now) value.now options.now parsed.0.items parsed.1) }
 {
     let bytes = value.as_bytes();
     let front = read_front(alloc, bytes, options)?;
@@ -289,11 +295,27 @@ pub fn parse<'a>(
         gfm_footnote_definitions: footnotes,
     };
     let reader = TextReader {
-        inline: &Plain,
+        inline,
         state: &state,
     };
     let spare = tokenizer.take_spare();
     let body = subtokenize(alloc, &reader, &tokenizer.events, spare)?;
     let events = behind_front(front.events, body)?;
     Ok((events, state))
+}
+
+/// Reads a text, its text parts by the plain layer, which finds nothing in them: its events, and what else is known of
+/// it.
+///
+/// What is asked of the text and of the options, and what an `Err` says, is as for `parse_with`.
+pub fn parse<'a>(
+    alloc: Global,
+    value: &'a str,
+    options: &'a ParseOptions,
+) -> Result<(Vec<Event>, ParseState<'a>), Message>
+    requires size { IsSmall value.now }
+    requires built { IsWithoutMdx options.now }
+    ensures { IfOk result (λ parsed. IsParsed value.now options.now parsed.0.items parsed.1) }
+{
+    parse_with(alloc, &Plain, value, options)
 }

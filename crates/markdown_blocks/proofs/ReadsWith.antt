@@ -1,0 +1,151 @@
+-- What is known of a text that was read with an inline layer, whatever that finds: where it keeps the promise of all
+-- layers, the blocks and the tree are those of the text before its text parts were read.
+use Rattle.std.proofs.Common.{◌≡◌, ◌<◌, ◌^◌, ℕ, true, List, [], ◌++◌, length, map, ap, sym, ◌∙◌, subst}
+use Rattle.std.specs.Prelude.{IsTrue, ◌≤◌}
+use Rattle.std.specs.Str.{IsUtf8}
+use Rattle.std.specs.String.{string_bytes}
+use Rattle.std.proofs.lemmas.List.Elements.{All-append}
+use Rattle.md_engine.specs.declared.event.Content.{Content}
+use Rattle.md_engine.specs.declared.event.Event.{Event}
+use Rattle.md_engine.specs.declared.event.Point.{Point}
+use Rattle.md_engine.specs.declared.parse_state.ParseState.{ParseState}
+use Rattle.md_engine.specs.Found.{Found}
+use Rattle.md_engine.specs.Place.{IsPlaced}
+use Rattle.md_engine.specs.World.{World}
+use Rattle.md_definition.specs.Label.{labels}
+use Rattle.md_definition.specs.Meaning.{tree}
+use Rattle.md_definition.specs.Tree.{Blocks}
+use Rattle.md_outline.proofs.LayerOutlined.{outlined-layer}
+use Rattle.md_outline.specs.Outlined.{IsOutlined}
+use Rattle.md_seam.specs.Events.Inline.{KeepsFrame, Part}
+use Rattle.md_seam.specs.Events.On.{are_on}
+use Rattle.md_seam.specs.Events.Places.{are_placed}
+use Rattle.md_seam.specs.Events.Spelled.{spelled}
+use Rattle.md_seam.specs.Events.Tiles.{IsBlockList, Tiles, plain_read}
+use Rattle.md_seam.specs.Parts.{ArePlaced}
+use Rattle.md_seam.specs.Substituted.{EachAsked, Substituted}
+use Rattle.md_seam.specs.TextPart.{AreBlocks, Document, IsTextPart, document_of, text_kind, text_readings, wants_text}
+use Rattle.md_seam.specs.declared.inline.Chunk.{Chunk}
+use Rattle.md_seam.proofs.AskedBlocks.{asked-behind, asked-blocks, substituted-behind}
+use Rattle.md_seam.proofs.HeldLemmas.{blocks-held}
+use Rattle.md_seam.proofs.LayerTiles.{substituted-tiles, tiles-cover}
+use Rattle.md_seam.proofs.NestsLemmas.{tiles-nested, tiles-placed}
+use Rattle.md_seam.proofs.OnLemmas.{tree-on}
+use Rattle.md_seam.proofs.PartsLemmas.{tiles-spelled}
+use Rattle.md_seam.proofs.ReachedLemmas.{events-placed}
+use Rattle.markdown_blocks.specs.BlockList.{block_list}
+use Rattle.markdown_blocks.specs.FlowReads.{FlowReads}
+use Rattle.markdown_blocks.specs.Footnotes.{footnotes_listed}
+use Rattle.markdown_blocks.specs.Front.{body_point, front_events}
+use Rattle.markdown_blocks.specs.Parsed.{IsRead, IsWithoutMdx}
+use Rattle.markdown_blocks.proofs.FrontUnlinked.{front-stays}
+use Rattle.markdown_blocks.proofs.TextBlocks.{HasBlocks, blocks-read, has-blocks, parsed-footnotes, parsed-labels}
+use Rattle.markdown_blocks.proofs.TextItemised.{text-itemised}
+use Rattle.markdown_blocks.proofs.TextQuoted.{text-quoted}
+
+-- What the calls in front of the last loop gave: the front of a text, and what flow reads behind it; and the labels in
+-- the state are those that were found.
+pub record IsAhead (state : ParseState) (start : Point) (found : Found) (new : World) (mark items : List Event) :
+    Type 0 where
+  pub built : IsWithoutMdx state.options.now
+  pub utf8 : IsUtf8 state.bytes.now
+  pub small : length state.bytes.now < 2 ^ 61
+  pub starts : start ≡ body_point state.options.now state.bytes.now
+  pub marks : mark ≡ front_events state.options.now state.bytes.now
+  pub flow : FlowReads state.bytes.now state.options.now start found new
+  pub items_are : items ≡ new.events
+  pub mark_placed : ArePlaced state.bytes.now mark
+  pub items_placed : ArePlaced state.bytes.now items
+  pub definitions : map string_bytes state.definitions.items ≡ found.definitions
+  pub footnotes : map string_bytes state.gfm_footnote_definitions.items ≡
+      footnotes_listed state.options.now state.bytes.now items
+
+module _ (state : ParseState) (start : Point) (found : Found) (new : World) (mark items : List Event)
+    (ahead : IsAhead state start found new mark items) where
+  -- The events are the block list of the text,
+  blocks-are : mark ++ items ≡ block_list state.options.now state.bytes.now
+  blocks-are =
+      blocks-read state.options.now state.bytes.now start found new mark items ahead.built ahead.small ahead.starts
+      ahead.marks ahead.flow ahead.items_are
+
+  has : HasBlocks state.options.now state.bytes.now
+  has =
+      has-blocks state.options.now state.bytes.now ahead.built ahead.utf8 ahead.small
+      (events-placed state.bytes.now (block_list state.options.now state.bytes.now)
+      (subst (ArePlaced state.bytes.now) blocks-are
+      (All-append (λ (e : Event). IsPlaced state.bytes.now e.point) mark items ahead.mark_placed ahead.items_placed)))
+
+  -- and all labels are known.
+  known : AreBlocks (document_of state) (block_list state.options.now state.bytes.now)
+  known = record {
+    sized = ahead.small;
+    list = has.list;
+    covers = has.covers;
+    spells = has.spells;
+    definitions =
+        ahead.definitions
+        ∙ parsed-labels state.options.now state.bytes.now start found new ahead.built ahead.small ahead.starts
+        ahead.flow;
+    footnotes =
+        ahead.footnotes
+        ∙ parsed-footnotes state.options.now state.bytes.now start found new items ahead.built ahead.small ahead.starts
+        ahead.flow ahead.items_are;
+  }
+
+  -- So the layer may be asked for each text part behind the front,
+  pub parts-asked : EachAsked wants_text
+      (λ content chunks. IsTextPart (document_of state) (record { kind = text_kind content; chunks = chunks })) 0 items
+  parts-asked =
+      let asked : Content → List Chunk → Type 0 = λ content chunks.
+      IsTextPart (document_of state) (record { kind = text_kind content; chunks = chunks }) in
+      asked-behind wants_text asked mark items
+      (subst (λ (l : List Event). list_all (stays wants_text) l ≡ true) (sym ahead.marks)
+      (front-stays wants_text state.options.now state.bytes.now))
+      (subst (EachAsked wants_text asked 0) (sym blocks-are)
+      (asked-blocks (document_of state) (block_list state.options.now state.bytes.now) known))
+
+  -- and what it gives is known in whole.
+  pub reads-with : (reads : Document → Part → List Event → Type 0) → KeepsFrame state.bytes.now (reads (document_of state)) →
+      (body events : List Event) →
+      Substituted wants_text (text_readings (reads (document_of state))) [] 0 items body → events ≡ mark ++ body →
+      IsRead reads state.bytes.now state.options.now events state
+  reads-with reads frame body events substituted is =
+      let bytes : List ℕ = state.bytes.now in
+      let blocks : List Event = block_list state.options.now bytes in
+      let all : Substituted wants_text (text_readings (reads (document_of state))) [] 0 blocks events =
+      subst (λ (l : List Event). Substituted wants_text (text_readings (reads (document_of state))) [] 0 l events)
+      blocks-are
+      (subst (Substituted wants_text (text_readings (reads (document_of state))) [] 0 (mark ++ items)) (sym is)
+      (substituted-behind wants_text (text_readings (reads (document_of state))) mark items body
+      (subst (λ (l : List Event). list_all (stays wants_text) l ≡ true) (sym ahead.marks)
+      (front-stays wants_text state.options.now bytes)) substituted)) in
+      let none : bytes ≡ [] → events ≡ [] = λ empty.
+      subst (λ (l : List Event). Substituted wants_text (text_readings (reads (document_of state))) [] 0 l events)
+      (has.empty empty) all in
+      let tiled : (tiles : Tiles (reads (document_of state)) bytes events) × (tiles.blocks ≡ blocks) =
+      substituted-tiles bytes (reads (document_of state)) blocks events frame has.list has.covers all none in
+      let shows : spelled events bytes ≡ tree state.options.now bytes =
+      tiles-spelled bytes (reads (document_of state)) events frame tiled.0
+      ∙ ap (λ (l : List Event). spelled l bytes) tiled.1
+      ∙ has.spells in
+      record {
+        bytes = refl;
+        options_are = refl;
+        nested = tiles-nested bytes (reads (document_of state)) events frame tiled.0;
+        placed = tiles-placed bytes (reads (document_of state)) events frame tiled.0;
+        in_quote = λ on may. text-quoted state.options.now bytes events shows on may;
+        in_item = λ on may. text-itemised state.options.now bytes events shows on may;
+        tree = shows;
+        on = ap (are_on state.options.now) shows ∙ tree-on state.options.now bytes;
+        events_are = all;
+        tiles = tiled.0;
+        blocks_are = tiled.1;
+        covers = tiles-cover bytes (reads (document_of state)) events frame tiled.0;
+        held =
+            blocks-held bytes tiled.0.blocks tiled.0.covers tiled.0.block_list.pieces_are tiled.0.block_list.chunks;
+        outlined =
+            outlined-layer bytes (reads (document_of state)) events frame tiled.0
+            (subst (λ (l : List Event). IsOutlined (plain_read bytes l) bytes) (sym tiled.1) has.outlined);
+        definitions = known.definitions ∙ ap (λ (bs : Blocks). (labels bs).definitions) (sym shows);
+        footnotes = known.footnotes ∙ ap (λ (bs : Blocks). (labels bs).footnotes) (sym shows);
+      }

@@ -1,0 +1,372 @@
+-- What stands in a text before its text parts are read, where the constructs of MDX are off: its block list, which tiles
+-- it and spells its tree, and its labels. No inline layer changes that.
+use Rattle.md_engine.specs.declared.tokenizer.held_leaf.HeldLeaf.TheVariants as held_leaf
+use Rattle.std.proofs.Common.{◌≡◌, ◌^◌, ◌<◌, arith, ℕ, Bool, true, suc, List, [], ◌++◌, length, drop, refl, ap}
+use Rattle.std.proofs.Common.{sym, ◌∙◌, subst, cond, false}
+use Rattle.std.specs.Prelude.{IsTrue}
+use Rattle.std.specs.Str.{IsUtf8}
+use Rattle.md_engine.specs.declared.configuration.ParseOptions.{ParseOptions}
+use Rattle.md_engine.specs.declared.event.Content.{Content}
+use Rattle.md_engine.specs.declared.event.Content.TheVariants as content
+use Rattle.md_engine.specs.declared.event.Event.{Event}
+use Rattle.md_engine.specs.declared.event.Point.{Point}
+use Rattle.md_engine.specs.Found.{Found}
+use Rattle.md_engine.specs.Place.{first_point}
+use Rattle.md_engine.specs.World.{World}
+use Rattle.md_containers.specs.ItemsHeld.{ItemsHeld}
+use Rattle.md_containers.specs.ItemsStand.{ItemsStand, root}
+use Rattle.md_containers.specs.Listed.{listed}
+use Rattle.markdown_blocks.specs.FlowReads.{lines_joined, tables_set}
+use Rattle.md_containers.proofs.ListedBlocks.{IsUnlisted, listed-blocks, listed-covers}
+use Rattle.md_containers.proofs.ListedFilled.{listed-plain}
+use Rattle.md_containers.proofs.ListedGrammar.{listed-grammar}
+use Rattle.md_containers.proofs.ListedKept.{listed-endings, listed-pieces, listed-placed}
+use Rattle.md_containers.proofs.ListedNests.{listed-nested}
+use Rattle.md_containers.proofs.ListedParts.{listed-parts}
+use Rattle.md_containers.proofs.ListedReads.{listed-spelled}
+use Rattle.md_content.specs.ContentReads.{content_readings, wants_content}
+use Rattle.md_content.specs.FootnoteLabels.{footnote_labels_in}
+use Rattle.md_content.specs.Labels.{labels_in}
+use Rattle.md_definition.specs.Grouped.{grouped}
+use Rattle.md_definition.specs.Label.{labels}
+use Rattle.md_leaves.specs.Turned.{turned}
+use Rattle.md_seam.specs.Events.Endings.{endings_stand}
+use Rattle.md_seam.specs.Events.Grammar.{keeps_grammar, plain_text}
+use Rattle.md_seam.specs.Events.Inline.{Part, Piece, pieces}
+use Rattle.md_definition.specs.Meaning.{tree, with_frontmatter}
+use Rattle.md_seam.specs.Events.Nested.{Nested}
+use Rattle.md_seam.specs.Events.Pieces.{pieces_stand}
+use Rattle.md_seam.specs.Events.Places.{are_placed}
+use Rattle.md_seam.specs.Events.Spelled.{spelled}
+use Rattle.md_seam.specs.Substituted.{Readings, Substituted}
+use Rattle.md_definition.specs.Texts.{split_lines}
+use Rattle.md_seam.specs.Events.Tiles.{EachRead, Tiles, parts, plain_lists, plain_read}
+use Rattle.md_outline.specs.HeadingDepths.{are_shallow}
+use Rattle.md_outline.specs.Outlined.{IsOutlined}
+use Rattle.md_seam.proofs.OnLemmas.{tree-on}
+use Rattle.markdown_blocks.specs.BlockList.{block_list}
+use Rattle.markdown_blocks.specs.Front.{body_point, front_events}
+use Rattle.markdown_blocks.specs.FlowReads.{FlowReads, text_cells, text_rows}
+use Rattle.markdown_blocks.specs.Footnotes.{footnotes_listed}
+use Rattle.markdown_blocks.specs.Parsed.{IsWithoutMdx, IsSmall, reads_plain}
+use Rattle.markdown_blocks.specs.Registry.{resolved}
+use Rattle.markdown_blocks.specs.Rows.{Row, groups, groups_events}
+use Rattle.markdown_blocks.specs.Unread.{listed_groups, unread_groups}
+use Rattle.markdown_blocks.proofs.BetweenRows.{rows-between}
+use Rattle.markdown_blocks.proofs.EndingRows.{blocks-endings, events-endings}
+use Rattle.markdown_blocks.proofs.GrammarRows.{blocks-grammar, events-grammar}
+use Rattle.markdown_blocks.proofs.HeldRows.{blocks-held, events-held}
+use Rattle.markdown_blocks.proofs.StandRows.{events-stand, rows-stand}
+use Rattle.markdown_blocks.proofs.ContentFacts.{content-alone}
+use Rattle.markdown_blocks.proofs.ContentCut.{content-reads}
+use Rattle.markdown_blocks.proofs.GroupLemmas.{content-read}
+use Rattle.markdown_blocks.proofs.GroupsAre.{groups-are}
+use Rattle.markdown_blocks.proofs.GroupsBecome.{text-read}
+use Rattle.markdown_blocks.proofs.HeadJoined.{heads-joined}
+use Rattle.markdown_blocks.proofs.Labels.Rows.{rows-labels}
+use Rattle.markdown_blocks.proofs.Labels.Footnotes.{stand-labels}
+use Rattle.markdown_blocks.proofs.Labels.Kept.{listed-labels, read-labels}
+use Rattle.markdown_blocks.proofs.Labels.Off.{off-in}
+use Rattle.markdown_blocks.proofs.Labels.Trees.{defined_in, grouped-defined, grouped-noted, noted_in}
+use Rattle.markdown_blocks.proofs.PartedRows.{rows-parted}
+use Rattle.markdown_blocks.proofs.SpannedGroups.{lines-joined}
+use Rattle.markdown_blocks.proofs.SpelledRows.{rows-outer}
+use Rattle.markdown_blocks.proofs.JoinedLemmas.{EachNoContent, rows_at-no_content}
+use Rattle.markdown_blocks.proofs.ListedOutlined.{listed-outlined}
+use Rattle.markdown_blocks.proofs.Begun.{begun, front-nested, front-spelled, front-unlisted, fronts-defined}
+use Rattle.markdown_blocks.proofs.Begun.{fronts-grouped, fronts-noted, fronts-shallow}
+use Rattle.markdown_blocks.proofs.FillFacts.{fill-same}
+use Rattle.markdown_blocks.proofs.PartsStand.{stands-outside}
+use Rattle.markdown_blocks.proofs.Frontmatter.Whole.{FrontPart}
+use Rattle.markdown_blocks.proofs.NestedRows.{Nests, rows-nest}
+use Rattle.markdown_blocks.proofs.PieceRows.{blocks-pieces, events-pieces}
+use Rattle.markdown_blocks.proofs.PlainEvents.{groups-unlisted}
+use Rattle.markdown_blocks.proofs.RowFacts.{AreRows}
+use Rattle.markdown_blocks.proofs.RowLemmas.{fresh-rows}
+use Rattle.markdown_blocks.proofs.TabledGroups.{tables-set}
+use Rattle.markdown_blocks.proofs.TileCovers.{blocks-cover}
+use Rattle.markdown_blocks.proofs.TileParts.{blocks-chunks, blocks-nested, blocks-stand}
+use Rattle.markdown_blocks.proofs.TileReads.{end-read, end-unread, groups-empty, text-filled}
+use Rattle.markdown_blocks.proofs.ListedFront.{listed-front}
+use Rattle.markdown_blocks.proofs.ListedOutlined.{listed-outlined}
+use Rattle.markdown_blocks.proofs.ListedRead.{listed-read}
+use Rattle.markdown_blocks.proofs.TreeRows.{body-rows, body-shallow, body_of, tree-body}
+use Rattle.markdown_blocks.proofs.LeafFacts.{ReadsString, ReadsText}
+
+-- the lines of a text, behind its front
+abbrev pub lines_of : ParseOptions → List ℕ → List (List ℕ)
+lines_of options bytes = split_lines (drop (body_point options bytes).index bytes)
+
+abbrev pub rows_of : ParseOptions → List ℕ → List Row
+rows_of options bytes = text_rows options bytes (body_point options bytes)
+
+pub text-quiet : (options : ParseOptions) (bytes : List ℕ) (p : Point) → EachNoContent (text_rows options bytes p)
+text-quiet options bytes p =
+    rows_at-no_content options (suc (length (text_cells bytes options p))) [] held_leaf.None
+    (text_cells bytes options p) p
+
+pub text-are : (options : ParseOptions) (bytes : List ℕ) → IsWithoutMdx options → length bytes < 2 ^ 61 →
+    AreRows options bytes [] held_leaf.None (body_point options bytes) (lines_of options bytes) (rows_of options bytes)
+text-are options bytes built small =
+    let begins = begun options bytes in
+    fresh-rows options bytes (body_point options bytes) built small begins.index begins.vs begins.column
+
+pub part-of : (options : ParseOptions) (bytes : List ℕ) →
+    FrontPart bytes first_point (body_point options bytes) (front_events options bytes)
+part-of options bytes = (begun options bytes).fronted.part
+
+-- The events of a text, once flow and content were read, and heads of tables in front of content.
+content-are : (options : ParseOptions) (bytes : List ℕ) → IsWithoutMdx options → length bytes < 2 ^ 61 →
+    (found : Found) (new : World) → (flow : FlowReads bytes options (body_point options bytes) found new) →
+    flow.content ≡ unread_groups options bytes (groups (rows_of options bytes))
+content-are options bytes built small found new flow =
+    content-read options bytes [] held_leaf.None (body_point options bytes) (lines_of options bytes)
+    (rows_of options bytes)
+    (refl, refl) (text-are options bytes built small) (text-quiet options bytes (body_point options bytes))
+    wants_content (content_readings bytes options) refl content-alone
+    (content-reads options bytes) flow.content
+    (subst (λ (l : List Event). Substituted wants_content (content_readings bytes options) [] 0 l flow.content)
+    (heads-joined options bytes [] held_leaf.None (body_point options bytes) (lines_of options bytes)
+    (rows_of options bytes)
+    (text-are options bytes built small) (text-quiet options bytes (body_point options bytes))) flow.content_read)
+
+-- Then the resolvers of leaves ran, setext headings were set, the lines of each leaf of several were joined, tables got
+-- their cells, and lists were put around items.
+resolved-are : (options : ParseOptions) (bytes : List ℕ) → IsWithoutMdx options → length bytes < 2 ^ 61 →
+    (found : Found) (new : World) → (flow : FlowReads bytes options (body_point options bytes) found new) →
+    new.events ≡ listed bytes (listed_groups options bytes (groups (rows_of options bytes)))
+resolved-are options bytes built small found new flow =
+    flow.events_are
+    ∙ ap (λ (l : List Event). listed bytes (tables_set options (lines_joined options (turned (resolved l)))))
+    (content-are options bytes built small found new flow)
+    ∙ ap (λ (l : List Event). listed bytes (tables_set options l))
+    (lines-joined options bytes [] held_leaf.None (body_point options bytes) (lines_of options bytes)
+    (rows_of options bytes)
+    (refl, refl) (text-are options bytes built small) (text-quiet options bytes (body_point options bytes)))
+    ∙ ap (listed bytes)
+    (tables-set options bytes [] held_leaf.None (body_point options bytes) (lines_of options bytes)
+    (rows_of options bytes)
+    (refl, refl) (text-are options bytes built small) (text-quiet options bytes (body_point options bytes)))
+
+-- The labels that content found are those of the tree.
+labels-are : (options : ParseOptions) (bytes : List ℕ) → IsWithoutMdx options → length bytes < 2 ^ 61 →
+    (found : Found) (new : World) → FlowReads bytes options (body_point options bytes) found new →
+    found.definitions ≡ (labels (tree options bytes)).definitions
+labels-are options bytes built small found new flow =
+    let p : Point = body_point options bytes in
+    let begins = begun options bytes in
+    let lines : List (List ℕ) = lines_of options bytes in
+    let rows : List Row = rows_of options bytes in
+    let part = part-of options bytes in
+    let are : AreRows options bytes [] held_leaf.None p lines rows = text-are options bytes built small in
+    flow.definitions
+    ∙ ap (labels_in bytes) (content-are options bytes built small found new flow)
+    ∙ rows-labels options bytes (groups rows)
+    (groups-are options bytes [] held_leaf.None p lines rows (refl, refl) are (text-quiet options bytes p))
+    (rows-outer options bytes p lines rows built are)
+    ∙ ap defined_in (body-rows options built bytes p rows are)
+    ∙ sym (grouped-defined (body_of options bytes p))
+    ∙ sym (fronts-defined begins.block (grouped (body_of options bytes p)) begins.kind)
+    ∙ ap defined_in (sym (tree-body options bytes p (front_events options bytes) begins))
+
+-- The labels of footnote definitions among the events are those of the tree too,
+footnotes-are : (options : ParseOptions) (bytes : List ℕ) → IsWithoutMdx options → length bytes < 2 ^ 61 →
+    (found : Found) (new : World) → FlowReads bytes options (body_point options bytes) found new →
+    footnote_labels_in bytes new.events ≡ (labels (tree options bytes)).footnotes
+footnotes-are options bytes built small found new flow =
+    let p : Point = body_point options bytes in
+    let begins = begun options bytes in
+    let lines : List (List ℕ) = lines_of options bytes in
+    let rows : List Row = rows_of options bytes in
+    let are : AreRows options bytes [] held_leaf.None p lines rows = text-are options bytes built small in
+    let blocks : List Event = listed_groups options bytes (groups rows) in
+    let body : List Event = groups_events options bytes (groups rows) in
+    let nests : Nests options bytes p (groups rows) = rows-nest options bytes p lines rows are in
+    ap (footnote_labels_in bytes) (resolved-are options bytes built small found new flow)
+    ∙ listed-labels bytes bytes blocks
+    ∙ sym
+    (read-labels bytes blocks
+    (blocks-chunks options bytes [] held_leaf.None p [] lines rows (stands-outside bytes [] tt tt) (refl, refl) are
+    (text-quiet options bytes p)))
+    ∙ ap (footnote_labels_in bytes)
+    (sym (text-filled options bytes p [] lines (fill-same bytes [] tt tt) are).read)
+    ∙ stand-labels bytes body (rows-stand options bytes p lines rows are) nests.balanced.matches
+    (rows-parted options bytes p lines rows are) (rows-outer options bytes p lines rows built are)
+    ∙ ap noted_in (body-rows options built bytes p rows are)
+    ∙ sym (grouped-noted (body_of options bytes p))
+    ∙ sym (fronts-noted begins.block (grouped (body_of options bytes p)) begins.kind)
+    ∙ ap noted_in (sym (tree-body options bytes p (front_events options bytes) begins))
+
+-- and where footnote definitions are off there are none
+listed-are : (options : ParseOptions) (bytes : List ℕ) → IsWithoutMdx options → length bytes < 2 ^ 61 →
+    (found : Found) (new : World) → FlowReads bytes options (body_point options bytes) found new →
+    footnotes_listed options bytes new.events ≡ (labels (tree options bytes)).footnotes
+listed-are options bytes built small found new flow = go options.constructs.gfm_footnote_definition refl
+  where
+    go : (x : Bool) → options.constructs.gfm_footnote_definition ≡ x →
+        cond x (footnote_labels_in bytes new.events) [] ≡ (labels (tree options bytes)).footnotes
+    go true e = footnotes-are options bytes built small found new flow
+    go false e = sym (off-in options (tree options bytes) e (tree-on options bytes))
+
+-- What stands in a text before lists are put around its items: its blocks, and what the plain layer reads of them.
+abbrev pub blocks_of : ParseOptions → List ℕ → List Event
+blocks_of options bytes = front_events options bytes ++ listed_groups options bytes (groups (rows_of options bytes))
+
+abbrev pub read_of : ParseOptions → List ℕ → List Event
+read_of options bytes = front_events options bytes ++ groups_events options bytes (groups (rows_of options bytes))
+
+-- the lists may be put around items before texts are read or behind
+read-listed : (options : ParseOptions) (bytes : List ℕ) → IsWithoutMdx options → length bytes < 2 ^ 61 →
+    listed bytes (read_of options bytes) ≡ plain_read bytes (listed bytes (blocks_of options bytes))
+read-listed options bytes built small =
+    let p : Point = body_point options bytes in
+    let lines : List (List ℕ) = lines_of options bytes in
+    let rows : List Row = rows_of options bytes in
+    let part = part-of options bytes in
+    let are : AreRows options bytes [] held_leaf.None p lines rows = text-are options bytes built small in
+    ap (listed bytes) (text-filled options bytes p (front_events options bytes) lines part.filled are).read
+    ∙ sym
+    (listed-plain bytes bytes (blocks_of options bytes)
+    (blocks-chunks options bytes [] held_leaf.None p (front_events options bytes) lines rows part.parts (refl, refl) are
+    (text-quiet options bytes p)))
+
+-- The blocks of a text, in front of the resolver of lists.
+blocks-unlisted : (options : ParseOptions) (bytes : List ℕ) → IsWithoutMdx options → length bytes < 2 ^ 61 →
+    IsTrue (are_placed bytes (blocks_of options bytes)) → IsUnlisted bytes (blocks_of options bytes)
+blocks-unlisted options bytes built small placed =
+    let p : Point = body_point options bytes in
+    let lines : List (List ℕ) = lines_of options bytes in
+    let rows : List Row = rows_of options bytes in
+    let part = part-of options bytes in
+    let leaves = (begun options bytes).fronted.leaves in
+    let front : List Event = front_events options bytes in
+    let are : AreRows options bytes [] held_leaf.None p lines rows = text-are options bytes built small in
+    record {
+      nested = blocks-nested options bytes p front lines rows part.nested are;
+      items = blocks-held options bytes p front lines rows part are;
+      placed = placed;
+      lines =
+          blocks-stand options bytes [] held_leaf.None p front lines rows part.parts (refl, refl) are
+          (text-quiet options bytes p);
+      chunks =
+          blocks-chunks options bytes [] held_leaf.None p front lines rows part.parts (refl, refl) are
+          (text-quiet options bytes p);
+      grammar =
+          blocks-grammar options bytes p front lines rows leaves (end-unread options bytes p small) are
+          (text-quiet options bytes p);
+      pieces_are = blocks-pieces options bytes p front lines rows part are;
+      endings =
+          blocks-endings options bytes p front lines rows leaves (end-unread options bytes p small) are
+          (text-quiet options bytes p);
+    }
+
+-- The block list has the lists around these items.
+block_list-is : (options : ParseOptions) (bytes : List ℕ) →
+    listed bytes (blocks_of options bytes) ≡ block_list options bytes
+unfolding block_list
+block_list-is options bytes = refl
+
+-- So what the plain layer reads of the block list has the lists around the items of what it reads of the lines.
+pub read-is : (options : ParseOptions) (bytes : List ℕ) → IsWithoutMdx options → length bytes < 2 ^ 61 →
+    listed bytes (read_of options bytes) ≡ plain_read bytes (block_list options bytes)
+read-is options bytes built small =
+    read-listed options bytes built small ∙ ap (plain_read bytes) (block_list-is options bytes)
+
+-- The front of a text stands in front of what flow gives, which is all of the block list.
+pub front-listed : (options : ParseOptions) (bytes : List ℕ) →
+    front_events options bytes ++ listed bytes (listed_groups options bytes (groups (rows_of options bytes))) ≡
+    block_list options bytes
+front-listed options bytes =
+    sym
+    (listed-front bytes (front_events options bytes) (listed_groups options bytes (groups (rows_of options bytes)))
+    (part-of options bytes).unlisted)
+    ∙ block_list-is options bytes
+
+pub blocks-read : (options : ParseOptions) (bytes : List ℕ) (start : Point) (found : Found) (new : World)
+    (mark items : List Event) → IsWithoutMdx options → length bytes < 2 ^ 61 → start ≡ body_point options bytes →
+    mark ≡ front_events options bytes → FlowReads bytes options start found new → items ≡ new.events →
+    mark ++ items ≡ block_list options bytes
+blocks-read options bytes start found new mark items built small starts marks flow are =
+    let from : FlowReads bytes options (body_point options bytes) found new = subst
+    (λ (p : Point). FlowReads bytes options p found new) starts flow in
+    ap (λ (l : List Event). mark ++ l) (are ∙ resolved-are options bytes built small found new from)
+    ∙ ap (λ (l : List Event). l ++ listed bytes (listed_groups options bytes (groups (rows_of options bytes)))) marks
+    ∙ front-listed options bytes
+
+-- What is known of the block list of a text, which has these places, and of what the plain layer reads of it.
+pub record HasBlocks (options : ParseOptions) (bytes : List ℕ) : Type 0 where
+  pub list : IsBlockList bytes (block_list options bytes)
+  pub covers : Covers first_point (pieces (block_list options bytes)) (end_point bytes)
+  pub spells : spelled (block_list options bytes) bytes ≡ tree options bytes
+  pub outlined : IsOutlined (plain_read bytes (block_list options bytes)) bytes
+  pub empty : bytes ≡ [] → block_list options bytes ≡ []
+
+pub has-blocks : (options : ParseOptions) (bytes : List ℕ) → IsWithoutMdx options → IsUtf8 bytes →
+    length bytes < 2 ^ 61 → are_placed bytes (block_list options bytes) ≡ true → HasBlocks options bytes
+has-blocks options bytes built utf8 small placed =
+    let p : Point = body_point options bytes in
+    let lines : List (List ℕ) = lines_of options bytes in
+    let rows : List Row = rows_of options bytes in
+    let body : List Event = groups_events options bytes (groups rows) in
+    let events : List Event = read_of options bytes in
+    let blocks : List Event = blocks_of options bytes in
+    let front : List Event = front_events options bytes in
+    let part = part-of options bytes in
+    let begins = begun options bytes in
+    let are : AreRows options bytes [] held_leaf.None p lines rows = text-are options bytes built small in
+    let nests : Nests options bytes p (groups rows) = rows-nest options bytes p lines rows are in
+    let nested : Nested events = front-nested p front body part.nested nests.balanced nests.forward in
+    let stand : ItemsStand bytes root events = events-stand options bytes p front lines rows part are in
+    let held : ItemsHeld [] events = events-held options bytes p front lines rows part are in
+    let shows : spelled body bytes ≡ body_of options bytes p = body-rows options built bytes p rows are in
+    let spells : spelled events bytes ≡ with_frontmatter begins.block (body_of options bytes p) =
+    front-spelled bytes begins.block p front body begins.fronted (rows-outer options bytes p lines rows built are)
+    ∙ ap (with_frontmatter begins.block) shows in
+    let same : listed bytes blocks ≡ block_list options bytes = block_list-is options bytes in
+    let list : IsBlockList bytes (block_list options bytes) = subst (IsBlockList bytes) same
+    (listed-blocks bytes blocks
+    (blocks-unlisted options bytes built small
+    (sym (listed-placed bytes bytes blocks) ∙ ap (are_placed bytes) same ∙ placed))) in
+    record {
+      list = list;
+      covers =
+          subst (λ (l : List Event). Covers first_point (pieces l) (end_point bytes)) same
+          (listed-covers bytes blocks (blocks-cover options bytes p front lines rows part.tiled are));
+      spells =
+          sym
+          (spelled-filled bytes (block_list options bytes)
+          (together (plain_lists bytes (parts (block_list options bytes)))) list.chunks
+          (plain-inline bytes (parts (block_list options bytes))))
+          ∙ ap (λ (l : List Event). spelled l bytes) (sym (read-is options bytes built small))
+          ∙ listed-spelled bytes events stand ∙ ap grouped spells
+          ∙ fronts-grouped begins.block (body_of options bytes p) begins.kind
+          ∙ sym (tree-body options bytes p front begins);
+      outlined =
+          subst (λ (l : List Event). IsOutlined l bytes) (read-is options bytes built small)
+          (listed-outlined bytes events
+          (front-unlisted bytes p front body part
+          (groups-unlisted options bytes p lines rows are utf8
+          (rows-between options bytes p lines rows begins.between are)))
+          stand nested held
+          (ap are_shallow spells
+          ∙ fronts-shallow begins.block (body_of options bytes p) begins.kind (body-shallow options bytes p built)));
+      empty = λ none. sym same ∙ ap (listed bytes) (blocks-empty options bytes none);
+    }
+
+-- The labels of a text, in the words of the calls that `parse_with` makes.
+
+pub parsed-labels : (options : ParseOptions) (bytes : List ℕ) (start : Point) (found : Found) (new : World) →
+    IsWithoutMdx options → length bytes < 2 ^ 61 → start ≡ body_point options bytes →
+    FlowReads bytes options start found new → found.definitions ≡ (labels (tree options bytes)).definitions
+parsed-labels options bytes start found new built small starts flow =
+    labels-are options bytes built small found new
+    (subst (λ (p : Point). FlowReads bytes options p found new) starts flow)
+
+pub parsed-footnotes : (options : ParseOptions) (bytes : List ℕ) (start : Point) (found : Found) (new : World)
+    (items : List Event) → IsWithoutMdx options → length bytes < 2 ^ 61 → start ≡ body_point options bytes →
+    FlowReads bytes options start found new → items ≡ new.events →
+    footnotes_listed options bytes items ≡ (labels (tree options bytes)).footnotes
+parsed-footnotes options bytes start found new items built small starts flow are =
+    ap (footnotes_listed options bytes) are
+    ∙ listed-are options bytes built small found new
+    (subst (λ (p : Point). FlowReads bytes options p found new) starts flow)
