@@ -28,9 +28,10 @@ use Rattle.md_seam.specs.Events.Inline.{piece_of, pieces, pieces_from, together}
 use Rattle.md_seam.specs.Events.Tiles.{EachRead, IsBlockList, Tiles, end_point, filled, filled_from, first_list}
 use Rattle.md_seam.specs.Events.Tiles.{further_lists, parts}
 use Rattle.md_seam.proofs.CutLemmas.{cut-together}
+use Rattle.md_seam.proofs.HeldLemmas.{same-before}
 use Rattle.md_seam.proofs.InlineLemmas.{same-trans}
 use Rattle.md_seam.proofs.NestedLemmas.{at_or_before-refl, at_or_before-trans}
-use Rattle.md_seam.proofs.NestsLemmas.{EachFills, fills-read}
+use Rattle.md_seam.proofs.NestsLemmas.{EachFills, fills-read, no_lists}
 use Rattle.md_seam.proofs.PartWalks.{IsLinkedChunk, Walk, Ends, Stays, Begins, GoesOn, starts_exit, starts_linked}
 use Rattle.md_seam.proofs.PartWalks.{unlinked-unwanted, walk-blocks}
 use Rattle.md_seam.proofs.PartsLemmas.{EachPart, parts-are}
@@ -150,14 +151,8 @@ substituted-tiles bytes reads blocks events frame list covers substituted empty 
 
 -- Points.
 
-same-sym : (p q : Point) → same_place p q ≡ true → same_place q p ≡ true
-same-sym p q h = grind (arith, nat_tests)
-
-same-at : (p q r : Point) → same_place p q ≡ true → at_or_before p r ≡ true → at_or_before q r ≡ true
-same-at p q r h k = grind (arith, nat_tests)
-
-same-before : (p q : Point) → same_place p q ≡ true → at_or_before q p ≡ true
-same-before p q h = grind (arith, nat_tests)
+place-before : (p q : Point) → same_place p q ≡ true → at_or_before q p ≡ true
+place-before p q h = grind (arith, nat_tests)
 
 both-before : (p q : Point) → at_or_before p q ≡ true → at_or_before q p ≡ true → same_place p q ≡ true
 both-before p q h k = grind (arith, nat_tests)
@@ -188,7 +183,7 @@ covers-append p q r e (f ∷ es) more h k = go p e.kind f.kind h (λ o h. covers
 -- events that are covered to a point go on to it,
 covers-last : (p q : Point) (e : Event) (es : List Event) → at_or_before p e.point ≡ true → Forward e.point es →
     Covers p (pieces_from e es) q → at_or_before q (last_point e.point es) ≡ true
-covers-last p q e [] h forward covers = same-at p q e.point covers h
+covers-last p q e [] h forward covers = same-before p q e.point covers h
 covers-last p q e (f ∷ es) h forward covers =
     go e.kind f.kind covers (λ o before covers. covers-last o q f es before forward.1 covers)
   where
@@ -209,7 +204,7 @@ covers-first p q e (f ∷ es) apart forward covers =
   where
     go : (kind other : Kind) → Covers p (piece_of e f kind other ++ pieces_from f es) q →
         (Covers p (pieces_from f es) q → at_or_before f.point p ≡ true) → at_or_before e.point p ≡ true
-    go Enter Exit covers next = same-before p e.point covers.0
+    go Enter Exit covers next = place-before p e.point covers.0
     go Enter Enter covers next = at_or_before-trans e.point f.point p forward.0 (next covers)
     go Exit other covers next = at_or_before-trans e.point f.point p forward.0 (next covers)
 
@@ -360,10 +355,6 @@ piece-apart bytes piece h =
     not-true (same_place piece.first piece.after)
     (and_parts (not (same_place piece.first piece.after)) ((piece.first.vs == 0) || begins_in_tab piece.name) points.0).0
 
-no-lists : (G : List (List Event)) → Fills [] G → G ≡ []
-no-lists [] fills = refl
-no-lists (events ∷ G) fills = absurd fills
-
 -- Where a chunk stood, something does that covers it, and begins with an exit only where what stood before it is covered
 -- to the same place.
 cover-filled : (bytes : List ℕ) (left : List Chunk) (e f : Event) (es : List Event) (parts : List Part)
@@ -410,7 +401,7 @@ cover-filled bytes left e f es parts held l L G gs b c from to is covering fills
 
     ends : starts_exit es ≡ true → end.kind ≡ Exit
     ends h =
-        let none : G ≡ [] = no-lists G (subst (λ (list : List Chunk). Fills list G) (is.last h) fills.3) in
+        let none : G ≡ [] = no_lists G (subst (λ (list : List Chunk). Fills list G) (is.last h) fills.3) in
         sym (last_kind-event l L)
         ∙ subst (λ (G : List (List Event)). last_kind (last_kind l.kind L) (together G) ≡ Exit) none behind
 

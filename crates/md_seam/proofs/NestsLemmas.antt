@@ -83,7 +83,7 @@ Inside es =
     EachFills (parts es) gs → Matches (D ++ (part ∷ N)) es →
     Does (D ++ (X ++ (part ∷ N))) (filled_from false es (G ++ together gs)) (D ++ (part ∷ N)) es
 
-no_lists : (G : List (List Event)) → Fills [] G → G ≡ []
+pub no_lists : (G : List (List Event)) → Fills [] G → G ≡ []
 no_lists [] h = refl
 no_lists (events ∷ G) h = absurd h
 
