@@ -70,7 +70,7 @@ next-holds bytes first rest index h = record {
 }
 
 -- a point at the place of another comes no later than what that one does
-same-before : (p q r : Point) → same_place p q ≡ true → at_or_before p r ≡ true → at_or_before q r ≡ true
+pub same-before : (p q r : Point) → same_place p q ≡ true → at_or_before p r ≡ true → at_or_before q r ≡ true
 same-before p q r h k = grind (arith, nat_tests)
 
 -- from a point at the byte or before, to one behind its first column

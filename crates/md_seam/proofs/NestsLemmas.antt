@@ -28,7 +28,7 @@ use Rattle.md_seam.proofs.PartsLemmas.{EachPart, parts-are}
 
 -- Chunks and parts, event by event.
 
-chunks-unlinked : (e : Event) (es : List Event) → is_linked e ≡ false → chunks (pieces (e ∷ es)) ≡ chunks (pieces es)
+pub chunks-unlinked : (e : Event) (es : List Event) → is_linked e ≡ false → chunks (pieces (e ∷ es)) ≡ chunks (pieces es)
 chunks-unlinked e [] h = refl
 chunks-unlinked e (f ∷ es) h = go e.kind f.kind
   where
@@ -58,7 +58,7 @@ part-none kind name es h = go kind (part_kind name) h
     go kind (Some k) h = cc
 
 -- The lists for the parts that are to come.
-abbrev EachFills : List Part → List (List (List Event)) → Type 0
+abbrev pub EachFills : List Part → List (List (List Event)) → Type 0
 EachFills [] [] = Unit {0}
 EachFills (part ∷ parts) (lists ∷ rest) = Fills part.chunks lists × Balanced (together lists) × EachFills parts rest
 EachFills [] (lists ∷ rest) = ⊥
@@ -83,7 +83,7 @@ Inside es =
     EachFills (parts es) gs → Matches (D ++ (part ∷ N)) es →
     Does (D ++ (X ++ (part ∷ N))) (filled_from false es (G ++ together gs)) (D ++ (part ∷ N)) es
 
-no_lists : (G : List (List Event)) → Fills [] G → G ≡ []
+pub no_lists : (G : List (List Event)) → Fills [] G → G ≡ []
 no_lists [] h = refl
 no_lists (events ∷ G) h = absurd h
 
@@ -353,7 +353,7 @@ does-all (e ∷ es) =
       all.1,
     )
 
-fills-read : (bytes : List ℕ) (reads : Part → List Event → Type 0) → KeepsFrame bytes reads →
+pub fills-read : (bytes : List ℕ) (reads : Part → List Event → Type 0) → KeepsFrame bytes reads →
     (parts : List Part) (lists : List (List (List Event))) → EachPart (IsPart bytes) parts →
     EachRead reads parts lists → EachFills parts lists
 fills-read bytes reads frame [] [] are each = tt

@@ -10,6 +10,7 @@ use Rattle.md_definition.specs.Label.{labels}
 use Rattle.md_definition.specs.Meaning.{tree}
 use Rattle.md_seam.specs.declared.inline.PartKind.{PartKind}
 use Rattle.md_seam.specs.declared.inline.PartKind.TheVariants as kind
+use Rattle.md_seam.specs.Substituted.{Readings}
 use Rattle.md_seam.specs.Events.Inline.{Covers, Part, pieces}
 use Rattle.md_seam.specs.Events.Places.{first_point}
 use Rattle.md_seam.specs.Events.Spelled.{spelled}
@@ -25,6 +26,10 @@ wants_text _ = false
 abbrev pub text_kind : Content → PartKind
 text_kind content.Text = kind.Text
 text_kind _ = kind.String
+
+-- what a layer may give for a part, by its content and its chunks
+abbrev pub text_readings : (Part → List Event → Type 0) → Readings
+text_readings reads = λ content chunks answer. reads (record { kind = text_kind content; chunks = chunks }) answer
 
 -- What is known of a document when its text parts are read.
 pub record Document : Type 0 where
