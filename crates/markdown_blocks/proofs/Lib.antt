@@ -75,7 +75,6 @@ pub mod EachEvent
 pub mod FlowSteps
 pub mod HeadsRead
 pub mod FlowReads
-pub mod ListedRead
 pub mod Begun
 pub mod ListedFront
 pub mod SubstitutedLemmas
@@ -86,7 +85,6 @@ pub mod TextGroups
 pub mod JoinedLemmas
 pub mod GroupLemmas
 pub mod GroupsSet
-pub mod GroupsBecome
 pub mod UnderNames
 pub mod TableStarts
 pub mod GroupsAre

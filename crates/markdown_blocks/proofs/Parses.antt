@@ -1,9 +1,10 @@
 -- What the plain layer reads of a text: only one list of events can be read so, and what is known of that besides.
 use Rattle.md_engine.specs.declared.tokenizer.held_leaf.HeldLeaf.TheVariants as held_leaf
-use Rattle.std.proofs.Common.{◌≡◌, ◌^◌, ◌<◌, ℕ, true, List, [], ◌++◌, length, refl, ap, sym, ◌∙◌, subst}
+use Rattle.std.proofs.Common.{◌≡◌, ◌^◌, ◌<◌, ℕ, true, List, [], ◌++◌, length, refl, ap, sym, ◌∙◌, subst, arith}
 use Rattle.md_engine.specs.declared.configuration.ParseOptions.{ParseOptions}
 use Rattle.md_engine.specs.declared.event.Event.{Event}
 use Rattle.md_engine.specs.declared.event.Point.{Point}
+use Rattle.md_engine.specs.declared.parse_state.ParseState.{ParseState}
 use Rattle.md_containers.specs.ItemsHeld.{ItemsHeld}
 use Rattle.md_containers.specs.Listed.{listed}
 use Rattle.md_containers.proofs.ListedGrammar.{listed-grammar}
@@ -13,66 +14,26 @@ use Rattle.md_seam.specs.Events.Grammar.{keeps_grammar, plain_text}
 use Rattle.md_seam.specs.Events.Inline.{Piece, pieces}
 use Rattle.md_seam.specs.Events.Nested.{Nested}
 use Rattle.md_seam.specs.Events.Pieces.{pieces_stand}
-use Rattle.md_seam.specs.Events.Tiles.{plain_read}
-use Rattle.md_seam.specs.Substituted.{Readings, Substituted}
+use Rattle.md_seam.specs.Events.Tiles.{IsBlockList, plain_read}
+use Rattle.md_seam.specs.Substituted.{Substituted}
 use Rattle.md_seam.specs.TextPart.{text_readings, wants_text}
-use Rattle.markdown_blocks.specs.BlockList.{block_list, listed_groups}
+use Rattle.md_seam.proofs.PlainTiles.{plain-only}
+use Rattle.markdown_blocks.specs.BlockList.{block_list}
 use Rattle.markdown_blocks.specs.Front.{body_point, front_events}
-use Rattle.markdown_blocks.specs.Parsed.{IsWithoutMdx, reads_plain}
+use Rattle.markdown_blocks.specs.Parsed.{IsParsed, IsRead, IsSmall, IsWithoutMdx, reads_plain}
 use Rattle.markdown_blocks.specs.Rows.{Row, groups, groups_events}
 use Rattle.markdown_blocks.proofs.Begun.{begun, front-nested}
 use Rattle.markdown_blocks.proofs.EndingRows.{events-endings}
-use Rattle.markdown_blocks.proofs.FrontUnlinked.{front-unlinked}
 use Rattle.markdown_blocks.proofs.GrammarRows.{events-grammar}
-use Rattle.markdown_blocks.proofs.GroupsBecome.{text-read}
 use Rattle.markdown_blocks.proofs.HeldRows.{events-held}
-use Rattle.markdown_blocks.proofs.ListedFront.{listed-front}
-use Rattle.markdown_blocks.proofs.ListedRead.{listed-read}
 use Rattle.markdown_blocks.proofs.NestedRows.{Nests, rows-nest}
 use Rattle.markdown_blocks.proofs.PieceRows.{events-pieces}
 use Rattle.markdown_blocks.proofs.RowFacts.{AreRows}
-use Rattle.markdown_blocks.proofs.SubstitutedLemmas.{no_links-unwanted, passes}
-use Rattle.markdown_blocks.proofs.TextBlocks.{front-listed, lines_of, part-of, read-is, read_of, rows_of, text-are}
+use Rattle.markdown_blocks.proofs.TextBlocks.{lines_of, part-of, read-is, read_of, rows_of, text-are}
 use Rattle.markdown_blocks.proofs.TextBlocks.{text-quiet}
-use Rattle.markdown_blocks.proofs.TileParts.{blocks-chunks}
-use Rattle.markdown_blocks.proofs.TileReads.{end-read, text-filled}
+use Rattle.markdown_blocks.proofs.TileReads.{end-read}
 
--- Whoever reads the text parts of a block list as the plain layer does reads what that does.
-pub plain-reads : (options : ParseOptions) (bytes : List ℕ) → IsWithoutMdx options → length bytes < 2 ^ 61 →
-    (events : List Event) →
-    Substituted wants_text (text_readings (reads_plain bytes)) [] 0 (block_list options bytes) events →
-    events ≡ plain_read bytes (block_list options bytes)
-plain-reads options bytes built small events substituted =
-    let reads : Readings = text_readings (reads_plain bytes) in
-    let p : Point = body_point options bytes in
-    let front : List Event = front_events options bytes in
-    let lines : List (List ℕ) = lines_of options bytes in
-    let rows : List Row = rows_of options bytes in
-    let blocks : List Event = listed_groups options bytes (groups rows) in
-    let body : List Event = groups_events options bytes (groups rows) in
-    let part = part-of options bytes in
-    let are : AreRows options bytes [] held_leaf.None p lines rows = text-are options bytes built small in
-    let behind : (rest : List Event) × (is : events ≡ front ++ rest) ×
-    Substituted wants_text reads [] 0 (listed bytes blocks) rest =
-    passes wants_text reads [] 0 front (listed bytes blocks) events
-    (no_links-unwanted wants_text front (front-unlinked options bytes))
-    (subst (λ (l : List Event). Substituted wants_text reads [] 0 l events) (sym (front-listed options bytes))
-    substituted) in
-    let read : behind.0 ≡ listed bytes body =
-    listed-read wants_text reads bytes front blocks body behind.0
-    (blocks-chunks options bytes [] held_leaf.None p front lines rows part.parts (refl, refl) are
-    (text-quiet options bytes p))
-    (text-filled options bytes p front lines part.filled are).read
-    (λ read s.
-    text-read options bytes [] held_leaf.None p lines rows (refl, refl) are (text-quiet options bytes p) wants_text
-    reads refl refl (λ chunks answer is end lines whole. is) (λ chunks answer is end lines whole. is) read s)
-    behind.2 in
-    behind.1
-    ∙ ap (λ (l : List Event). front ++ l) read
-    ∙ sym (listed-front bytes front body part.unlisted)
-    ∙ read-is options bytes built small
-
--- What is known of that.
+-- What is known of the list of events that the plain layer reads.
 pub record ReadsPlain (options : ParseOptions) (bytes : List ℕ) : Type 0 where
   pub grammar : keeps_grammar plain_text (plain_read bytes (block_list options bytes)) ≡ true
   pub pieces_are : pieces_stand bytes (pieces (plain_read bytes (block_list options bytes))) ≡ true
@@ -109,4 +70,28 @@ reads-plain options bytes built small =
           (listed-endings bytes events
           ∙ events-endings options bytes p front lines rows begins.fronted.leaves (end-read options bytes p small) are
           (text-quiet options bytes p));
+    }
+
+-- So this is known of a text that was read with that layer.
+pub plain-parsed : (text : List ℕ) (options : ParseOptions) (events : List Event) (state : ParseState) →
+    IsWithoutMdx options → IsSmall text →
+    IsRead (λ document part answer. reads_plain document.bytes part answer) text options events state →
+    IsParsed text options events state
+plain-parsed text options events state built most read =
+    let small : length text < 2 ^ 61 = omega (arith, most) in
+    let list : IsBlockList text (block_list options text) =
+    subst (IsBlockList text) read.blocks_are read.tiles.block_list in
+    let same : events ≡ plain_read text (block_list options text) =
+    plain-only text (block_list options text) events list
+    (subst
+    (λ (l : List ℕ).
+    Substituted wants_text (text_readings (reads_plain l)) [] 0 (block_list options text) events)
+    read.bytes read.events_are) in
+    let plain : ReadsPlain options text = reads-plain options text built small in
+    record {
+      read = read;
+      events_are = same;
+      grammar = subst (λ (l : List Event). keeps_grammar plain_text l ≡ true) (sym same) plain.grammar;
+      pieces_are = subst (λ (l : List Event). pieces_stand text (pieces l) ≡ true) (sym same) plain.pieces_are;
+      endings = subst (λ (l : List Event). endings_stand l ≡ true) (sym same) plain.endings;
     }

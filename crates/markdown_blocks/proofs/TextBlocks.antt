@@ -61,7 +61,6 @@ use Rattle.markdown_blocks.proofs.ContentFacts.{content-alone}
 use Rattle.markdown_blocks.proofs.ContentCut.{content-reads}
 use Rattle.markdown_blocks.proofs.GroupLemmas.{content-read}
 use Rattle.markdown_blocks.proofs.GroupsAre.{groups-are}
-use Rattle.markdown_blocks.proofs.GroupsBecome.{text-read}
 use Rattle.markdown_blocks.proofs.HeadJoined.{heads-joined}
 use Rattle.markdown_blocks.proofs.Labels.Rows.{rows-labels}
 use Rattle.markdown_blocks.proofs.Labels.Footnotes.{stand-labels}
@@ -89,9 +88,7 @@ use Rattle.markdown_blocks.proofs.TileParts.{blocks-chunks, blocks-nested, block
 use Rattle.markdown_blocks.proofs.TileReads.{end-read, end-unread, groups-empty, text-filled}
 use Rattle.markdown_blocks.proofs.ListedFront.{listed-front}
 use Rattle.markdown_blocks.proofs.ListedOutlined.{listed-outlined}
-use Rattle.markdown_blocks.proofs.ListedRead.{listed-read}
 use Rattle.markdown_blocks.proofs.TreeRows.{body-rows, body-shallow, body_of, tree-body}
-use Rattle.markdown_blocks.proofs.LeafFacts.{ReadsString, ReadsText}
 
 -- the lines of a text, behind its front
 abbrev pub lines_of : ParseOptions → List ℕ → List (List ℕ)

@@ -39,14 +39,14 @@ use Rattle.md_seam.proofs.SubstitutedLemmas.{SubstitutedBy}
 
 -- What stands in the places of chunks.
 
-filled-unlinked : (e : Event) (es : List Event) (lists : List (List Event)) → is_linked e ≡ false →
+pub filled-unlinked : (e : Event) (es : List Event) (lists : List (List Event)) → is_linked e ≡ false →
     e ∷ filled_from false es lists ≡ filled_from false (e ∷ es) lists
 filled-unlinked e es lists unlinked =
     ap
     (λ (x : Bool). cond x (first_list lists ++ filled_from true es (further_lists lists)) (e ∷ filled_from false es lists))
     (sym unlinked)
 
-filled-linked : (e f : Event) (es : List Event) (lists : List (List Event)) → is_linked e ≡ true →
+pub filled-linked : (e f : Event) (es : List Event) (lists : List (List Event)) → is_linked e ≡ true →
     first_list lists ++ filled_from false es (further_lists lists) ≡ filled_from false (e ∷ f ∷ es) lists
 filled-linked e f es lists linked =
     ap
@@ -55,7 +55,7 @@ filled-linked e f es lists linked =
     (sym linked)
 
 -- An event that is last stays, and so does one that begins no chunk.
-left-alone : (reads : Part → List Event → Type 0) (now : List Event) (chunks : ℕ) (e : Event) (es out : List Event) →
+pub left-alone : (reads : Part → List Event → Type 0) (now : List Event) (chunks : ℕ) (e : Event) (es out : List Event) →
     wanted wants_text e ≡ None → Substituted wants_text (text_readings reads) now chunks (e ∷ es) out →
     (rest : List Event) × (is : out ≡ e ∷ rest) × Substituted wants_text (text_readings reads) now chunks es rest
 left-alone reads now chunks e [] out none s = ([], s, refl)

@@ -1,0 +1,44 @@
+use Rattle.std.proofs.Common.{◌≡◌, ◌^◌, ◌<◌, ℕ, true, List, [], ◌∷◌, length, subst, sym}
+use Rattle.std.specs.List.{list_all}
+use Rattle.std.proofs.lemmas.Bool.{and_parts}
+use Rattle.std.proofs.lemmas.List.Elements.{All-cons, All-nil}
+use Rattle.std.proofs.lemmas.Result.{IfOk-weaker}
+use Rattle.md_engine.specs.declared.event.Event.{Event}
+use Rattle.md_engine.specs.Place.{IsPlaced}
+use Rattle.md_seam.specs.declared.inline.PartKind.{PartKind}
+use Rattle.md_seam.specs.Events.Inline.{Part}
+use Rattle.md_seam.specs.Events.Places.{are_placed, is_placed}
+use Rattle.md_seam.specs.Parts.{ArePlaced}
+use Rattle.md_seam.specs.TextPart.{Document, IsTextPart, document_of, text_kind}
+use Rattle.md_seam.proofs.TextParts.{text-part}
+use Rattle.md_seam.proofs.WalkedLemmas.{placed-point}
+use Rattle.markdown_blocks.proofs.parser.TextReaderReader.read.Goals as goal
+
+-- events at points of the text are placed in it
+placed-events : (bytes : List ℕ) → length bytes < 2 ^ 61 → (events : List Event) → are_placed bytes events ≡ true →
+    ArePlaced bytes events
+placed-events bytes sized [] placed = All-nil (λ (e : Event). IsPlaced bytes e.point)
+placed-events bytes sized (e ∷ events) placed =
+    let both : (is_placed bytes e.point ≡ true) × (are_placed bytes events ≡ true) =
+    and_parts (is_placed bytes e.point) (are_placed bytes events) placed in
+    All-cons (λ (e : Event). IsPlaced bytes e.point) e events (placed-point bytes sized e.point both.0)
+    (placed-events bytes sized events both.1)
+
+pub read-requires : goal.read-requires
+read-requires g c =
+    let document : Document = document_of c.args.self.now.state.now in
+    subst (λ (k : PartKind). IsTextPart document (record { kind = k; chunks = c.args.chunks.now }))
+    (sym c.kind_of.ensures) c.requires.asked
+
+pub returns-clause-placed : goal.returns-clause-placed
+returns-clause-placed g c =
+    let document : Document = document_of c.args.self.now.state.now in
+    let part : Part = record { kind = c.kind_of.result; chunks = c.args.chunks.now } in
+    let is : IsTextPart document part =
+    subst (λ (k : PartKind). IsTextPart document (record { kind = k; chunks = c.args.chunks.now }))
+    (sym c.kind_of.ensures) c.requires.asked in
+    IfOk-weaker c.read.result _ (λ events. ArePlaced document.bytes events.items)
+    (λ events reads.
+    placed-events document.bytes is.are.sized events.items
+    (g.met.I.Inline.keeps_frame c.args.self.now.inline.now document part events.items (text-part document part is) reads).placed)
+    c.read.ensures
