@@ -1,7 +1,7 @@
 -- What is known of a text that was read with an inline layer, whatever that finds: where it keeps the promise of all
 -- layers, the blocks and the tree are those of the text before its text parts were read.
-use Rattle.std.proofs.Common.{◌≡◌, ◌<◌, ◌^◌, ℕ, true, List, [], ◌++◌, length, map, ap, sym, ◌∙◌, subst}
-use Rattle.std.specs.Prelude.{IsTrue, ◌≤◌}
+use Rattle.std.proofs.Common.{◌≡◌, ◌<◌, ◌^◌, ℕ, true, List, [], ◌++◌, length, map, refl, ap, sym, ◌∙◌, subst}
+use Rattle.std.specs.List.{list_all}
 use Rattle.std.specs.Str.{IsUtf8}
 use Rattle.std.specs.String.{string_bytes}
 use Rattle.std.proofs.lemmas.List.Elements.{All-append}
@@ -19,11 +19,10 @@ use Rattle.md_outline.proofs.LayerOutlined.{outlined-layer}
 use Rattle.md_outline.specs.Outlined.{IsOutlined}
 use Rattle.md_seam.specs.Events.Inline.{KeepsFrame, Part}
 use Rattle.md_seam.specs.Events.On.{are_on}
-use Rattle.md_seam.specs.Events.Places.{are_placed}
 use Rattle.md_seam.specs.Events.Spelled.{spelled}
-use Rattle.md_seam.specs.Events.Tiles.{IsBlockList, Tiles, plain_read}
+use Rattle.md_seam.specs.Events.Tiles.{Tiles, plain_read}
 use Rattle.md_seam.specs.Parts.{ArePlaced}
-use Rattle.md_seam.specs.Substituted.{EachAsked, Substituted}
+use Rattle.md_seam.specs.Substituted.{EachAsked, Substituted, stays}
 use Rattle.md_seam.specs.TextPart.{AreBlocks, Document, IsTextPart, document_of, text_kind, text_readings, wants_text}
 use Rattle.md_seam.specs.declared.inline.Chunk.{Chunk}
 use Rattle.md_seam.proofs.AskedBlocks.{asked-behind, asked-blocks, substituted-behind}

@@ -1,13 +1,11 @@
 -- What stands in a text before its text parts are read, where the constructs of MDX are off: its block list, which tiles
 -- it and spells its tree, and its labels. No inline layer changes that.
 use Rattle.md_engine.specs.declared.tokenizer.held_leaf.HeldLeaf.TheVariants as held_leaf
-use Rattle.std.proofs.Common.{◌≡◌, ◌^◌, ◌<◌, arith, ℕ, Bool, true, suc, List, [], ◌++◌, length, drop, refl, ap}
+use Rattle.std.proofs.Common.{◌≡◌, ◌^◌, ◌<◌, ℕ, Bool, true, suc, List, [], ◌++◌, length, drop, refl, ap}
 use Rattle.std.proofs.Common.{sym, ◌∙◌, subst, cond, false}
 use Rattle.std.specs.Prelude.{IsTrue}
 use Rattle.std.specs.Str.{IsUtf8}
 use Rattle.md_engine.specs.declared.configuration.ParseOptions.{ParseOptions}
-use Rattle.md_engine.specs.declared.event.Content.{Content}
-use Rattle.md_engine.specs.declared.event.Content.TheVariants as content
 use Rattle.md_engine.specs.declared.event.Event.{Event}
 use Rattle.md_engine.specs.declared.event.Point.{Point}
 use Rattle.md_engine.specs.Found.{Found}
@@ -18,11 +16,8 @@ use Rattle.md_containers.specs.ItemsStand.{ItemsStand, root}
 use Rattle.md_containers.specs.Listed.{listed}
 use Rattle.markdown_blocks.specs.FlowReads.{lines_joined, tables_set}
 use Rattle.md_containers.proofs.ListedBlocks.{IsUnlisted, listed-blocks, listed-covers}
-use Rattle.md_containers.proofs.ListedFilled.{listed-plain}
-use Rattle.md_containers.proofs.ListedGrammar.{listed-grammar}
-use Rattle.md_containers.proofs.ListedKept.{listed-endings, listed-pieces, listed-placed}
-use Rattle.md_containers.proofs.ListedNests.{listed-nested}
-use Rattle.md_containers.proofs.ListedParts.{listed-parts}
+use Rattle.md_containers.proofs.ListedFilled.{listed-plain, plain-inline}
+use Rattle.md_containers.proofs.ListedKept.{listed-placed}
 use Rattle.md_containers.proofs.ListedReads.{listed-spelled}
 use Rattle.md_content.specs.ContentReads.{content_readings, wants_content}
 use Rattle.md_content.specs.FootnoteLabels.{footnote_labels_in}
@@ -30,31 +25,29 @@ use Rattle.md_content.specs.Labels.{labels_in}
 use Rattle.md_definition.specs.Grouped.{grouped}
 use Rattle.md_definition.specs.Label.{labels}
 use Rattle.md_leaves.specs.Turned.{turned}
-use Rattle.md_seam.specs.Events.Endings.{endings_stand}
-use Rattle.md_seam.specs.Events.Grammar.{keeps_grammar, plain_text}
-use Rattle.md_seam.specs.Events.Inline.{Part, Piece, pieces}
+use Rattle.md_seam.specs.Events.Inline.{Covers, pieces, together}
 use Rattle.md_definition.specs.Meaning.{tree, with_frontmatter}
 use Rattle.md_seam.specs.Events.Nested.{Nested}
-use Rattle.md_seam.specs.Events.Pieces.{pieces_stand}
 use Rattle.md_seam.specs.Events.Places.{are_placed}
 use Rattle.md_seam.specs.Events.Spelled.{spelled}
-use Rattle.md_seam.specs.Substituted.{Readings, Substituted}
+use Rattle.md_seam.specs.Substituted.{Substituted}
 use Rattle.md_definition.specs.Texts.{split_lines}
-use Rattle.md_seam.specs.Events.Tiles.{EachRead, Tiles, parts, plain_lists, plain_read}
+use Rattle.md_seam.specs.Events.Tiles.{IsBlockList, end_point, parts, plain_lists, plain_read}
 use Rattle.md_outline.specs.HeadingDepths.{are_shallow}
 use Rattle.md_outline.specs.Outlined.{IsOutlined}
+use Rattle.md_seam.proofs.FilledLemmas.{spelled-filled}
 use Rattle.md_seam.proofs.OnLemmas.{tree-on}
 use Rattle.markdown_blocks.specs.BlockList.{block_list}
 use Rattle.markdown_blocks.specs.Front.{body_point, front_events}
 use Rattle.markdown_blocks.specs.FlowReads.{FlowReads, text_cells, text_rows}
 use Rattle.markdown_blocks.specs.Footnotes.{footnotes_listed}
-use Rattle.markdown_blocks.specs.Parsed.{IsWithoutMdx, IsSmall, reads_plain}
+use Rattle.markdown_blocks.specs.Parsed.{IsWithoutMdx}
 use Rattle.markdown_blocks.specs.Registry.{resolved}
 use Rattle.markdown_blocks.specs.Rows.{Row, groups, groups_events}
 use Rattle.markdown_blocks.specs.Unread.{listed_groups, unread_groups}
 use Rattle.markdown_blocks.proofs.BetweenRows.{rows-between}
-use Rattle.markdown_blocks.proofs.EndingRows.{blocks-endings, events-endings}
-use Rattle.markdown_blocks.proofs.GrammarRows.{blocks-grammar, events-grammar}
+use Rattle.markdown_blocks.proofs.EndingRows.{blocks-endings}
+use Rattle.markdown_blocks.proofs.GrammarRows.{blocks-grammar}
 use Rattle.markdown_blocks.proofs.HeldRows.{blocks-held, events-held}
 use Rattle.markdown_blocks.proofs.StandRows.{events-stand, rows-stand}
 use Rattle.markdown_blocks.proofs.ContentFacts.{content-alone}
@@ -78,16 +71,15 @@ use Rattle.markdown_blocks.proofs.FillFacts.{fill-same}
 use Rattle.markdown_blocks.proofs.PartsStand.{stands-outside}
 use Rattle.markdown_blocks.proofs.Frontmatter.Whole.{FrontPart}
 use Rattle.markdown_blocks.proofs.NestedRows.{Nests, rows-nest}
-use Rattle.markdown_blocks.proofs.PieceRows.{blocks-pieces, events-pieces}
+use Rattle.markdown_blocks.proofs.PieceRows.{blocks-pieces}
 use Rattle.markdown_blocks.proofs.PlainEvents.{groups-unlisted}
 use Rattle.markdown_blocks.proofs.RowFacts.{AreRows}
 use Rattle.markdown_blocks.proofs.RowLemmas.{fresh-rows}
 use Rattle.markdown_blocks.proofs.TabledGroups.{tables-set}
 use Rattle.markdown_blocks.proofs.TileCovers.{blocks-cover}
 use Rattle.markdown_blocks.proofs.TileParts.{blocks-chunks, blocks-nested, blocks-stand}
-use Rattle.markdown_blocks.proofs.TileReads.{end-read, end-unread, groups-empty, text-filled}
+use Rattle.markdown_blocks.proofs.TileReads.{blocks-empty, end-unread, text-filled}
 use Rattle.markdown_blocks.proofs.ListedFront.{listed-front}
-use Rattle.markdown_blocks.proofs.ListedOutlined.{listed-outlined}
 use Rattle.markdown_blocks.proofs.TreeRows.{body-rows, body-shallow, body_of, tree-body}
 
 -- the lines of a text, behind its front
