@@ -1,8 +1,8 @@
 -- Whoever reads the text parts of a block list as the plain layer does reads one list of events.
-use Rattle.std.proofs.Common.{◌≡◌, ℕ, suc, List, [], ◌∷◌, ◌++◌, length, take, drop, refl, ap, sym, ◌∙◌, subst}
+use Rattle.std.proofs.Common.{◌≡◌, ℕ, false, suc, List, [], ◌∷◌, ◌++◌, length, take, drop, ap, ◌∙◌, subst}
 use Rattle.md_engine.specs.declared.event.Event.{Event}
 use Rattle.md_seam.specs.declared.inline.Chunk.{Chunk}
-use Rattle.md_seam.specs.Events.Inline.{IsPart, Part, cut_at, plain_chunks, plain_events, together}
+use Rattle.md_seam.specs.Events.Inline.{IsPart, Part, cut_at, plain_events, together}
 use Rattle.md_seam.specs.Events.Places.{first_point}
 use Rattle.md_seam.specs.Events.Tiles.{IsBlockList, filled_from, parts, plain_lists, plain_read}
 use Rattle.md_seam.specs.Substituted.{Readings, Substituted, chunk_of, share}
