@@ -17,6 +17,7 @@ ghost use Rattle.markdown_blocks.specs.Registry.{stays_alone};
 use crate::construct::document::DocumentTable;
 use crate::construct::flow::FlowTable;
 use crate::construct::registry;
+use crate::plain::Plain;
 use crate::resolve;
 use md_content::footnote_labels::footnote_labels;
 use md_engine::configuration::ParseOptions;
@@ -31,7 +32,6 @@ use md_engine::table::{flush, push};
 use md_engine::tokenizer::Tokenizer;
 use md_leaves::spans;
 use md_seam::inline::{Chunk, Inline, PartKind};
-use md_seam::plain::Plain;
 use md_seam::subtokenize::{Reader, subtokenize};
 use std::alloc::Global;
 
