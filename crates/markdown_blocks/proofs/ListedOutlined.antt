@@ -41,7 +41,7 @@ use Rattle.md_outline.specs.ListsBegin.{marks, stage_by}
 use Rattle.md_outline.specs.Outlined.{IsOutlined, IsUnlisted, TextSpan as Span, are_parted, has_shown_name, is_unparted}
 use Rattle.md_outline.specs.Outlined.{parts_by, span_by, tells_between}
 use Rattle.md_outline.specs.Roles.{is_shown, is_told}
-use Rattle.md_outline.proofs.OutlineLemmas.{names-shown}
+use Rattle.md_outline.proofs.OutlineLemmas.{all-between, names-shown}
 use Rattle.markdown_blocks.proofs.GroupedDepths.{grouped-shallow}
 
 -- What holds of all events.
@@ -486,7 +486,8 @@ listed-outlined bytes events is stands nested held depths = record {
       (names-shown events is.names);
   text = is.text;
   between =
-      listed-holds (λ (e : Event). is_between bytes e.point.index) bytes outside events (λ m e h. (h, h)) is.between;
+      all-between bytes (listed bytes events)
+      (listed-holds (λ (e : Event). is_between bytes e.point.index) bytes outside events (λ m e h. (h, h)) is.between);
   texts =
       listed-holds (tells_between bytes) bytes outside events
       (λ m e h. (list-untold bytes m e.point, list-untold bytes m e.point)) is.texts;

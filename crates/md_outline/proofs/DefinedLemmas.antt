@@ -40,7 +40,8 @@ use Rattle.md_outline.proofs.ClosedTrees.{HaveWords, depth_of, shown, shown-then
 use Rattle.md_outline.proofs.LinedLines.{end-taken}
 use Rattle.md_outline.proofs.OutlineAgrees.{Agrees, TextIs, text-lines}
 use Rattle.md_outline.proofs.RoleLemmas.{by-ending}
-use Rattle.md_outline.proofs.SiteTexts.{Keeps, NoText, TextFrom, begins-texts, from-here, text-ends}
+use Rattle.md_outline.proofs.SiteTexts.{Keeps, NoText, TextFrom, begins-texts, from-here, text-ending, text-ends}
+use Rattle.md_outline.proofs.SiteTexts.{text-line}
 use Rattle.md_outline.proofs.TextCuts.{first-piece, piece-entries}
 use Rattle.md_outline.proofs.TextPieces.{begins-behind}
 
@@ -357,23 +358,11 @@ part-on part p s r h = (
 )
 
 -- a line ending is a part of it
-text-line : (bytes : List ℕ) (end : ℕ) (lined : Option Lined) (span : Span) (s : OutlineState) →
-    line_ended bytes end lined (Some span) s ≡ s
-text-line bytes end None span s = refl
-text-line bytes end (Some lined) span s = refl
-
 pub first-line : (bytes : List ℕ) (part : Part) (q p : Point) (s : OutlineState) (r : Reading) →
     AtText part s r × TextFrom q s r →
     AtText part (line_ended bytes p.index s.lined s.text s) (at_ending bytes p r.text r)
     × TextFrom q (line_ended bytes p.index s.lined s.text s) (at_ending bytes p r.text r)
-first-line bytes part q p s r h =
-    let span : Span = record { from = byte_at q; is_parted = false } in
-    let same : line_ended bytes p.index s.lined s.text s ≡ s =
-    ap (λ (x : Option Span). line_ended bytes p.index s.lined x s) h.1.span
-    ∙ text-line bytes p.index s.lined span s in
-    let tree : at_ending bytes p r.text r ≡ r = ap (λ (x : Option Text). at_ending bytes p x r) h.1.text in
-    subst (λ (x : OutlineState). AtText part x (at_ending bytes p r.text r) × TextFrom q x (at_ending bytes p r.text r))
-    (sym same) (subst (λ (y : Reading). AtText part s y × TextFrom q s y) (sym tree) h)
+first-line bytes part q p s r h = text-ending (λ s r. AtText part s r × TextFrom q s r) bytes q p s r h.1 h
 
 line-stays : (bytes : List ℕ) (part : Part) (p : Point) (s : OutlineState) (r : Reading) (w : Word)
     (before : List Entry) (span : Option Span) (text : Option Text) → PartIs w before s.depth s.lines span text →

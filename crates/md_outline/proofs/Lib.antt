@@ -6,6 +6,7 @@ pub mod FirstLine
 pub mod FootnoteLemmas
 pub mod FrontPass
 pub mod HeadingLemmas
+pub mod LayerOutlined
 pub mod LinedLemmas
 pub mod LinedLines
 pub mod LinedSteps

@@ -36,7 +36,7 @@ use Rattle.md_outline.proofs.ListLemmas.{AgreesAt, agrees-stage, lines-closed}
 use Rattle.md_outline.proofs.OutlineAgrees.{Agrees, agrees-begun, agrees-ending, agrees-title, apart}
 use Rattle.md_outline.proofs.RoleLemmas.{IsFresh}
 use Rattle.md_outline.proofs.SiteTexts.{NoText, TextFrom, begins-texts, from-here, no-span, prefix-enter, prefix-exit}
-use Rattle.md_outline.proofs.SiteTexts.{text-ends}
+use Rattle.md_outline.proofs.SiteTexts.{text-ending, text-ends}
 use Rattle.md_outline.proofs.TabledLemmas as tabled
 use Rattle.md_outline.proofs.TitledLemmas as titled
 use Rattle.md_outline.proofs.TitledLemmas.{gap-line, heading-begins, heading-ends, title-begins, title-ends, title-line}
@@ -226,6 +226,9 @@ agrees-in bytes (AtMeta k) Enter (Tells AsMeta) p s r parts may is = (
   (p, from-here p s r),
 )
 agrees-in bytes (AtMeta k) Exit IsFence p s r parts may is = ((is.1.0, None, [], is.1.1), is.2)
+agrees-in bytes (InText k y) Enter IsEnding p s r parts may is = is
+agrees-in bytes (InText k y) Exit IsEnding p s r parts may is =
+    text-ending (AgreesIn (InText k y)) bytes is.1.0 p s r is.1.1 is
 agrees-in bytes (InText k y) Exit (Tells x) p s r parts may is = text-agrees bytes k y x p s r may is
 agrees-in bytes (AtEnding k) Enter IsPrefix p s r parts may is =
     prefix-enter (Ended k false) bytes p s r (ended-keeps k false) is
@@ -321,6 +324,9 @@ agrees-in bytes (BehindPart left) Enter (Tells AsDestination) p s r parts may is
 agrees-in bytes (BehindPart left) Enter IsTitle p s r parts may is = defined.title-begins bytes left p s r may is
 agrees-in bytes (BehindPart left) Exit (Opens OfDefinition) p s r parts may is =
     defined.definition-ends left s r is.0 is.1
+agrees-in bytes InDestination Enter IsEnding p s r parts may is = is
+agrees-in bytes InDestination Exit IsEnding p s r parts may is =
+    text-ending (AgreesIn InDestination) bytes is.1.0 p s r is.1.1 is
 agrees-in bytes InDestination Exit (Tells AsDestination) p s r parts may is =
     defined.destination-ends bytes is.1.0 p s r is.0 is.1.1
 agrees-in bytes AtTitleText Enter (Tells AsTitle) p s r parts may is = defined.part-begins TitlePart p s r is.0

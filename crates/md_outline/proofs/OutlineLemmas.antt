@@ -27,20 +27,22 @@ use Rattle.md_outline.specs.Between.{is_between}
 use Rattle.md_outline.specs.HeadingDepths.{fits}
 use Rattle.md_outline.specs.ListsBegin.{AllTold, ListsBegin, Stage, stage_by}
 use Rattle.md_outline.specs.Outlined.{IsOutlined, are_parted, has_shown_name}
-use Rattle.md_outline.specs.Outlined.{has_unlisted_name, parts_by, span_by, tells_between}
-use Rattle.md_outline.specs.OutlineSteps.{BeginsBetween, IsCutAt, OutlineState, before_all, leaf_ended, parted_at}
+use Rattle.md_outline.specs.Outlined.{has_unlisted_name, parts_by, span_by, stands_between, tells_between}
+use Rattle.md_outline.specs.OutlineSteps.{BeginsBetween, IsCutAt, IsCutBy, OutlineState, before_all, leaf_ended}
+use Rattle.md_outline.specs.OutlineSteps.{parted_at}
 use Rattle.md_outline.specs.OutlineSteps.{state_after, state_by, told_at, told_leaf}
 use Rattle.md_outline.specs.LinesStand.{LinesStand, Outside, Site, site_by}
 use Rattle.md_outline.specs.DefinitionState.{part_word}
 use Rattle.md_outline.specs.OutlineSteps.{delimiter_ended, head_marked, is_titled, label_ended, marked_at}
 use Rattle.md_outline.specs.OutlineSteps.{piece_shown, title_told, told}
 use Rattle.md_outline.specs.ParagraphState.{begin_entries}
-use Rattle.md_outline.specs.Roles.{is_shown, is_told, is_unlisted, shown_as}
+use Rattle.md_outline.specs.Roles.{is_seen, is_shown, is_told, is_unlisted, shown_as}
 use Rattle.md_outline.specs.TextLines.{text_entries}
 use Rattle.md_outline.specs.declared.outline.role.Note.TheVariants as note
 use Rattle.md_outline.specs.declared.outline.role.Purpose.{Purpose}
 use Rattle.md_outline.specs.declared.outline.role.Purpose.TheVariants as purpose
 use Rattle.md_outline.specs.declared.outline.role.Role.{Role}
+use Rattle.md_outline.specs.declared.outline.role.Role.TheVariants as role
 use Rattle.md_outline.specs.declared.outline.Span.{Span}
 use Rattle.md_outline.proofs.BlocksStay.{AllHold, blocks-stay, outer_hold}
 use Rattle.md_outline.proofs.LinedLemmas.{span-fenced, span-headed, span-line}
@@ -227,6 +229,23 @@ names-shown (e ∷ events) h =
     and_from (has_shown_name e) (list_all has_shown_name events) (shown-unlisted (spelled.role e.name) names.0)
     (names-shown events names.1)
 
+-- and they may all stand between characters, whatever the tree reads.
+
+between-seen : (x y : Bool) → y ≡ true → (not x || y) ≡ true
+between-seen true y h = h
+between-seen false y h = refl
+
+pub all-between : (bytes : List ℕ) (events : List Event) →
+    list_all (λ (e : Event). is_between bytes e.point.index) events ≡ true →
+    list_all (stands_between bytes) events ≡ true
+all-between bytes [] h = refl
+all-between bytes (e ∷ events) h =
+    let here = and_parts (is_between bytes e.point.index)
+    (list_all (λ (e : Event). is_between bytes e.point.index) events) h in
+    and_from (stands_between bytes e) (list_all (stands_between bytes) events)
+    (between-seen (is_seen (shown_as (spelled.role e.name))) (is_between bytes e.point.index) here.0)
+    (all-between bytes events here.1)
+
 -- what holds where a call has answered `Ok` gives what follows from it there
 pub on_ok-map : {A E P Q : Type 0} (r : Result A E) → (P → Q) → OnOk r P → OnOk r Q
 on_ok-map (Ok x) f h = f h
@@ -350,6 +369,13 @@ begins-step bytes Exit IsPrefix p (Some span) t k h = k
 begins-step bytes Enter _ p span t k h = h
 begins-step bytes Exit _ p span t k h = h
 
+-- and it may be cut at an event that stands so
+cut-by : (y : Role) (bytes : List ℕ) (text : Option Span) (end : ℕ) → IsUtf8 bytes → BeginsBetween bytes text →
+    (not (is_seen y) || is_between bytes end) ≡ true → IsCutBy y bytes text end
+cut-by role.Ending bytes text end u begins h = tt
+cut-by role.Quiet bytes text end u begins h = tt
+cut-by _ bytes text end u begins h = record { utf8 = u; begins = begins; ends = h }
+
 -- what holds of all holds of each
 all-at : (p : Event → Bool) (events : List Event) (i : ℕ) (d : Event) → i < length events → list_all p events ≡ true →
     p (get_or events i d) ≡ true
@@ -365,21 +391,20 @@ pub record Goes (bytes : List ℕ) (events : List Event) (s all : OutlineState) 
 -- one event was read
 pub state-next : (bytes : List ℕ) (events : List Event) (i : ℕ) (d : Event) (s next all : OutlineState) →
     IsOutlined events bytes → i < length events → Goes bytes (drop i events) s all →
-    (IsCutAt bytes s.text (get_or events i d).point.index →
+    (IsCutBy (shown_as (spelled.role (get_or events i d).name)) bytes s.text (get_or events i d).point.index →
     next ≡ state_by bytes (get_or events i d).kind (shown_as (spelled.role (get_or events i d).name))
     (get_or events i d).point s) →
     Goes bytes (drop (i + 1) events) next all
 state-next bytes events i d s next all is lt goes reads =
     let e : Event = get_or events i d in
     let x : spelled.Role = spelled.role e.name in
-    let between : is_between bytes e.point.index ≡
-    true = all-at (λ (x : Event). is_between bytes x.point.index) events i d lt is.between in
+    let between : stands_between bytes e ≡ true = all-at (stands_between bytes) events i d lt is.between in
     let tells : tells_between bytes e ≡ true = all-at (tells_between bytes) events i d lt is.texts in
     let name : has_shown_name e ≡ true = all-at has_shown_name events i d lt is.names in
     let parts = parted-step bytes e (drop (i + 1) events) s name
     (sym (at_drop_more (are_parted bytes s.text) events i d lt) ∙ goes.parted) in
     let read : next ≡ state_by bytes e.kind (shown_as x) e.point s =
-    reads (record { utf8 = is.text; begins = goes.begins; ends = between }) in
+    reads (cut-by (shown_as x) bytes s.text e.point.index is.text goes.begins between) in
     record {
       begins =
           subst (BeginsBetween bytes)

@@ -5,13 +5,15 @@ use Rattle.std.proofs.lemmas.Bool.{true≢false}
 use Rattle.md_engine.specs.declared.event.Kind.TheVariants.{Enter}
 use Rattle.md_engine.specs.declared.event.Point.{Point}
 use Rattle.md_definition.specs.Outline.{Entry}
-use Rattle.md_seam.specs.Events.Spelled.{IsPrefix, LeafKind, Opens, Reading, Text, after_prefix, before_prefix, begun}
+use Rattle.md_seam.specs.Events.Spelled.{IsPrefix, LeafKind, Opens, Reading, Text, after_prefix, at_ending}
+use Rattle.md_seam.specs.Events.Spelled.{before_prefix, begun}
 use Rattle.md_seam.specs.Events.Spelled.{byte_at, columns_left, read_enter, read_exit}
 use Rattle.md_seam.specs.Events.Spelled as spelled
 use Rattle.md_outline.specs.Outlined.{parts_by}
-use Rattle.md_outline.specs.OutlineSteps.{OutlineState, parted_at, state_enter, state_exit, told, told_at}
+use Rattle.md_outline.specs.OutlineSteps.{OutlineState, line_ended, parted_at, state_enter, state_exit, told, told_at}
 use Rattle.md_outline.specs.Roles.{has_lines}
 use Rattle.md_outline.specs.declared.outline.Span.{Span}
+use Rattle.md_outline.specs.declared.outline.lined.Lined.{Lined}
 use Rattle.md_outline.specs.declared.outline.role.Purpose.{Purpose}
 use Rattle.md_outline.specs.declared.outline.role.Role.TheVariants as role
 use Rattle.md_outline.proofs.ClosedTrees.{shown}
@@ -62,6 +64,24 @@ text-ends P bytes q p x y s r from h =
     P (told_at bytes y p.index (Some (record { from = byte_at q; is_parted = false })) s)
     (spelled.told_at bytes x p text r))
     (sym from.text) h)
+
+-- A line ending in a text is a part of it.
+
+pub text-line : (bytes : List ℕ) (end : ℕ) (lined : Option Lined) (span : Span) (s : OutlineState) →
+    line_ended bytes end lined (Some span) s ≡ s
+text-line bytes end None span s = refl
+text-line bytes end (Some lined) span s = refl
+
+pub text-ending : (P : OutlineState → Reading → Type 0) (bytes : List ℕ) (q p : Point) (s : OutlineState)
+    (r : Reading) → TextFrom q s r → P s r →
+    P (line_ended bytes p.index s.lined s.text s) (at_ending bytes p r.text r)
+text-ending P bytes q p s r from h =
+    let same : line_ended bytes p.index s.lined s.text s ≡ s =
+    ap (λ (x : Option Span). line_ended bytes p.index s.lined x s) from.span
+    ∙ text-line bytes p.index s.lined (record { from = byte_at q; is_parted = false }) s in
+    let tree : at_ending bytes p r.text r ≡ r = ap (λ (x : Option Text). at_ending bytes p x r) from.text in
+    subst (λ (x : OutlineState). P x (at_ending bytes p r.text r)) (sym same)
+    (subst (λ (y : Reading). P s y) (sym tree) h)
 
 -- Prefixes where no text is read.
 

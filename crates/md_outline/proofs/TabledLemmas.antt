@@ -34,7 +34,7 @@ use Rattle.md_outline.proofs.LinedLines.{end-taken, head-told, on-last}
 use Rattle.md_outline.proofs.OutlineAgrees.{Agrees, TextIs, text-lines}
 use Rattle.md_outline.proofs.RoleLemmas.{by-ending}
 use Rattle.md_outline.proofs.SiteTexts.{Keeps, NoText, TextFrom, begins-texts, from-here, prefix-enter, prefix-exit}
-use Rattle.md_outline.proofs.SiteTexts.{text-ends}
+use Rattle.md_outline.proofs.SiteTexts.{text-ending, text-ends}
 
 -- What is known of one that is open, which has told its delimiter row or not, and of what was shown of it.
 pub record Tabled (table : TableSoFar) (is_told : Bool) (lines : ℕ → List Entry) (s : OutlineState) (r : Reading)
@@ -508,6 +508,9 @@ agrees-spot bytes (AtCell row) Enter (Tells AsCell) p s r may is = (
   (p, from-here p s r),
 )
 agrees-spot bytes (AtCell row) Exit IsCell p s r may is = ((is.0.0 ++ [] ∷ [], is.0.1), is.1)
+agrees-spot bytes (InCell row) Enter IsEnding p s r may is = is
+agrees-spot bytes (InCell row) Exit IsEnding p s r may is =
+    text-ending (AgreesSpot (InCell row)) bytes is.1.0 p s r is.1.1 is
 agrees-spot bytes (InCell row) Exit (Tells AsCell) p s r may is = cell-ends bytes row is.1.0 p s r is.0 is.1.1
 agrees-spot bytes (BehindCell row) Exit IsCell p s r may is = is
 agrees-spot bytes BehindHead Enter IsPrefix p s r may is =

@@ -1,7 +1,8 @@
 -- Leaf blocks of several lines as an outline can show them: each has its parts in the order of the grammar, and one
 -- piece of text a line at the most. Frontmatter is such a leaf block, with the parts of fenced code but `info` and
 -- `meta`. So are setext headings and definitions, of whose texts each line is one piece, and tables (`TableSpots`);
--- what is asked of an ATX heading is that container prefixes stand in front of its text or behind it.
+-- what is asked of an ATX heading is that container prefixes stand in front of its text or behind it. A line ending in a
+-- text that an inline layer reads is a part of it, and may stand anywhere there.
 --
 -- A walk over the events by their roles, which knows where in such a leaf block it is.
 use Rattle.std.specs.Prelude.{◌≡◌, ◌==◌, ℕ, true, false, if◌then◌else◌, nat_lt, List, [], ◌∷◌, length, slice_range}
@@ -226,6 +227,7 @@ MayStand bytes (AtInfo kind) Enter (Tells AsMeta) p = HasMeta kind
 MayStand bytes (AtInfo kind) Exit IsFence p = Unit {0}
 MayStand bytes (AtMeta kind) Enter (Tells AsMeta) p = Unit {0}
 MayStand bytes (AtMeta kind) Exit IsFence p = Unit {0}
+MayStand bytes (InText kind purpose) x IsEnding p = Unit {0}
 MayStand bytes (InText kind purpose) Exit (Tells x) p = SameText purpose x
 MayStand bytes (AtEnding kind) x IsPrefix p = Unit {0}
 MayStand bytes (AtEnding kind) x IsEnding p = Unit {0}
@@ -263,6 +265,7 @@ MayStand bytes (BehindPart left) x IsEnding p = Unit {0}
 MayStand bytes (BehindPart left) Enter (Tells AsDestination) p = MayHaveDestination left
 MayStand bytes (BehindPart left) Enter IsTitle p = MayHaveTitle left
 MayStand bytes (BehindPart left) Exit (Opens OfDefinition) p = Unit {0}
+MayStand bytes InDestination x IsEnding p = Unit {0}
 MayStand bytes InDestination Exit (Tells AsDestination) p = Unit {0}
 MayStand bytes AtTitleText Enter (Tells AsTitle) p = Unit {0}
 MayStand bytes AtTitleText Exit IsTitle p = Unit {0}

@@ -243,3 +243,9 @@ pub record IsCutAt (bytes : List ℕ) (text : Option Span) (end : ℕ) : Type 0 
   pub utf8 : IsUtf8 bytes
   pub begins : BeginsBetween bytes text
   pub ends : is_between bytes end ≡ true
+
+-- where the tree reads the point of an event, it may
+abbrev pub IsCutBy : Role → List ℕ → Option Span → ℕ → Type 0
+IsCutBy role.Ending bytes text end = Unit {0}
+IsCutBy role.Quiet bytes text end = Unit {0}
+IsCutBy _ bytes text end = IsCutAt bytes text end

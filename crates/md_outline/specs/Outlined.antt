@@ -19,7 +19,7 @@ use Rattle.md_outline.specs.Between.{is_between}
 use Rattle.md_outline.specs.HeadingDepths.{are_shallow}
 use Rattle.md_outline.specs.ListsBegin.{AllTold, ListsBegin}
 use Rattle.md_outline.specs.LinesStand.{LinesStand, Outside}
-use Rattle.md_outline.specs.Roles.{has_lines, is_shown, is_told, is_unlisted, may_part}
+use Rattle.md_outline.specs.Roles.{has_lines, is_seen, is_shown, is_told, is_unlisted, may_part, shown_as}
 use Rattle.md_outline.specs.declared.outline.Span.{Span}
 
 -- whether an event is of such a block, or of what the tree does not show
@@ -29,6 +29,11 @@ has_shown_name e = is_shown (role e.name)
 -- and of no list (`is_unlisted`)
 abbrev pub has_unlisted_name : Event → Bool
 has_unlisted_name e = is_unlisted (role e.name)
+
+-- Whether an event stands between characters if the tree reads where (`is_seen`). The others may stand anywhere: an
+-- inline layer may cut a text as it likes.
+abbrev pub stands_between : List ℕ → Event → Bool
+stands_between bytes e = not (is_seen (shown_as (role e.name))) || is_between bytes e.point.index
 
 -- whether a text begins between characters here, behind a tab that is cut
 abbrev pub tells_between : List ℕ → Event → Bool
@@ -111,13 +116,13 @@ pub record IsUnlisted (events : List Event) (bytes : List ℕ) : Type 0 where
   -- each leaf block of several lines has its parts in the order of the grammar
   pub lines : LinesStand bytes Outside events
 
--- events of all such roles
+-- events of all such roles, whatever an inline layer has made of the text parts
 pub record IsOutlined (events : List Event) (bytes : List ℕ) : Type 0 where
   -- so each container that begins ends
   pub balanced : Balanced events
   pub names : list_all has_shown_name events ≡ true
   pub text : IsUtf8 bytes
-  pub between : list_all (λ (e : Event). is_between bytes e.point.index) events ≡ true
+  pub between : list_all (stands_between bytes) events ≡ true
   pub texts : list_all (tells_between bytes) events ≡ true
   -- each container prefix in a text stands where a line begins
   pub parted : are_parted bytes None events ≡ true

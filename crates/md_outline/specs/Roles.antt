@@ -158,6 +158,12 @@ shown_as (Tells AsDelimiter) = role.Text purpose.Delimiter
 shown_as IsEnding = role.Ending
 shown_as _ = role.Quiet
 
+-- whether the tree reads the point of such an event: not that of a line ending, nor of what it does not show
+abbrev pub is_seen : Role → Bool
+is_seen role.Ending = false
+is_seen role.Quiet = false
+is_seen _ = true
+
 -- what is known of a leaf block, as the tree has it
 abbrev pub leaf_of : Leaf → OpenLeaf
 leaf_of leaf.Break = BreakLeaf

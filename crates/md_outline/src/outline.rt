@@ -6,7 +6,8 @@ ghost use Rattle.md_seam.specs.Events.Spelled as spelled;
 ghost use Rattle.md_outline.specs.Outlined.{Outlines};
 ghost use Rattle.md_outline.specs.DefinitionState.{part_word};
 ghost use Rattle.md_outline.specs.LinedState.{shown_spaces};
-ghost use Rattle.md_outline.specs.OutlineSteps.{IsCutAt, cell_begun, counted_at, delimiter_ended, fence_begun};
+ghost use Rattle.md_outline.specs.OutlineSteps.{IsCutAt, IsCutBy, cell_begun, counted_at, delimiter_ended};
+ghost use Rattle.md_outline.specs.OutlineSteps.{fence_begun};
 ghost use Rattle.md_outline.specs.OutlineSteps.{head_marked, is_titled, label_ended, leaf_ended};
 ghost use Rattle.md_outline.specs.OutlineSteps.{line_ended, parted_at, state_by, state_enter, state_exit, state_of};
 ghost use Rattle.md_outline.specs.OutlineSteps.{title_told, told_at, told_leaf, told_marker};
@@ -343,7 +344,7 @@ impl<'a> Reading<'a> {
     /// Reads an event that begins a part.
     fn enter(&mut self, role: Role<'a>, point: Point) -> Result<(), Message>
         ensures bytes { self.new.bytes ≡ self.old.bytes }
-        ensures read { OnOk result (IsCutAt self.old.bytes.now self.old.text point.index →
+        ensures read { OnOk result (IsCutBy role.entry self.old.bytes.now self.old.text point.index →
             state_of self.new ≡ state_enter self.old.bytes.now role.entry point (state_of self.old)) }
     {
         match role {
@@ -386,7 +387,7 @@ impl<'a> Reading<'a> {
     /// Reads an event that ends a part.
     fn exit(&mut self, role: Role<'a>, point: Point) -> Result<(), Message>
         ensures bytes { self.new.bytes ≡ self.old.bytes }
-        ensures read { OnOk result (IsCutAt self.old.bytes.now self.old.text point.index →
+        ensures read { OnOk result (IsCutBy role.entry self.old.bytes.now self.old.text point.index →
             state_of self.new ≡ state_exit self.old.bytes.now role.entry point (state_of self.old)) }
     {
         match role {
@@ -412,7 +413,8 @@ impl<'a> Reading<'a> {
     /// Reads the next event.
     fn read(&mut self, event: &Event) -> Result<(), Message>
         ensures bytes { self.new.bytes ≡ self.old.bytes }
-        ensures read { OnOk result (IsCutAt self.old.bytes.now self.old.text event.now.point.index →
+        ensures read { OnOk result (
+            IsCutBy (shown_as (spelled.role event.now.name)) self.old.bytes.now self.old.text event.now.point.index →
             state_of self.new ≡ state_by self.old.bytes.now event.now.kind (shown_as (spelled.role event.now.name))
             event.now.point (state_of self.old)) }
     {

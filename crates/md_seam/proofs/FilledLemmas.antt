@@ -101,17 +101,61 @@ quiet-kept : (bytes : List ℕ) (kind : Kind) (x : Role) (p : Point) (r : Readin
 quiet-kept bytes Enter x p r e = ap (λ (x : Role). read_by bytes Enter x p r) e
 quiet-kept bytes Exit x p r e = ap (λ (x : Role). read_by bytes Exit x p r) e
 
+-- Chunks.
+
+exit-kind : (kind : Kind) → is_exit kind ≡ true → kind ≡ Exit
+exit-kind Exit h = refl
+exit-kind Enter h = cc
+
+enter-kind : (kind : Kind) → not (is_exit kind) ≡ true → kind ≡ Enter
+enter-kind Enter h = refl
+enter-kind Exit h = cc
+
+-- a chunk is `Data` from its begin to its end
+pub chunk-parts : (e f : Event) (es : List Event) → is_chunk e (f ∷ es) ≡ true →
+    (e.kind ≡ Enter) × (is_data e.name ≡ true) × (f.kind ≡ Exit) × (is_data f.name ≡ true)
+chunk-parts e f es chunk =
+    let outer : (not (is_exit e.kind) && is_data e.name && is_exit f.kind ≡ true) ×
+    (is_data f.name ≡ true) = and_parts (not (is_exit e.kind) && is_data e.name && is_exit f.kind)
+    (is_data f.name) chunk in
+    let middle : (not (is_exit e.kind) && is_data e.name ≡ true) ×
+    (is_exit f.kind ≡ true) = and_parts (not (is_exit e.kind) && is_data e.name) (is_exit f.kind) outer.0 in
+    let inner : (not (is_exit e.kind) ≡ true) ×
+    (is_data e.name ≡ true) = and_parts (not (is_exit e.kind)) (is_data e.name) middle.0 in
+    (enter-kind e.kind inner.0, inner.1, exit-kind f.kind middle.1, outer.1)
+
+-- behind it one stands in the text part as in front of it
+pub chunk-behind : (depth : ℕ) (e f : Event) (es : List Event) → is_chunk e (f ∷ es) ≡ true →
+    chunks_stand (depth_behind e.kind (suc depth)) (f ∷ es) ≡ true → chunks_stand (suc depth) es ≡ true
+chunk-behind depth e f es chunk stands =
+    let is = chunk-parts e f es chunk in
+    let within : chunks_stand (suc (suc depth)) (f ∷ es) ≡
+    true = subst (λ (k : Kind). chunks_stand (depth_behind k (suc depth)) (f ∷ es) ≡ true) is.0 stands in
+    let behind : (cond (is_linked f) ((suc depth == 0) && is_chunk f es) (stands_in_part f.kind f.name)
+    && chunks_stand (depth_behind f.kind (suc (suc depth))) es) ≡
+    true =
+    subst
+    (λ (x : Bool).
+    cond x (is_exit f.kind && (suc depth == 0) && not (is_linked f) && chunks_stand 0 es)
+    (cond (is_linked f) ((suc depth == 0) && is_chunk f es) (stands_in_part f.kind f.name)
+    && chunks_stand (depth_behind f.kind (suc (suc depth))) es) ≡
+    true)
+    (data-no_part f.name is.3) within in
+    subst (λ (k : Kind). chunks_stand (depth_behind k (suc (suc depth))) es ≡ true) is.2
+    (and_parts (cond (is_linked f) ((suc depth == 0) && is_chunk f es) (stands_in_part f.kind f.name))
+    (chunks_stand (depth_behind f.kind (suc (suc depth))) es) behind).1
+
 -- The lists that stand in the places of chunks.
 
 abbrev pub EachInline : List (List Event) → Type 0
 EachInline [] = Unit {0}
 EachInline (events ∷ lists) = Roles QuietOrEnding events × EachInline lists
 
-first-inline : (lists : List (List Event)) → EachInline lists → Roles QuietOrEnding (first_list lists)
+pub first-inline : (lists : List (List Event)) → EachInline lists → Roles QuietOrEnding (first_list lists)
 first-inline [] h = tt
 first-inline (events ∷ lists) h = h.0
 
-further-inline : (lists : List (List Event)) → EachInline lists → EachInline (further_lists lists)
+pub further-inline : (lists : List (List Event)) → EachInline lists → EachInline (further_lists lists)
 further-inline [] h = tt
 further-inline (events ∷ lists) h = h.1
 
@@ -138,14 +182,6 @@ same-unlinked bytes e es depth r lists same unlinked stands has each =
     (cond x (first_list lists ++ filled_from true es (further_lists lists)) (e ∷ filled_from false es lists))) unlinked
     ∙ same depth (read_by bytes e.kind (role e.name) e.point r) lists stands has each
 
-exit-kind : (kind : Kind) → is_exit kind ≡ true → kind ≡ Exit
-exit-kind Exit h = refl
-exit-kind Enter h = cc
-
-enter-kind : (kind : Kind) → not (is_exit kind) ≡ true → kind ≡ Enter
-enter-kind Enter h = refl
-enter-kind Exit h = cc
-
 -- a chunk gives way to what an inline layer makes of it
 same-linked : (bytes : List ℕ) (e : Event) (es : List Event) (depth : ℕ) (r : Reading) (lists : List (List Event)) →
     SameBehind bytes es → is_linked e ≡ true → is_chunk e es ≡ true →
@@ -153,34 +189,12 @@ same-linked : (bytes : List ℕ) (e : Event) (es : List Event) (depth : ℕ) (r 
     HasText r → EachInline lists → read bytes r (filled_from false (e ∷ es) lists) ≡ read bytes r (e ∷ es)
 same-linked bytes e [] depth r lists same linked chunk stands has each = cc
 same-linked bytes e (f ∷ es) depth r lists same linked chunk stands has each =
-    let outer : (not (is_exit e.kind) && is_data e.name && is_exit f.kind ≡ true) ×
-    (is_data f.name ≡ true) = and_parts (not (is_exit e.kind) && is_data e.name && is_exit f.kind)
-    (is_data f.name) chunk in
-    let middle : (not (is_exit e.kind) && is_data e.name ≡ true) ×
-    (is_exit f.kind ≡ true) = and_parts (not (is_exit e.kind) && is_data e.name) (is_exit f.kind) outer.0 in
-    let inner : (not (is_exit e.kind) ≡ true) ×
-    (is_data e.name ≡ true) = and_parts (not (is_exit e.kind)) (is_data e.name) middle.0 in
+    let chunk_is = chunk-parts e f es chunk in
     let starts : read_by bytes e.kind (role e.name) e.point r ≡
-    r = quiet-kept bytes e.kind (role e.name) e.point r (data-role e.name inner.1) in
+    r = quiet-kept bytes e.kind (role e.name) e.point r (data-role e.name chunk_is.1) in
     let ends : read_by bytes f.kind (role f.name) f.point r ≡
-    r = quiet-kept bytes f.kind (role f.name) f.point r (data-role f.name outer.1) in
-    let within : chunks_stand (suc (suc depth)) (f ∷ es) ≡
-    true = subst (λ (k : Kind). chunks_stand (depth_behind k (suc depth)) (f ∷ es) ≡ true)
-    (enter-kind e.kind inner.0) stands in
-    let behind : (cond (is_linked f) ((suc depth == 0) && is_chunk f es) (stands_in_part f.kind f.name)
-    && chunks_stand (depth_behind f.kind (suc (suc depth))) es) ≡
-    true =
-    subst
-    (λ (x : Bool).
-    cond x (is_exit f.kind && (suc depth == 0) && not (is_linked f) && chunks_stand 0 es)
-    (cond (is_linked f) ((suc depth == 0) && is_chunk f es) (stands_in_part f.kind f.name)
-    && chunks_stand (depth_behind f.kind (suc (suc depth))) es) ≡
-    true)
-    (data-no_part f.name outer.1) within in
-    let on : chunks_stand (suc depth) es ≡ true =
-    subst (λ (k : Kind). chunks_stand (depth_behind k (suc (suc depth))) es ≡ true) (exit-kind f.kind middle.1)
-    (and_parts (cond (is_linked f) ((suc depth == 0) && is_chunk f es) (stands_in_part f.kind f.name))
-    (chunks_stand (depth_behind f.kind (suc (suc depth))) es) behind).1 in
+    r = quiet-kept bytes f.kind (role f.name) f.point r (data-role f.name chunk_is.3) in
+    let on : chunks_stand (suc depth) es ≡ true = chunk-behind depth e f es chunk stands in
     ap
     (λ (x : Bool).
     read bytes r

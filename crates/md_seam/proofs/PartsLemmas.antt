@@ -302,11 +302,12 @@ inline-parts (events ∷ lists) h =
     Roles QuietOrEnding (together lists) = roles-parts QuietOrEnding events (together lists) h in
     (parts.0, inline-parts lists parts.1)
 
-inline-append : (xs ys : List (List Event)) → EachInline xs → EachInline ys → EachInline (xs ++ ys)
+pub inline-append : (xs ys : List (List Event)) → EachInline xs → EachInline ys → EachInline (xs ++ ys)
 inline-append [] ys h k = k
 inline-append (events ∷ xs) ys h k = (h.0, inline-append xs ys h.1 k)
 
-read-inline_lists : (bytes : List ℕ) (reads : Part → List Event → Type 0) → KeepsFrame bytes reads →
+-- what it gives in the places of chunks
+pub read-inline_lists : (bytes : List ℕ) (reads : Part → List Event → Type 0) → KeepsFrame bytes reads →
     (parts : List Part) (lists : List (List (List Event))) → EachPart (IsPart bytes) parts →
     EachRead reads parts lists → EachInline (together lists)
 read-inline_lists bytes reads frame [] [] are each = tt
