@@ -128,8 +128,20 @@ fn writes_quotes_and_items(rt: HostRuntime) {
     for row in WRITTEN {
         let mut parts = row.split(" = ");
         let text = parts.next().unwrap_or("");
-        check_bytes(&rt, rt.alloc(), Around::Quote, text, parts.next().unwrap_or("?"));
-        check_bytes(&rt, rt.alloc(), Around::Item, text, parts.next().unwrap_or("?"));
+        check_bytes(
+            &rt,
+            rt.alloc(),
+            Around::Quote,
+            text,
+            parts.next().unwrap_or("?"),
+        );
+        check_bytes(
+            &rt,
+            rt.alloc(),
+            Around::Item,
+            text,
+            parts.next().unwrap_or("?"),
+        );
     }
 }
 
@@ -149,8 +161,26 @@ fn a_container_has_the_text_in_it(rt: HostRuntime) {
     for row in MEANT {
         let mut parts = row.split(" = ");
         let text = parts.next().unwrap_or("");
-        check_meaning(&rt, rt.alloc(), Around::Nothing, text, parts.next().unwrap_or("?"));
-        check_meaning(&rt, rt.alloc(), Around::Quote, text, parts.next().unwrap_or("?"));
-        check_meaning(&rt, rt.alloc(), Around::Item, text, parts.next().unwrap_or("?"));
+        check_meaning(
+            &rt,
+            rt.alloc(),
+            Around::Nothing,
+            text,
+            parts.next().unwrap_or("?"),
+        );
+        check_meaning(
+            &rt,
+            rt.alloc(),
+            Around::Quote,
+            text,
+            parts.next().unwrap_or("?"),
+        );
+        check_meaning(
+            &rt,
+            rt.alloc(),
+            Around::Item,
+            text,
+            parts.next().unwrap_or("?"),
+        );
     }
 }
