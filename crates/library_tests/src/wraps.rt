@@ -145,9 +145,9 @@ fn writes_quotes_and_items(rt: HostRuntime) {
     }
 }
 
-// Texts, each with its outline, that of its quote and that of its item. The laws of nesting speak of the first alone: a tab
-// has fewer columns behind a prefix; with whitespace in front of it the first line makes the item wider than the prefix of
-// the others; an item that starts blank ends with a second blank line; and a byte order mark stands at the front of a text.
+// Texts, each with its outline, that of its quote and that of its item. Both laws of nesting speak of the first alone: a
+// tab has fewer columns behind a prefix; whitespace in front of the first line makes the item wider than the prefix of
+// the others; an item that starts blank ends with a second blank line; and a byte order mark is one at the front alone.
 const MEANT: [&str; 5] = [
     "a\n\nb = p.|a|p.|b| = q.p..|a|.p..|b| = +.i..p...|a|..p...|b|",
     "\ta = c.|a| = q.p..|a| = +.i..p...|a|",

@@ -37,8 +37,8 @@ pub record IsQuotable (options : ParseOptions) (text : List ℕ) : Type 0 where
   pub no_mark : has_mark text ≡ false
   pub no_front : front_of options (lines_of text) ≡ None
 
--- a text that the list law is about: its first line is not empty and does not begin with whitespace, and it has neither a
--- tab nor a byte order mark nor frontmatter
+-- a text that the list law is about: its first line is not empty and does not begin with whitespace, and it has neither
+-- a tab nor a byte order mark nor frontmatter
 pub record IsItemable (options : ParseOptions) (text : List ℕ) : Type 0 where
   pub first : begins (λ b. not (is_white b || is_ending b)) text ≡ true
   pub no_tab : list_all (λ b. not (b == tab)) text ≡ true
@@ -52,8 +52,8 @@ NestsInQuote options text quote bs =
     options.constructs.block_quote ≡ true → IsQuotable options text →
     (wraps : tree options quote ≡ More (Quote bs) End) × (labels (tree options quote) ≡ labels bs)
 
--- The list law, of such a text, and of it with `+ ` before its first line and two spaces before each other: it means one
--- list, whose one item has them in it, unchanged, and has the same labels.
+-- The list law, of such a text, and of it with `+ ` before its first line and two spaces before each other: it means
+-- one list, whose one item has them in it, unchanged, and has the same labels.
 abbrev pub NestsInItem : ParseOptions → List ℕ → List ℕ → Blocks → Type 0
 NestsInItem options text item bs =
     options.constructs.list_item ≡ true → IsItemable options text →

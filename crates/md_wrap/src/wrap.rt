@@ -3,8 +3,8 @@
 // A prefix stands before each line. A line ends at LF, CR or CR LF (CommonMark 2.1); bytes behind the last ending are a
 // last line, and no bytes are none. An empty line has its prefix too, so it does not end the container.
 //
-// What a text means that is wrapped so is known for most texts: the container, with what the text means in it. That is the
-// law in the contract of each function, with the texts that it speaks of. It speaks of no text with a tab, whose
+// What a text means that is wrapped so is known for most texts: the container, with what the text means in it. That is
+// the law in the contract of each function, with the texts that it speaks of. It speaks of no text with a tab, whose
 // columns would change, nor of one with a byte order mark or frontmatter, which stand at the front of a document alone.
 
 ghost use Rattle.std.specs.Prelude.{◌≡◌, ◌≢◌, ◌<◌, ◌≤◌, [], ◌∷◌, drop, length, take, string_bytes, IfOk, OnOk, ◌++◌};
@@ -94,8 +94,8 @@ fn prefixed(alloc: Global, text: &str, first: &str, further: &str) -> Result<Str
 
 /// A text in a block quote (CommonMark 5.1): `> ` before each line. The empty text stays empty.
 ///
-/// The text has at most `usize::MAX / 8` bytes. The options do not change the bytes: with them the contract says what the
-/// quote means. An `Err` says that memory ran out; then nothing is handed out.
+/// The text has at most `usize::MAX / 8` bytes. The options change no byte: the contract says what the quote means with
+/// them. An `Err` says that memory ran out; then nothing is handed out.
 pub fn quote(alloc: Global, value: &str, options: &ParseOptions) -> Result<String, Message>
     requires { IsSmall value.now }
     ensures { IfOk result (λ quote. IsQuoteOf options.now value.now (string_bytes quote)) }
@@ -106,8 +106,8 @@ pub fn quote(alloc: Global, value: &str, options: &ParseOptions) -> Result<Strin
 /// A text in a list item (CommonMark 5.2) of a list of its own: `+ ` before the first line, and two spaces before each
 /// other. The empty text stays empty.
 ///
-/// The text has at most `usize::MAX / 8` bytes. The options do not change the bytes: with them the contract says what the
-/// item means. An `Err` says that memory ran out; then nothing is handed out.
+/// The text has at most `usize::MAX / 8` bytes. The options change no byte: the contract says what the item means with
+/// them. An `Err` says that memory ran out; then nothing is handed out.
 pub fn item(alloc: Global, value: &str, options: &ParseOptions) -> Result<String, Message>
     requires { IsSmall value.now }
     ensures { IfOk result (λ item. IsItemOf options.now value.now (string_bytes item)) }
