@@ -3,7 +3,7 @@
 
 use crate::report::Report;
 use crate::rows::printed;
-use crate::texts::prefixed;
+use crate::wraps::{itemised, quoted};
 use blocks_cases::case::CaseError;
 use md_engine::configuration::Constructs;
 use md_program::body::Body;
@@ -49,26 +49,21 @@ pub fn try_laws<B: Body>(
         return Ok(());
     }
     if constructs.block_quote {
-        let quoted = prefixed(alloc, text, "> ", "> ")?;
-        let got = printed::<B>(alloc, quoted.as_str(), constructs)?;
+        let quote = quoted(alloc, text)?;
+        let got = printed::<B>(alloc, quote.as_str(), constructs)?;
         let wanted = below(alloc, output.as_str(), "quote\n", "  ")?;
         report.add(
             "the quote law",
-            quoted.as_str(),
+            quote.as_str(),
             wanted.as_str(),
             got.as_str(),
         )?;
     }
     if constructs.list_item && begins_with_text(text) {
-        let itemised = prefixed(alloc, text, "+ ", "  ")?;
-        let got = printed::<B>(alloc, itemised.as_str(), constructs)?;
+        let item = itemised(alloc, text)?;
+        let got = printed::<B>(alloc, item.as_str(), constructs)?;
         let wanted = below(alloc, output.as_str(), "list +\n  item\n", "    ")?;
-        report.add(
-            "the list law",
-            itemised.as_str(),
-            wanted.as_str(),
-            got.as_str(),
-        )?;
+        report.add("the list law", item.as_str(), wanted.as_str(), got.as_str())?;
     }
     Ok(())
 }

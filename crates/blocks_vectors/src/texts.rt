@@ -1,4 +1,4 @@
-// Makes texts: repeated, wrapped, counted through, and random.
+// Makes texts: repeated, counted through, and random.
 
 use rand_core::utils::NextWord;
 use rand_pcg::Pcg32;
@@ -11,28 +11,6 @@ pub fn repeated(alloc: Global, part: &str, times: usize) -> Result<String, Alloc
         text.push_str(part)?;
     }
     Ok(text)
-}
-
-/// A text with `first` before its first line and `further` before each other (CommonMark 2.1).
-pub fn prefixed(
-    alloc: Global,
-    text: &str,
-    first: &str,
-    further: &str,
-) -> Result<String, AllocError> {
-    let mut wrapped = String::new(alloc);
-    let mut before = None;
-    for c in text.chars() {
-        match before {
-            None => wrapped.push_str(first)?,
-            Some('\n') => wrapped.push_str(further)?,
-            Some('\r') if c != '\n' => wrapped.push_str(further)?,
-            Some(_) => {}
-        }
-        wrapped.push(c)?;
-        before = Some(c);
-    }
-    Ok(wrapped)
 }
 
 /// The text of so many letters of an alphabet that a number stands for: its digits choose the letters, the last one

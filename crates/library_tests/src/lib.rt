@@ -23,3 +23,5 @@ mod streams;
 mod system;
 #[cfg(test)]
 mod tables;
+#[cfg(test)]
+mod wraps;

@@ -1,7 +1,5 @@
 -- What a parse asks for, and what it gives.
-use Rattle.std.specs.Prelude.{◌≡◌, ◌≢◌, ℕ, ◌-◌, ◌/◌, ◌^◌, ◌<◌, ◌≤◌, ◌==◌, ◌||◌, true, false, not, IsTrue, List, []}
-use Rattle.std.specs.Prelude.{None, length, map}
-use Rattle.std.specs.List.{list_all}
+use Rattle.std.specs.Prelude.{◌≡◌, ℕ, ◌<◌, true, false, IsTrue, List, [], length, map}
 use Rattle.std.specs.String.{string_bytes}
 use Rattle.md_engine.specs.declared.configuration.ParseOptions.{ParseOptions}
 use Rattle.md_engine.specs.declared.event.Event.{Event}
@@ -15,24 +13,15 @@ use Rattle.md_seam.specs.Events.Nested.{Nested}
 use Rattle.md_seam.specs.Events.On.{are_on}
 use Rattle.md_seam.specs.Events.Pieces.{pieces_stand}
 use Rattle.md_seam.specs.Events.Places.{are_placed, first_point}
-use Rattle.md_definition.specs.Preamble.{front_of, has_mark}
 use Rattle.md_seam.specs.Events.Spelled.{spelled}
 use Rattle.md_seam.specs.Events.Tiles.{Tiles, end_point, plain_read}
 use Rattle.md_seam.specs.Substituted.{Substituted}
 use Rattle.md_seam.specs.TextPart.{Document, document_of, text_kind, wants_text}
-use Rattle.md_definition.specs.Ascii.{plus}
-use Rattle.md_definition.specs.Bytes.{begins}
 use Rattle.md_definition.specs.Label.{labels}
-use Rattle.md_definition.specs.Lines.{is_ending, lines_of}
-use Rattle.md_definition.specs.Rest.{is_white}
-use Rattle.md_definition.specs.Tree.{End, Item, ListOf, More, Quote}
-use Rattle.md_definition.specs.Wrapped.{itemised, quoted}
+use Rattle.md_definition.specs.Wrapped.{NestsInItem, NestsInQuote, itemised, quoted}
+pub use Rattle.md_definition.specs.Wrapped.{IsItemable, IsQuotable, IsSmall}
 use Rattle.md_outline.specs.Outlined.{IsOutlined}
 use Rattle.markdown_blocks.specs.BlockList.{block_list}
-
--- a text that points have room for: at most an eighth of the greatest `usize`
-abbrev pub IsSmall : List ℕ → Type 0
-IsSmall text = length text ≤ (2 ^ 64 - 1) / 8
 
 -- the constructs of MDX, which are not built, are off
 pub record IsWithoutMdx (options : ParseOptions) : Type 0 where
@@ -46,21 +35,6 @@ pub record IsWithoutMdx (options : ParseOptions) : Type 0 where
 abbrev pub reads_plain : List ℕ → Part → List Event → Type 0
 reads_plain text part events = events ≡ plain_events text part
 
--- a text that the quote law is about: it is not empty, and has neither a tab nor a byte order mark nor frontmatter
-pub record IsQuotable (options : ParseOptions) (text : List ℕ) : Type 0 where
-  pub some : text ≢ []
-  pub no_tab : list_all (λ b. not (b == 9)) text ≡ true
-  pub no_mark : has_mark text ≡ false
-  pub no_front : front_of options (lines_of text) ≡ None
-
--- a text that the list law is about: its first line is not empty and does not begin with whitespace, and it has neither a
--- tab nor a byte order mark nor frontmatter
-pub record IsItemable (options : ParseOptions) (text : List ℕ) : Type 0 where
-  pub first : begins (λ b. not (is_white b || is_ending b)) text ≡ true
-  pub no_tab : list_all (λ b. not (b == 9)) text ≡ true
-  pub no_mark : has_mark text ≡ false
-  pub no_front : front_of options (lines_of text) ≡ None
-
 -- What is known of a text that was read with an inline layer, whatever it is: its events nest, stand at its points,
 -- spell its tree and tile it, and the labels are those of that tree.
 pub record IsRead (reads : Document → Part → List Event → Type 0) (text : List ℕ) (options : ParseOptions)
@@ -72,14 +46,10 @@ pub record IsRead (reads : Document → Part → List Event → Type 0) (text : 
   -- each point is one of the text, with the right line and column
   pub placed : IsTrue (are_placed text events)
   -- with `> ` before each line, the text means one block quote with this tree in it, unchanged, and has the same labels
-  pub in_quote : options.constructs.block_quote ≡ true → IsQuotable options text →
-      (wraps : tree options (quoted text) ≡ More (Quote (spelled events text)) End)
-      × (labels (tree options (quoted text)) ≡ labels (spelled events text))
+  pub in_quote : NestsInQuote options text (quoted text) (spelled events text)
   -- with `+ ` before its first line and two spaces before each other, it means one list, whose one item has this tree in
   -- it, unchanged, and has the same labels
-  pub in_item : options.constructs.list_item ≡ true → IsItemable options text →
-      (wraps : tree options (itemised text) ≡ More (ListOf plus (More (Item plus [] (spelled events text)) End)) End)
-      × (labels (tree options (itemised text)) ≡ labels (spelled events text))
+  pub in_item : NestsInItem options text (itemised text) (spelled events text)
   pub tree : spelled events text ≡ tree options text
   -- no construct occurs in it that is off
   pub on : are_on options (spelled events text) ≡ true

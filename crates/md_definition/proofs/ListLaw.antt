@@ -1,6 +1,6 @@
 -- The tree of an itemised text is a list with one item, and the tree of the text in that.
 use Rattle.std.proofs.Common.{◌≡◌, ℕ, ◌+◌, Bool, true, false, cond, not, ◌==◌, ◌||◌, List, [], ◌∷◌, Option, Some}
-use Rattle.std.proofs.Common.{None, refl, ap, ◌∙◌, arith}
+use Rattle.std.proofs.Common.{None, refl, ap, ◌∙◌, arith, sym, subst}
 use Rattle.std.specs.Prelude.{nat_le}
 use Rattle.std.specs.List.{list_all}
 use Rattle.std.proofs.Math.Bool.{and-false, or-true}
@@ -16,7 +16,7 @@ use Rattle.md_definition.specs.Preamble.{front_of, has_mark, rest_at}
 use Rattle.md_definition.specs.Rest.{is_blank, is_white, white_columns}
 use Rattle.md_definition.specs.State.{InItem}
 use Rattle.md_definition.specs.Tree.{Blocks, End, Item, ListOf, More}
-use Rattle.md_definition.specs.Wrapped.{itemised}
+use Rattle.md_definition.specs.Wrapped.{IsItemOf, NestsInItem, itemised}
 use Rattle.md_definition.proofs.PrefixedLines.{first-line}
 use Rattle.md_definition.proofs.WrapLaw.{GoesOn, Opens, Wrap, Wraps, labels-alone, wrap-law}
 
@@ -93,3 +93,18 @@ list-labels options text on begun plain mark front =
     ap labels (list-law options text on begun plain mark front)
     ∙ labels-alone (ListOf plus (More (Item plus [] (tree options text)) End))
     ∙ labels-alone (Item plus [] (tree options text))
+
+pub list-nests : (options : ParseOptions) (text : List ℕ) →
+    NestsInItem options text (itemised text) (tree options text)
+list-nests options text =
+    λ on may. (
+      list-law options text on may.first may.no_tab may.no_mark may.no_front,
+      list-labels options text on may.first may.no_tab may.no_mark may.no_front,
+    )
+
+-- what has these bytes
+pub item-is : (options : ParseOptions) (text item : List ℕ) → item ≡ itemised text → IsItemOf options text item
+item-is options text item is = record {
+  bytes = is;
+  nests = subst (λ (i : List ℕ). NestsInItem options text i (tree options text)) (sym is) (list-nests options text);
+}

@@ -24,7 +24,8 @@ IsLinePrefix-no_ending : (prefix : List ℕ) → IsLinePrefix prefix → NoEndin
 IsLinePrefix-no_ending [] h = tt
 IsLinePrefix-no_ending (b ∷ bytes) h = h
 
-ends_line-no : (b : ℕ) (bytes : List ℕ) → is_ending b ≡ false → ends_line b bytes ≡ false
+-- a byte that ends no line, whatever comes behind it
+pub ends_line-no : (b : ℕ) (bytes : List ℕ) → is_ending b ≡ false → ends_line b bytes ≡ false
 ends_line-no b bytes e = let parts = or_parts (b == 10) (b == 13) e in rw (parts.0, parts.1) refl
 
 -- these bytes in front of the first line
@@ -44,7 +45,8 @@ full_lines_of-prefix (b ∷ prefix) bytes h =
     ap (λ (t : Bool). cond t ((b ∷ []) ∷ lines) (onto_first b lines)) (ends_line-no b (prefix ++ bytes) h.0)
     ∙ ap (onto_first b) (full_lines_of-prefix prefix bytes h.1)
 
-prefixed-all : (prefix : List ℕ) (lines : List (List ℕ)) → prefixed prefix prefix lines ≡ map (λ l. prefix ++ l) lines
+-- the same prefix before all lines
+pub prefixed-all : (prefix : List ℕ) (lines : List (List ℕ)) → prefixed prefix prefix lines ≡ map (λ l. prefix ++ l) lines
 prefixed-all prefix [] = refl
 prefixed-all prefix (line ∷ lines) = refl
 

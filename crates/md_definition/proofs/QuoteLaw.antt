@@ -1,5 +1,5 @@
 -- The tree of a quoted text is a quote with the tree of the text in it.
-use Rattle.std.proofs.Common.{◌≡◌, ℕ, true, false, not, ◌==◌, List, [], ◌∷◌, None, refl, ap, ◌∙◌}
+use Rattle.std.proofs.Common.{◌≡◌, ℕ, true, false, not, ◌==◌, List, [], ◌∷◌, None, refl, ap, ◌∙◌, sym, subst}
 use Rattle.std.specs.List.{list_all}
 use Rattle.std.proofs.Math.Bool.{or-true}
 use Rattle.md_engine.specs.declared.configuration.ParseOptions.{ParseOptions}
@@ -11,7 +11,7 @@ use Rattle.md_definition.specs.Meaning.{tree}
 use Rattle.md_definition.specs.Preamble.{front_of, has_mark}
 use Rattle.md_definition.specs.State.{InQuote}
 use Rattle.md_definition.specs.Tree.{Blocks, End, More, Quote}
-use Rattle.md_definition.specs.Wrapped.{quoted}
+use Rattle.md_definition.specs.Wrapped.{IsQuoteOf, NestsInQuote, quoted}
 use Rattle.md_definition.proofs.PrefixedLines.{some-line}
 use Rattle.md_definition.proofs.WrapLaw.{GoesOn, Opens, Wrap, Wraps, labels-alone, wrap-law}
 
@@ -54,3 +54,18 @@ pub quote-labels : (options : ParseOptions) (text : List ℕ) → options.constr
     labels (tree options (quoted text)) ≡ labels (tree options text)
 quote-labels options text on some plain mark front =
     ap labels (quote-law options text on some plain mark front) ∙ labels-alone (Quote (tree options text))
+
+pub quote-nests : (options : ParseOptions) (text : List ℕ) →
+    NestsInQuote options text (quoted text) (tree options text)
+quote-nests options text =
+    λ on may. (
+      quote-law options text on may.some may.no_tab may.no_mark may.no_front,
+      quote-labels options text on may.some may.no_tab may.no_mark may.no_front,
+    )
+
+-- what has these bytes
+pub quote-is : (options : ParseOptions) (text quote : List ℕ) → quote ≡ quoted text → IsQuoteOf options text quote
+quote-is options text quote is = record {
+  bytes = is;
+  nests = subst (λ (q : List ℕ). NestsInQuote options text q (tree options text)) (sym is) (quote-nests options text);
+}

@@ -1,0 +1,186 @@
+// Texts in a container, by their bytes and by what they mean; and why the laws of nesting do not speak of every text.
+ghost use Rattle.markdown_blocks.specs.Parsed.{IsSmall};
+
+use markdown_blocks::outline::outline;
+use markdown_blocks::parser::parse;
+use markdown_blocks::wrap;
+use md_definition::outline::Word;
+use md_engine::configuration::{Constructs, ParseOptions};
+use md_engine::message::Message;
+use std::alloc::{AllocError, Global};
+use std::process::Abort;
+
+const OPTIONS: ParseOptions = ParseOptions {
+    constructs: Constructs {
+        block_quote: true,
+        code_indented: true,
+        list_item: true,
+        ..Constructs::NONE
+    },
+};
+
+// What is put around a text.
+#[derive(Clone, Copy)]
+enum Around {
+    Nothing,
+    Quote,
+    Item,
+}
+
+fn put(alloc: Global, around: Around, text: &str) -> Result<String, Message>
+    requires { IsSmall text.now }
+{
+    match around {
+        Around::Nothing => match String::from_str(alloc, text) {
+            Ok(same) => Ok(same),
+            Err(_) => Err(Message),
+        },
+        Around::Quote => wrap::quote(alloc, text, &OPTIONS),
+        Around::Item => wrap::item(alloc, text, &OPTIONS),
+    }
+}
+
+// Dots for the depth of a line, and then its word, or its text between bars.
+fn add_line(all: &mut String, depth: usize, word: Word, text: &str) -> Result<(), AllocError> {
+    for _ in 0..depth {
+        all.push_str(".")?;
+    }
+    match word {
+        Word::Quote => all.push_str("q"),
+        Word::List(marker) => all.push(char::from(marker)),
+        Word::Item => all.push_str("i"),
+        Word::Code => all.push_str("c"),
+        Word::Paragraph => all.push_str("p"),
+        _ => {
+            all.push_str("|")?;
+            all.push_str(text)?;
+            all.push_str("|")
+        }
+    }
+}
+
+// The outline of a text.
+fn outlined(alloc: Global, text: &str) -> Result<String, Message>
+    requires { IsSmall text.now }
+{
+    let (events, state) = parse(alloc, text, &OPTIONS)?;
+    let lines = outline(alloc, &events, &state)?;
+    let mut all = String::new(alloc);
+    for line in lines.iter() {
+        if add_line(&mut all, line.depth, line.word, line.text).is_err() {
+            return Err(Message);
+        }
+    }
+    Ok(all)
+}
+
+// The outline of a text with this around it.
+fn meant(alloc: Global, around: Around, text: &str) -> Result<String, Message>
+    requires { IsSmall text.now }
+{
+    let all = put(alloc, around, text)?;
+    let all = all.as_str();
+    if all.len() > usize::MAX / 8 {
+        return Err(Message);
+    }
+    outlined(alloc, all)
+}
+
+// A call that is refused memory answers so, and the next one is given it.
+fn check_bytes(rt: &impl Abort, alloc: Global, around: Around, text: &str, want: &str) {
+    assert!(rt; text.len() <= usize::MAX / 8);
+    let bytes = match put(alloc, around, text) {
+        Ok(bytes) => Ok(bytes),
+        Err(Message) => put(alloc, around, text),
+    };
+    assert!(rt;
+        matches!(bytes, Ok(ref all) if all.as_str() == want),
+        "of {text:?}"
+    );
+}
+
+fn check_meaning(rt: &impl Abort, alloc: Global, around: Around, text: &str, want: &str) {
+    assert!(rt; text.len() <= usize::MAX / 8);
+    let outline = match meant(alloc, around, text) {
+        Ok(outline) => Ok(outline),
+        Err(Message) => meant(alloc, around, text),
+    };
+    assert!(rt;
+        matches!(outline, Ok(ref all) if all.as_str() == want),
+        "of {text:?}"
+    );
+}
+
+// Texts, each with its bytes as a quote and as an item.
+const WRITTEN: [&str; 8] = [
+    " =  = ",
+    "a = > a = + a",
+    "a\n\n = > a\n> \n = + a\n  \n",
+    "a\r\nb\r = > a\r\n> b\r = + a\r\n  b\r",
+    "a\n\nb = > a\n> \n> b = + a\n  \n  b",
+    "\r\r\n\n\r = > \r> \r\n> \n> \r = + \r  \r\n  \n  \r",
+    "\u{feff}é\n\0 = > \u{feff}é\n> \0 = + \u{feff}é\n  \0",
+    "\u{2028}\n\ta = > \u{2028}\n> \ta = + \u{2028}\n  \ta",
+];
+
+#[test]
+fn writes_quotes_and_items(rt: HostRuntime) {
+    for row in WRITTEN {
+        let mut parts = row.split(" = ");
+        let text = parts.next().unwrap_or("");
+        check_bytes(
+            &rt,
+            rt.alloc(),
+            Around::Quote,
+            text,
+            parts.next().unwrap_or("?"),
+        );
+        check_bytes(
+            &rt,
+            rt.alloc(),
+            Around::Item,
+            text,
+            parts.next().unwrap_or("?"),
+        );
+    }
+}
+
+// Texts, each with its outline, that of its quote and that of its item. Both laws of nesting speak of the first alone: a
+// tab has fewer columns behind a prefix; whitespace in front of the first line makes the item wider than the prefix of
+// the others; an item that starts blank ends with a second blank line; and a byte order mark is one at the front alone.
+const MEANT: [&str; 5] = [
+    "a\n\nb = p.|a|p.|b| = q.p..|a|.p..|b| = +.i..p...|a|..p...|b|",
+    "\ta = c.|a| = q.p..|a| = +.i..p...|a|",
+    " a\n\nb = p.|a|p.|b| = q.p..|a|.p..|b| = +.i..p...|a|p.|b|",
+    "\n\na = p.|a| = q.p..|a| = +.ip.|a|",
+    "\u{feff}a = p.|a| = q.p..|\u{feff}a| = +.i..p...|\u{feff}a|",
+];
+
+#[test]
+fn a_container_has_the_text_in_it(rt: HostRuntime) {
+    for row in MEANT {
+        let mut parts = row.split(" = ");
+        let text = parts.next().unwrap_or("");
+        check_meaning(
+            &rt,
+            rt.alloc(),
+            Around::Nothing,
+            text,
+            parts.next().unwrap_or("?"),
+        );
+        check_meaning(
+            &rt,
+            rt.alloc(),
+            Around::Quote,
+            text,
+            parts.next().unwrap_or("?"),
+        );
+        check_meaning(
+            &rt,
+            rt.alloc(),
+            Around::Item,
+            text,
+            parts.next().unwrap_or("?"),
+        );
+    }
+}

@@ -1,0 +1,4 @@
+// Whole texts in a container.
+#![tactic(auto)]
+
+pub mod wrap;

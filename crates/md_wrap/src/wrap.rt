@@ -1,0 +1,116 @@
+// Whole texts in a container: a quote or a list item around a text, of which all bytes are kept.
+//
+// A prefix stands before each line. A line ends at LF, CR or CR LF (CommonMark 2.1); bytes behind the last ending are a
+// last line, and no bytes are none. An empty line has its prefix too, so it does not end the container.
+//
+// What a text means that is wrapped so is known for most texts: the container, with what the text means in it. That is
+// the law in the contract of each function, with the texts that it speaks of. It speaks of no text with a tab, whose
+// columns would change, nor of one with a byte order mark or frontmatter, which stand at the front of a document alone.
+
+ghost use Rattle.std.specs.Prelude.{◌≡◌, ◌≢◌, ◌<◌, ◌≤◌, [], ◌∷◌, drop, length, take, string_bytes, IfOk, OnOk, ◌++◌};
+ghost use Rattle.std.specs.List.{concat};
+ghost use Rattle.std.specs.Str.{IsCharBoundary};
+ghost use Rattle.md_definition.specs.Lines.{full_lines_of};
+ghost use Rattle.md_definition.specs.Wrapped.{IsItemOf, IsQuoteOf, IsSmall, prefixed};
+ghost use Rattle.md_wrap.specs.Endings.{ending_len};
+
+use md_engine::configuration::ParseOptions;
+use md_engine::message::Message;
+use memchr::memchr2;
+use std::alloc::Global;
+
+/// How many bytes each prefix has.
+const PREFIX_LEN: usize = 2;
+
+/// How many bytes the line ending has that stands first, and 0 of no bytes.
+fn ending_len(bytes: &[u8]) -> usize
+    ensures value { result ≡ ending_len bytes.now }
+    ensures within { result ≤ length bytes.now }
+{
+    match bytes {
+        [b'\r', b'\n', ..] => 2,
+        [_, ..] => 1,
+        [] => 0,
+    }
+}
+
+/// How many bytes the first line of a text has, with its ending.
+fn line_len(text: &str) -> usize
+    ensures line { text.now ≢ [] →
+        full_lines_of text.now ≡ take result text.now ∷ full_lines_of (drop result text.now) }
+    ensures some { text.now ≢ [] → 0 < result }
+    ensures cut { IsCharBoundary text.now result }
+{
+    let bytes = text.as_bytes();
+    match memchr2(b'\n', b'\r', bytes) {
+        Some(at) => at + ending_len(&bytes[at..]),
+        None => bytes.len(),
+    }
+}
+
+/// An empty text with room for a text with a prefix before each of its lines.
+fn with_room(alloc: Global, text: &str) -> Result<String, Message>
+    requires { IsSmall text.now }
+    ensures { IfOk result (λ room. string_bytes room ≡ []) }
+{
+    let endings = text
+        .bytes()
+        .filter(|byte| *byte == b'\n' || *byte == b'\r')
+        .count();
+    match String::with_capacity(alloc, text.len() + PREFIX_LEN * (endings + 1)) {
+        Ok(room) => Ok(room),
+        Err(_) => Err(Message),
+    }
+}
+
+/// Appends to a text. After an `Err` it is as it was.
+fn push(text: &mut String, more: &str) -> Result<(), Message>
+    ensures { OnOk result (string_bytes text.new ≡ string_bytes text.old ++ more.now) }
+{
+    match text.push_str(more) {
+        Ok(()) => Ok(()),
+        Err(_) => Err(Message),
+    }
+}
+
+/// A text with `first` before its first line, and `further` before each other.
+fn prefixed(alloc: Global, text: &str, first: &str, further: &str) -> Result<String, Message>
+    requires { IsSmall text.now }
+    ensures { IfOk result
+        (λ wrapped. string_bytes wrapped ≡ concat (prefixed first.now further.now (full_lines_of text.now))) }
+{
+    let mut wrapped = with_room(alloc, text)?;
+    let mut prefix = first;
+    let mut left = text;
+    'lines: while !left.is_empty() {
+        let (line, behind) = left.split_at(line_len(left));
+        push(&mut wrapped, prefix)?;
+        push(&mut wrapped, line)?;
+        prefix = further;
+        left = behind;
+    }
+    Ok(wrapped)
+}
+
+/// A text in a block quote (CommonMark 5.1): `> ` before each line. The empty text stays empty.
+///
+/// The text has at most `usize::MAX / 8` bytes. The options change no byte: the contract says what the quote means with
+/// them. An `Err` says that memory ran out; then nothing is handed out.
+pub fn quote(alloc: Global, value: &str, options: &ParseOptions) -> Result<String, Message>
+    requires { IsSmall value.now }
+    ensures { IfOk result (λ quote. IsQuoteOf options.now value.now (string_bytes quote)) }
+{
+    prefixed(alloc, value, "> ", "> ")
+}
+
+/// A text in a list item (CommonMark 5.2) of a list of its own: `+ ` before the first line, and two spaces before each
+/// other. The empty text stays empty.
+///
+/// The text has at most `usize::MAX / 8` bytes. The options change no byte: the contract says what the item means with
+/// them. An `Err` says that memory ran out; then nothing is handed out.
+pub fn item(alloc: Global, value: &str, options: &ParseOptions) -> Result<String, Message>
+    requires { IsSmall value.now }
+    ensures { IfOk result (λ item. IsItemOf options.now value.now (string_bytes item)) }
+{
+    prefixed(alloc, value, "+ ", "  ")
+}
