@@ -2,7 +2,7 @@
 --
 -- Events that begin no part may stand in front of those of a block list, as the byte order mark does: nothing is asked
 -- for them, and they stay as they are.
-use Rattle.std.proofs.Common.{◌≡◌, ℕ, suc, Bool, true, List, [], ◌∷◌, ◌++◌, length, refl, ap, sym, ◌∙◌}
+use Rattle.std.proofs.Common.{◌≡◌, ℕ, suc, inl, Bool, true, List, [], ◌∷◌, ◌++◌, length, refl, ap, sym, ◌∙◌}
 use Rattle.std.proofs.Common.{subst, append_assoc}
 use Rattle.std.specs.Prelude.{Option, Some, None, is_none}
 use Rattle.std.specs.List.{list_all}
@@ -14,7 +14,7 @@ use Rattle.md_seam.specs.Substituted.{Asked, EachAsked, Readings, Substituted, c
 use Rattle.md_seam.specs.TextPart.{AreBlocks, Document, IsTextPart, text_kind, wants_text}
 use Rattle.md_seam.specs.Events.Inline.{Part}
 use Rattle.md_seam.specs.Events.Tiles.{parts}
-use Rattle.md_seam.proofs.AskedLemmas.{AskedBy}
+use Rattle.md_seam.proofs.AskedLemmas.{AskedBy, asked-event}
 use Rattle.md_seam.proofs.PartsLemmas.{EachPart}
 use Rattle.md_seam.proofs.PartWalks.{Walk, Ends, Stays, Begins, GoesOn, unlinked-unwanted, walk-blocks}
 use Rattle.md_seam.proofs.SubstitutedLemmas.{SubstitutedBy}
@@ -26,11 +26,6 @@ asked-more : (wants : Content → Bool) (asked : Asked) (chunks : ℕ) (e : Even
     wanted wants e ≡ None → EachAsked wants asked chunks es → EachAsked wants asked chunks (e ∷ es)
 asked-more wants asked chunks e [] none h = tt
 asked-more wants asked chunks e (f ∷ es) none h = subst (AskedBy wants asked chunks e f es) (sym none) h
-
-asked-less : (wants : Content → Bool) (asked : Asked) (chunks : ℕ) (e : Event) (es : List Event) →
-    wanted wants e ≡ None → EachAsked wants asked chunks (e ∷ es) → EachAsked wants asked chunks es
-asked-less wants asked chunks e [] none h = tt
-asked-less wants asked chunks e (f ∷ es) none h = subst (AskedBy wants asked chunks e f es) none h
 
 -- and stays
 pub substituted-more : (wants : Content → Bool) (reads : Readings) (left : List Event) (chunks : ℕ) (e : Event)
@@ -57,7 +52,7 @@ asked-behind wants asked (e ∷ front) items stay h =
     let both : (stays wants e ≡ true) ×
     (list_all (stays wants) front ≡ true) = and_parts (stays wants e) (list_all (stays wants) front) stay in
     asked-behind wants asked front items both.1
-    (asked-less wants asked 0 e (front ++ items) (stays-unwanted wants e both.0) h)
+    (asked-event wants asked 0 e (front ++ items) (inl (stays-unwanted wants e both.0)) h)
 
 pub substituted-behind : (wants : Content → Bool) (reads : Readings) (front items body : List Event) →
     list_all (stays wants) front ≡ true → Substituted wants reads [] 0 items body →

@@ -40,7 +40,7 @@ asked-all wants asked any n (e ∷ f ∷ es) =
     go (Some held) (suc more) next behind = behind more
 
 -- an event that stays
-asked-event : (wants : Content → Bool) (asked : Asked) (n : ℕ) (e : Event) (rest : List Event) →
+pub asked-event : (wants : Content → Bool) (asked : Asked) (n : ℕ) (e : Event) (rest : List Event) →
     (wanted wants e ≡ None) ⊎ (rest ≡ []) → EachAsked wants asked n (e ∷ rest) → EachAsked wants asked n rest
 asked-event wants asked n e [] stays each = tt
 asked-event wants asked n e (f ∷ es) (inl none) each = subst (AskedBy wants asked n e f es) none each
