@@ -9,11 +9,12 @@ ghost use Rattle.markdown_blocks.specs.Parsed.{IsSmall};
 
 mod headings;
 
-use crate::headings::headings;
+use crate::headings::{Heading, headings};
 use markdown_blocks::configuration::ParseOptions;
+use markdown_blocks::event::Event;
 use markdown_blocks::message::Message;
 use markdown_blocks::parser::parse;
-use std::alloc::Global;
+use std::alloc::{AllocError, Global};
 use std::io;
 use std::process::ExitCode;
 
@@ -25,26 +26,25 @@ fn outline(alloc: Global, text: &str) -> Result<String, Message>
     requires { IsSmall text.now }
 {
     let (events, state) = parse(alloc, text, &ParseOptions::ALL)?;
-    let found = headings(alloc, &events, state.bytes)?;
+    match sections(alloc, &events, state.bytes) {
+        Ok(lines) => Ok(lines),
+        Err(_) => Err(Message),
+    }
+}
+
+/// A line for each heading. Each look for the end of a section passes that section alone, and sections of one depth do not
+/// overlap, so all looks together pass each heading six times at most.
+fn sections(alloc: Global, events: &[Event], bytes: &[u8]) -> Result<String, AllocError> {
+    let found = headings(alloc, events, bytes)?;
     let mut lines = String::new(alloc);
     for (at, heading) in found.iter().enumerate() {
-        let behind = found
+        let Heading { depth, start, .. } = *heading;
+        let end = found
             .iter()
             .skip(at + 1)
-            .find(|other| other.depth <= heading.depth);
-        let end = match behind {
-            Some(other) => other.start,
-            None => text.len(),
-        };
-        if writeln!(
-            lines,
-            "{} {}..{end} {}",
-            heading.depth, heading.start, heading.text
-        )
-        .is_err()
-        {
-            return Err(Message);
-        }
+            .find(|other| other.depth <= depth)
+            .map_or(bytes.len(), |other| other.start);
+        writeln!(lines, "{depth} {start}..{end} {}", heading.text(bytes))?;
     }
     Ok(lines)
 }

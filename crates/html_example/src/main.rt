@@ -1,16 +1,16 @@
 // The program `html_example`: it reads a Markdown text from its standard input and prints the HTML of its blocks.
 //
 // It shows how to render from events. `render` walks the list of events once and writes, `tags` says what is written
-// around the parts of a text, `tables` how the columns of a table are aligned, and `escape` how text is written. What
+// around the parts of a text, `ahead` reads what has to be known where a block begins, and `escape` writes text. What
 // stands within a paragraph, as emphasis and links, is not read: that is the work of another layer, so it is written as
 // it stands. Raw HTML is escaped, so that no text can bring a script into a page.
 #![tactic(auto)]
 
 ghost use Rattle.markdown_blocks.specs.Parsed.{IsSmall};
 
+mod ahead;
 mod escape;
 mod render;
-mod tables;
 mod tags;
 
 use crate::render::render;

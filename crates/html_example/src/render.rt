@@ -1,18 +1,17 @@
 // The HTML of a list of events, in one walk from the first to the last.
 //
 // The list nests: a part has an enter and an exit, and what stands between them stands in the part. So tags are written
-// where parts begin and end, and only little has to be known of what is open. Texts are written where the exit of their
-// piece stands: a piece is entered right before, so it lies between the last enter and this exit.
+// where parts begin and end, and only little has to be known of what is open. Texts are written at the exit of their
+// piece: a piece is entered right before, so its bytes lie between the last enter and this exit.
 
+use crate::ahead::{atx_depth, list_start, read_columns, setext_depth};
 use crate::escape::{push_escaped, without_indent};
-use crate::tables::{Align, read_columns};
-use crate::tags::{Shown, end_tag, shown_behind, shown_in, tag};
+use crate::tags::{Shown, shown_behind, shown_in, tags};
 use markdown_blocks::event::{Event, Kind, Name, Point};
 use markdown_blocks::message::Message;
 use markdown_blocks::parser::ParseState;
 use md_seam::slice::{Position, Slice};
 use std::alloc::{AllocError, Global};
-use std::slice;
 
 /// What is written, and what has to be known of the parts that are open.
 #[derive(Drop)]
@@ -22,26 +21,26 @@ struct Page<'a> {
     html: String,
     /// Where the part begins that was entered last.
     start: Point,
-    /// What becomes of texts and line endings that come next.
+    /// What becomes of the texts and line endings that come next.
     shown: Shown,
-    /// The depth of the last heading, 0 as long as it is not known.
+    /// The depth of the last heading.
     depth: usize,
-    /// Whether an ordered list has begun whose tag is not written yet.
-    is_list_untold: bool,
-    /// The columns of the last table.
-    columns: Vec<Align>,
-    /// The name of a cell's tag.
-    cell: &'static str,
-    /// The column of the cell that comes next or is open.
+    /// The columns of the last table, each as the attribute of its cells.
+    columns: Vec<&'static str>,
+    /// The column of the cell that is open or comes next.
     column: usize,
-    /// The labels of the footnote definitions that come next.
-    footnotes: slice::Iter<'a, String>,
+    /// Whether the last row stands in the head of its table.
+    is_head: bool,
+    /// The labels of the footnote definitions, in the order of the text.
+    labels: &'a [String],
+    /// How many footnote definitions have begun.
+    footnotes: usize,
 }
 
 /// The blocks of a text as HTML. An `Err` says that memory ran out.
 ///
-/// All lists are loose: a paragraph in an item is a `<p>`, as it is elsewhere. Footnote definitions stand where the text
-/// has them. Definitions and frontmatter are not shown.
+/// All lists are loose: a paragraph in an item is a `<p>`, as elsewhere. Footnote definitions stand where the text has them.
+/// Definitions and frontmatter are not shown.
 pub fn render(alloc: Global, events: &[Event], state: &ParseState) -> Result<String, Message> {
     let mut page = Page {
         bytes: state.bytes,
@@ -53,12 +52,12 @@ pub fn render(alloc: Global, events: &[Event], state: &ParseState) -> Result<Str
             vs: 0,
         },
         shown: Shown::Nothing,
-        depth: 0,
-        is_list_untold: false,
+        depth: 1,
         columns: Vec::new(alloc),
-        cell: "td",
         column: 0,
-        footnotes: state.gfm_footnote_definitions.iter(),
+        is_head: false,
+        labels: &state.gfm_footnote_definitions,
+        footnotes: 0,
     };
     for (at, event) in events.iter().enumerate() {
         let written = match event.kind {
@@ -77,20 +76,21 @@ impl<'a> Page<'a> {
     fn enter(&mut self, event: &Event, ahead: &[Event]) -> Result<(), AllocError> {
         self.start = event.point;
         self.shown = shown_in(event.name).unwrap_or(self.shown);
-        self.html.push_str(tag(event.name))?;
+        self.html.push_str(tags(event.name).0)?;
         match event.name {
-            Name::ListOrdered => self.is_list_untold = true,
+            Name::ListOrdered => self.tell_list(list_start(self.bytes, ahead))?,
             Name::GfmFootnoteDefinition => self.tell_footnote()?,
-            Name::HeadingAtx => self.depth = 0,
+            Name::HeadingAtx => self.begin_heading(atx_depth(self.bytes, ahead))?,
             Name::HeadingSetext => self.begin_heading(setext_depth(self.bytes, ahead))?,
             Name::GfmTable => read_columns(&mut self.columns, self.bytes, ahead)?,
-            Name::GfmTableHead => self.cell = "th",
-            Name::GfmTableBody => self.cell = "td",
+            Name::GfmTableHead => self.is_head = true,
+            Name::GfmTableBody => self.is_head = false,
             Name::GfmTableRow => self.column = 0,
             Name::GfmTableCell => self.begin_cell()?,
-            // A row may have more cells than there are columns. These are not shown (GFM 4.10).
-            Name::GfmTableCellText if self.column >= self.columns.len() => self.shown =
-                Shown::Nothing,
+            // Cells behind the last column are not shown (GFM 4.10).
+            Name::GfmTableCellText if self.column >= self.columns.len() => {
+                self.shown = Shown::Nothing;
+            }
             _ => {}
         }
         Ok(())
@@ -98,88 +98,76 @@ impl<'a> Page<'a> {
 
     /// Ends a part.
     fn exit(&mut self, event: &Event) -> Result<(), AllocError> {
-        let piece = Slice::from_position(
-            self.bytes,
-            Position {
-                start: self.start,
-                end: event.point,
-            },
-        );
         match event.name {
-            Name::Data if self.shown == Shown::Text => {
-                push_escaped(&mut self.html, without_indent(piece.bytes))?
+            Name::Data if self.shown == Shown::Text => self.push_text(event.point)?,
+            Name::CodeFlowChunk | Name::MathFlowChunk | Name::HtmlFlowData => {
+                self.push_line(event.point)?;
             }
-            Name::CodeFlowChunk | Name::MathFlowChunk | Name::HtmlFlowData => self.push_line(
-                piece,
-            )?,
             Name::LineEnding => self.end_line(event.point)?,
-            Name::ListItemValue => self.tell_list(piece.bytes)?,
-            Name::HeadingAtxSequence if self.depth == 0 => self.begin_heading(piece.bytes.len())?,
-            Name::HeadingAtx | Name::HeadingSetext => write!(self.html, "</h{}>\n", self.depth)?,
-            // Only behind the first fence the tag of the block is still open.
+            // Behind the first fence the tag of the block is still open.
             Name::CodeFencedFence if self.shown == Shown::Nothing => self.html.push_str(">")?,
-            Name::CodeIndented | Name::CodeFenced | Name::MathFlow | Name::HtmlFlow =>
-                self.end_lines()?,
+            // The ending of the last line stands outside of the block.
+            Name::CodeIndented | Name::CodeFenced | Name::MathFlow | Name::HtmlFlow
+                if self.shown == Shown::Line => {
+                self.html.push_str("\n")?;
+            }
+            Name::HeadingAtx | Name::HeadingSetext => write!(self.html, "</h{}>\n", self.depth)?,
             Name::GfmTableCell => self.end_cell()?,
             Name::GfmTableRow => self.fill_row()?,
             _ => {}
         }
         self.shown = shown_behind(event.name).unwrap_or(self.shown);
-        self.html.push_str(end_tag(event.name))
+        self.html.push_str(tags(event.name).1)
     }
 
-    /// Writes a line of code, math or HTML. Where a container has cut a tab, the columns that are left of it are spaces.
-    fn push_line(&mut self, piece: Slice<'_>) -> Result<(), AllocError> {
+    /// What stands in the piece that ends here.
+    fn piece(&self, end: Point) -> Slice<'a> {
+        let start = self.start;
+        Slice::from_position(self.bytes, Position { start, end })
+    }
+
+    /// Writes a line of a text. What a container has left of a tab in front of it is indent too.
+    fn push_text(&mut self, end: Point) -> Result<(), AllocError> {
+        let piece = self.piece(end);
+        push_escaped(&mut self.html, without_indent(piece.bytes))
+    }
+
+    /// Writes a line of code, math or HTML. What a container has left of a tab in front of it are spaces.
+    fn push_line(&mut self, end: Point) -> Result<(), AllocError> {
+        let piece = self.piece(end);
         for _ in 0..piece.before {
             self.html.push_str(" ")?;
         }
         push_escaped(&mut self.html, piece.bytes)
     }
 
-    /// Goes to the next line of the text that is shown.
+    /// Goes to the next line of what is shown. Behind the ending that the text ends with no line begins.
     fn end_line(&mut self, end: Point) -> Result<(), AllocError> {
         if matches!(self.shown, Shown::Text | Shown::Line) {
             self.html.push_str("\n")?;
         }
-        // Behind the ending that the text ends with no line begins.
         if matches!(self.shown, Shown::Lines | Shown::Line) {
-            self.shown = if end.index < self.bytes.len() {
-                Shown::Line
-            } else {
-                Shown::Lines
-            };
+            let is_last = end.index >= self.bytes.len();
+            self.shown = if is_last { Shown::Lines } else { Shown::Line };
         }
         Ok(())
     }
 
-    /// Ends the last line of code, math or HTML, where its own ending stands outside of the block.
-    fn end_lines(&mut self) -> Result<(), AllocError> {
-        if self.shown == Shown::Line {
-            self.html.push_str("\n")?;
+    /// Ends the tag of an ordered list.
+    fn tell_list(&mut self, start: u32) -> Result<(), AllocError> {
+        if start != 1 {
+            write!(self.html, " start=\"{start}\"")?;
         }
-        Ok(())
+        self.html.push_str(">\n")
     }
 
-    /// Writes the tag of an ordered list, once its first number is known.
-    fn tell_list(&mut self, digits: &[u8]) -> Result<(), AllocError> {
-        if !self.is_list_untold {
-            return Ok(());
-        }
-        self.is_list_untold = false;
-        match str::from_utf8(digits).unwrap_or("").parse::<u32>() {
-            Ok(start) if start != 1 => write!(self.html, "<ol start=\"{start}\">\n"),
-            _ => self.html.push_str("<ol>\n"),
-        }
-    }
-
-    /// Writes the rest of the tag of a footnote definition. The labels beside the events are in the order of the text.
+    /// Ends the tag of a footnote definition. The labels beside the events are in the order of the text.
     fn tell_footnote(&mut self) -> Result<(), AllocError> {
-        let label = match self.footnotes.next() {
-            Some(label) => label.as_bytes(),
-            None => &[],
-        };
         self.html.push_str(" id=\"fn-")?;
-        push_escaped(&mut self.html, label)?;
+        if let Some(label) = self.labels.get(self.footnotes) {
+            push_escaped(&mut self.html, label.as_bytes())?;
+            self.footnotes += 1;
+        }
         self.html.push_str("\">\n")
     }
 
@@ -188,44 +176,34 @@ impl<'a> Page<'a> {
         write!(self.html, "<h{depth}>")
     }
 
+    /// The name of the tag of a cell.
+    fn cell(&self) -> &'static str {
+        if self.is_head { "th" } else { "td" }
+    }
+
     fn begin_cell(&mut self) -> Result<(), AllocError> {
+        let cell = self.cell();
         match self.columns.get(self.column) {
-            Some(align) => write!(self.html, "<{}{}>", self.cell, align.attribute()),
+            Some(attribute) => write!(self.html, "<{cell}{attribute}>"),
             None => Ok(()),
         }
     }
 
     fn end_cell(&mut self) -> Result<(), AllocError> {
+        let cell = self.cell();
         if self.column < self.columns.len() {
             self.column += 1;
-            write!(self.html, "</{}>\n", self.cell)?;
+            write!(self.html, "</{cell}>\n")?;
         }
         Ok(())
     }
 
-    /// Writes empty cells for those that a row lacks (GFM 4.10).
+    /// Writes empty cells where a row has fewer than there are columns (GFM 4.10).
     fn fill_row(&mut self) -> Result<(), AllocError> {
-        for align in self.columns.iter().skip(self.column) {
-            write!(
-                self.html,
-                "<{}{}></{}>\n",
-                self.cell,
-                align.attribute(),
-                self.cell
-            )?;
+        let cell = self.cell();
+        for attribute in self.columns.iter().skip(self.column) {
+            write!(self.html, "<{cell}{attribute}></{cell}>\n")?;
         }
         Ok(())
-    }
-}
-
-/// The depth of the setext heading that begins with these events. Its underline stands behind its text, so this looks
-/// ahead.
-fn setext_depth(bytes: &[u8], ahead: &[Event]) -> usize {
-    let underline = ahead
-        .iter()
-        .find(|event| event.name == Name::HeadingSetextUnderlineSequence);
-    match underline {
-        Some(event) if bytes.get(event.point.index) == Some(&b'=') => 1,
-        _ => 2,
     }
 }
