@@ -1,9 +1,9 @@
 #!/usr/bin/env bash
-# Tries that a program which drops the text and then uses a line of its outline does not compile: these lines are lent from the
-# text. No must-fail edit can say so, since what the borrow checker refuses does not reach the prover.
+# Tries that a program which drops the text and then uses a line of its outline does not compile: these lines are lent
+# from the text. No must-fail edit can say so, since what the borrow checker refuses does not reach the prover.
 #
-# Two copies of `crates/usage` keep the text in a `String` of their own. One drops it behind the last use of a line, and prints
-# what `crates/usage` does. The other drops it in front of that, and the borrow checker has to say so at that line.
+# Two copies of `crates/usage` keep the text in a `String` of their own. One drops it behind the last use of a line, and
+# prints what `crates/usage` does. The other drops it in front of that, which the borrow checker must refuse.
 set -euo pipefail
 cd "$(dirname "$0")/.."
 work=$(mktemp -d)
@@ -44,13 +44,14 @@ try() {
 write late
 try
 if ! cmp -s "$work/said" crates/usage/stdout; then
-    echo "does not compile: the text is dropped behind the last use of a line, and the program does not print what it should:"
+    echo "does not compile: the text is dropped behind the last use of a line, and the program prints something else:"
     head -n 20 "$work/said" "$work/errors"
     exit 1
 fi
 write early
 try
-if ! grep -q 'error\[borrow-e0505\]: cannot move out of `kept` because it is borrowed' "$work/said" "$work/errors"; then
+refusal='error\[borrow-e0505\]: cannot move out of `kept` because it is borrowed'
+if ! grep -q "$refusal" "$work/said" "$work/errors"; then
     echo "does not compile: the text is dropped before a line is used, and the compiler does not refuse it for that:"
     head -n 20 "$work/said" "$work/errors"
     exit 1

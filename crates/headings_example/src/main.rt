@@ -1,4 +1,5 @@
-// The program `headings_example`: it reads a Markdown text from its standard input and prints an outline of its headings.
+// The program `headings_example`: it reads a Markdown text from its standard input and prints an outline of its
+// headings.
 //
 // A line for each heading: its depth, the bytes of its section, and its text as it stands. A section reaches from its
 // heading to the next one that is not deeper, or to the end of the text. Headings in block quotes, items and footnote
@@ -32,8 +33,8 @@ fn outline(alloc: Global, text: &str) -> Result<String, Message>
     }
 }
 
-/// A line for each heading. Each look for the end of a section passes that section alone, and sections of one depth do not
-/// overlap, so all looks together pass each heading six times at most.
+/// A line for each heading. Each look for the end of a section passes that section alone, and sections of one depth do
+/// not overlap, so all looks together pass each heading six times at most.
 fn sections(alloc: Global, events: &[Event], bytes: &[u8]) -> Result<String, AllocError> {
     let found = headings(alloc, events, bytes)?;
     let mut lines = String::new(alloc);

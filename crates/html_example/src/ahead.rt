@@ -1,7 +1,8 @@
 // What has to be known of a block where it begins, and stands further on in it.
 //
-// The tag of a heading, of an ordered list and of a cell stands in front of what tells it: the underline, the number of the
-// first item, the delimiter row. So the renderer looks ahead from the enter of the block, never further than through it.
+// The tag of a heading, of an ordered list and of a cell stands in front of what tells it: the underline, the number
+// of the first item, the delimiter row. So the renderer looks ahead from the enter of the block, never further than
+// through it.
 
 use markdown_blocks::event::{Event, Kind, Name};
 use std::alloc::AllocError;

@@ -39,8 +39,8 @@ struct Page<'a> {
 
 /// The blocks of a text as HTML. An `Err` says that memory ran out.
 ///
-/// All lists are loose: a paragraph in an item is a `<p>`, as elsewhere. Footnote definitions stand where the text has them.
-/// Definitions and frontmatter are not shown.
+/// All lists are loose: a paragraph in an item is a `<p>`, as elsewhere. Footnote definitions stand where the text has
+/// them. Definitions and frontmatter are not shown.
 pub fn render(alloc: Global, events: &[Event], state: &ParseState) -> Result<String, Message> {
     let mut page = Page {
         bytes: state.bytes,
