@@ -10,7 +10,7 @@ use crate::tags::{Shown, shown_behind, shown_in, tags};
 use markdown_blocks::event::{Event, Kind, Name, Point};
 use markdown_blocks::message::Message;
 use markdown_blocks::parser::ParseState;
-use md_seam::slice::{Position, Slice};
+use markdown_blocks::slice::{Position, Slice};
 use std::alloc::{AllocError, Global};
 
 /// What is written, and what has to be known of the parts that are open.
