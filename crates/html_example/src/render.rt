@@ -1,0 +1,209 @@
+// The HTML of a list of events, in one walk from the first to the last.
+//
+// The list nests: a part has an enter and an exit, and what stands between them stands in the part. So tags are written
+// where parts begin and end, and only little has to be known of what is open. Texts are written at the exit of their
+// piece: a piece is entered right before, so its bytes lie between the last enter and this exit.
+
+use crate::ahead::{atx_depth, list_start, read_columns, setext_depth};
+use crate::escape::{push_escaped, without_indent};
+use crate::tags::{Shown, shown_behind, shown_in, tags};
+use markdown_blocks::event::{Event, Kind, Name, Point};
+use markdown_blocks::message::Message;
+use markdown_blocks::parser::ParseState;
+use markdown_blocks::slice::{Position, Slice};
+use std::alloc::{AllocError, Global};
+
+/// What is written, and what has to be known of the parts that are open.
+#[derive(Drop)]
+struct Page<'a> {
+    /// The text.
+    bytes: &'a [u8],
+    html: String,
+    /// Where the part begins that was entered last.
+    start: Point,
+    /// What becomes of the texts and line endings that come next.
+    shown: Shown,
+    /// The depth of the last heading.
+    depth: usize,
+    /// The columns of the last table, each as the attribute of its cells.
+    columns: Vec<&'static str>,
+    /// The column of the cell that is open or comes next.
+    column: usize,
+    /// Whether the last row stands in the head of its table.
+    is_head: bool,
+    /// The labels of the footnote definitions, in the order of the text.
+    labels: &'a [String],
+    /// How many footnote definitions have begun.
+    footnotes: usize,
+}
+
+/// The blocks of a text as HTML. An `Err` says that memory ran out.
+///
+/// All lists are loose: a paragraph in an item is a `<p>`, as elsewhere. Footnote definitions stand where the text has
+/// them. Definitions and frontmatter are not shown.
+pub fn render(alloc: Global, events: &[Event], state: &ParseState) -> Result<String, Message> {
+    let mut page = Page {
+        bytes: state.bytes,
+        html: String::new(alloc),
+        start: Point {
+            line: 1,
+            column: 1,
+            index: 0,
+            vs: 0,
+        },
+        shown: Shown::Nothing,
+        depth: 1,
+        columns: Vec::new(alloc),
+        column: 0,
+        is_head: false,
+        labels: &state.gfm_footnote_definitions,
+        footnotes: 0,
+    };
+    for (at, event) in events.iter().enumerate() {
+        let written = match event.kind {
+            Kind::Enter => page.enter(event, events.get(at..).unwrap_or(&[])),
+            Kind::Exit => page.exit(event),
+        };
+        if written.is_err() {
+            return Err(Message);
+        }
+    }
+    Ok(page.html)
+}
+
+impl<'a> Page<'a> {
+    /// Begins a part; `ahead` are the events from its enter on.
+    fn enter(&mut self, event: &Event, ahead: &[Event]) -> Result<(), AllocError> {
+        self.start = event.point;
+        self.shown = shown_in(event.name).unwrap_or(self.shown);
+        self.html.push_str(tags(event.name).0)?;
+        match event.name {
+            Name::ListOrdered => self.tell_list(list_start(self.bytes, ahead))?,
+            Name::GfmFootnoteDefinition => self.tell_footnote()?,
+            Name::HeadingAtx => self.begin_heading(atx_depth(self.bytes, ahead))?,
+            Name::HeadingSetext => self.begin_heading(setext_depth(self.bytes, ahead))?,
+            Name::GfmTable => read_columns(&mut self.columns, self.bytes, ahead)?,
+            Name::GfmTableHead => self.is_head = true,
+            Name::GfmTableBody => self.is_head = false,
+            Name::GfmTableRow => self.column = 0,
+            Name::GfmTableCell => self.begin_cell()?,
+            // Cells behind the last column are not shown (GFM 4.10).
+            Name::GfmTableCellText if self.column >= self.columns.len() => {
+                self.shown = Shown::Nothing;
+            }
+            _ => {}
+        }
+        Ok(())
+    }
+
+    /// Ends a part.
+    fn exit(&mut self, event: &Event) -> Result<(), AllocError> {
+        match event.name {
+            Name::Data if self.shown == Shown::Text => self.push_text(event.point)?,
+            Name::CodeFlowChunk | Name::MathFlowChunk | Name::HtmlFlowData => {
+                self.push_line(event.point)?;
+            }
+            Name::LineEnding => self.end_line(event.point)?,
+            // Behind the first fence the tag of the block is still open.
+            Name::CodeFencedFence if self.shown == Shown::Nothing => self.html.push_str(">")?,
+            // The ending of the last line stands outside of the block.
+            Name::CodeIndented | Name::CodeFenced | Name::MathFlow | Name::HtmlFlow
+                if self.shown == Shown::Line => {
+                self.html.push_str("\n")?;
+            }
+            Name::HeadingAtx | Name::HeadingSetext => write!(self.html, "</h{}>\n", self.depth)?,
+            Name::GfmTableCell => self.end_cell()?,
+            Name::GfmTableRow => self.fill_row()?,
+            _ => {}
+        }
+        self.shown = shown_behind(event.name).unwrap_or(self.shown);
+        self.html.push_str(tags(event.name).1)
+    }
+
+    /// What stands in the piece that ends here.
+    fn piece(&self, end: Point) -> Slice<'a> {
+        let start = self.start;
+        Slice::from_position(self.bytes, Position { start, end })
+    }
+
+    /// Writes a line of a text. What a container has left of a tab in front of it is indent too.
+    fn push_text(&mut self, end: Point) -> Result<(), AllocError> {
+        let piece = self.piece(end);
+        push_escaped(&mut self.html, without_indent(piece.bytes))
+    }
+
+    /// Writes a line of code, math or HTML. What a container has left of a tab in front of it are spaces.
+    fn push_line(&mut self, end: Point) -> Result<(), AllocError> {
+        let piece = self.piece(end);
+        for _ in 0..piece.before {
+            self.html.push_str(" ")?;
+        }
+        push_escaped(&mut self.html, piece.bytes)
+    }
+
+    /// Goes to the next line of what is shown. Behind the ending that the text ends with no line begins.
+    fn end_line(&mut self, end: Point) -> Result<(), AllocError> {
+        if matches!(self.shown, Shown::Text | Shown::Line) {
+            self.html.push_str("\n")?;
+        }
+        if matches!(self.shown, Shown::Lines | Shown::Line) {
+            let is_last = end.index >= self.bytes.len();
+            self.shown = if is_last { Shown::Lines } else { Shown::Line };
+        }
+        Ok(())
+    }
+
+    /// Ends the tag of an ordered list.
+    fn tell_list(&mut self, start: u32) -> Result<(), AllocError> {
+        if start != 1 {
+            write!(self.html, " start=\"{start}\"")?;
+        }
+        self.html.push_str(">\n")
+    }
+
+    /// Ends the tag of a footnote definition. The labels beside the events are in the order of the text.
+    fn tell_footnote(&mut self) -> Result<(), AllocError> {
+        self.html.push_str(" id=\"fn-")?;
+        if let Some(label) = self.labels.get(self.footnotes) {
+            push_escaped(&mut self.html, label.as_bytes())?;
+            self.footnotes += 1;
+        }
+        self.html.push_str("\">\n")
+    }
+
+    fn begin_heading(&mut self, depth: usize) -> Result<(), AllocError> {
+        self.depth = depth;
+        write!(self.html, "<h{depth}>")
+    }
+
+    /// The name of the tag of a cell.
+    fn cell(&self) -> &'static str {
+        if self.is_head { "th" } else { "td" }
+    }
+
+    fn begin_cell(&mut self) -> Result<(), AllocError> {
+        let cell = self.cell();
+        match self.columns.get(self.column) {
+            Some(attribute) => write!(self.html, "<{cell}{attribute}>"),
+            None => Ok(()),
+        }
+    }
+
+    fn end_cell(&mut self) -> Result<(), AllocError> {
+        let cell = self.cell();
+        if self.column < self.columns.len() {
+            self.column += 1;
+            write!(self.html, "</{cell}>\n")?;
+        }
+        Ok(())
+    }
+
+    /// Writes empty cells where a row has fewer than there are columns (GFM 4.10).
+    fn fill_row(&mut self) -> Result<(), AllocError> {
+        let cell = self.cell();
+        for attribute in self.columns.iter().skip(self.column) {
+            write!(self.html, "<{cell}{attribute}></{cell}>\n")?;
+        }
+        Ok(())
+    }
+}

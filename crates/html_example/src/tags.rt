@@ -1,0 +1,63 @@
+// What is written around the parts of a text, and what becomes of the text in them, by their names.
+
+use markdown_blocks::event::Name;
+
+/// What becomes of texts and line endings.
+#[derive(Clone, Copy, PartialEq, Eq)]
+pub(crate) enum Shown {
+    /// They are not written, as between blocks and in what a reader of the page does not see.
+    Nothing,
+    /// Each line is written without its indent, and an ending between two lines.
+    Text,
+    /// Each line is written as it stands, with an ending; none has begun yet.
+    Lines,
+    /// The same, where a line has begun whose ending is not written yet.
+    Line,
+}
+
+/// What becomes of the text in a part of this name, if that changes where it begins.
+pub(crate) fn shown_in(name: Name) -> Option<Shown> {
+    match name {
+        Name::Paragraph
+        | Name::HeadingAtxText
+        | Name::HeadingSetextText
+        | Name::GfmTableCellText
+        | Name::CodeFencedFenceInfo => Some(Shown::Text),
+        // Indented code and HTML begin with their first line.
+        Name::CodeIndented | Name::HtmlFlow => Some(Shown::Line),
+        _ => None,
+    }
+}
+
+/// What becomes of the text behind a part of this name, if that changes where it ends.
+pub(crate) fn shown_behind(name: Name) -> Option<Shown> {
+    match name {
+        // The ending behind the first fence begins the first line. The last fence is no line.
+        Name::CodeFencedFence | Name::MathFlowFence => Some(Shown::Lines),
+        Name::CodeFenced | Name::MathFlow => Some(Shown::Nothing),
+        _ if shown_in(name).is_some() => Some(Shown::Nothing),
+        _ => None,
+    }
+}
+
+/// What is written where a part of this name begins, and where it ends, as far as the name alone tells it.
+pub(crate) fn tags(name: Name) -> (&'static str, &'static str) {
+    match name {
+        Name::BlockQuote => ("<blockquote>\n", "</blockquote>\n"),
+        Name::ListOrdered => ("<ol", "</ol>\n"),
+        Name::ListUnordered => ("<ul>\n", "</ul>\n"),
+        Name::ListItem => ("<li>\n", "</li>\n"),
+        Name::GfmFootnoteDefinition => ("<section class=\"footnote\"", "</section>\n"),
+        Name::Paragraph => ("<p>", "</p>\n"),
+        Name::ThematicBreak => ("<hr />\n", ""),
+        Name::CodeIndented => ("<pre><code>", "</code></pre>\n"),
+        Name::CodeFenced => ("<pre><code", "</code></pre>\n"),
+        Name::CodeFencedFenceInfo => (" class=\"language-", "\""),
+        Name::MathFlow => ("<pre><code class=\"language-math\">", "</code></pre>\n"),
+        Name::GfmTable => ("<table>\n", "</table>\n"),
+        Name::GfmTableHead => ("<thead>\n", "</thead>\n"),
+        Name::GfmTableBody => ("<tbody>\n", "</tbody>\n"),
+        Name::GfmTableRow => ("<tr>\n", "</tr>\n"),
+        _ => ("", ""),
+    }
+}
