@@ -38,7 +38,7 @@ fence-unlinked line p =
         (
           refl,
           each-append IsUnlinked (part_over n.SpaceOrTab (drop 3 line) q r) (exit n.FrontmatterFence r ∷ [])
-          (over-unlinked n.SpaceOrTab (drop 3 line) q r) (refl, tt),
+              (over-unlinked n.SpaceOrTab (drop 3 line) q r) (refl, tt),
         ),
       ),
     )
@@ -94,11 +94,10 @@ from-unlinked (Some m) full more p =
     let ending : List ℕ = ending_of full in
     let q : Point = past_text line p in
     these-unlinked (enter n.Frontmatter p ∷ fence_part line p ++ ending_part ending q)
-    (lines_read m more (past_ending ending q))
-    (
+    (lines_read m more (past_ending ending q)) (
       refl,
       each-append IsUnlinked (fence_part line p) (ending_part ending q) (fence-unlinked line p)
-      (ending-unlinked ending q),
+          (ending-unlinked ending q),
     )
     (lines-unlinked m more (past_ending ending q))
 

@@ -46,8 +46,7 @@ first-later p x xs e =
     let n = position_or_len p xs in
     let more : position_or_len p (x ∷ xs) ≡ suc n =
     ap (λ (t : Bool). cond (not t) (1 + n) 0) e ∙ omega arith in
-    let two : suc n + 1 ≡ suc (n + 1) = omega arith in
-    (
+    let two : suc n + 1 ≡ suc (n + 1) = omega arith in (
       ap (λ (i : ℕ). take i (x ∷ xs)) more,
       ap (λ (i : ℕ). drop (i + 1) (x ∷ xs)) more ∙ ap (λ (i : ℕ). drop i (x ∷ xs)) two,
     )
@@ -142,8 +141,7 @@ last-text : (bytes line : List ℕ) (p : Point) → Here bytes line p → NoEndi
 last-text bytes line p at bare =
     let stands : drop p.index bytes ≡ line ++ [] = at.stands ∙ sym (append-nil line) in
     let none : drop (past_text line p).index bytes ≡ [] =
-    ap (λ (i : ℕ). drop i bytes) (past-index line p) ∙ drop-past bytes p.index line [] stands in
-    (
+    ap (λ (i : ℕ). drop i bytes) (past-index line p) ∙ drop-past bytes p.index line [] stands in (
       record {
         no_ending = bare;
         stands = stands ∙ ap (λ (l : List ℕ). line ++ l) (sym none);

@@ -39,6 +39,7 @@ pub use crate::construct::registry::{
     container_new_before, container_new_before_not_block_quote, container_new_before_not_list,
 };
 use crate::resolve;
+use md_containers::frontmatter;
 use md_engine::event::Name;
 use md_engine::message::Message;
 use md_engine::or_error;
@@ -52,7 +53,6 @@ use md_engine::stay::Stay;
 use md_engine::subtokenize::Subresult;
 use md_engine::table::Table;
 use md_engine::tokenizer::{Container, ContainerKind, Flags, HeldLeaf, Tokenizer};
-use md_containers::frontmatter;
 use md_leaves::blank_line::ends_line;
 use md_leaves::partial_bom;
 use md_seam::space_or_tab;
