@@ -1,5 +1,5 @@
 -- No chunk begins in front of the lines of a text: no event of its mark or of its frontmatter is linked.
-use Rattle.std.proofs.Common.{◌≡◌, ℕ, Bool, true, false, cond, List, [], ◌∷◌, ◌++◌, drop, length, take, Option, Some, None}
+use Rattle.std.proofs.Common.{◌≡◌, ℕ, Bool, true, false, cond, List, [], ◌∷◌, ◌++◌, drop, take, Option, Some, None}
 use Rattle.std.proofs.Common.{refl, ap}
 use Rattle.std.specs.Prelude.{option_map, is_none}
 use Rattle.std.specs.List.{list_all}

@@ -1,5 +1,13 @@
-use Rattle.std.proofs.Common.{◌∙◌, ap}
-use Rattle.md_engine.specs.World.{Setting, World}
+use Rattle.std.proofs.Common.{◌≡◌, ◌^◌, ◌<◌, ℕ, List, length, ◌∙◌, ap, refl, sym, subst, arith}
+use Rattle.std.specs.Str.{IsUtf8}
+use Rattle.md_engine.specs.Found.{Found, found_in}
+use Rattle.md_engine.specs.World.{Setting, World, world}
+use Rattle.md_engine.specs.declared.event.Event.{Event}
+use Rattle.md_engine.specs.declared.event.Point.{Point}
+use Rattle.md_engine.specs.declared.parse_state.ParseState.{ParseState}
+use Rattle.md_seam.specs.TextPart.{document_of}
+use Rattle.markdown_blocks.specs.Footnotes.{footnotes_listed}
+use Rattle.markdown_blocks.specs.Parsed.{IsRead}
 use Rattle.markdown_blocks.proofs.ReadsWith.{IsAhead, parts-asked, reads-with}
 use Rattle.markdown_blocks.proofs.parser.parse_with.Goals as goal
 
@@ -21,7 +29,80 @@ subtokenize-requires-clause-placed g c =
     rw events_are (rw same at c.in_ok-tokenizer.tokenizer.sound.right)
 
 pub subtokenize-requires-clause-asked : goal.subtokenize-requires-clause-asked
-subtokenize-requires-clause-asked g c = ?
+subtokenize-requires-clause-asked g c =
+    let bytes : List ℕ = c.as_bytes-bytes.result.now in
+    let state : ParseState = record {
+      options = c.args.options;
+      bytes = c.as_bytes-bytes.result;
+      definitions = c.in_ok-tokenizer.found.definitions;
+      gfm_footnote_definitions = c.in_ok-footnotes.footnotes;
+    } in
+    let start : Point = c.in_ok-front.front.point in
+    let found : Found = found_in c.in_ok-tokenizer.found in
+    let new : World = world c.in_ok-tokenizer.tokenizer in
+    let mark : List Event = c.in_ok-front.front.events.items in
+    let items : List Event = c.deref-2.result.now in
+    let items_are : items ≡ new.events =
+    c.deref-2.ensures.value ∙ ap (λ (w : World). w.events) c.take_spare-spare.ensures.same in
+    let same : c.in_ok-tokenizer.tokenizer.bytes.now ≡ bytes =
+    ap (λ (x : Setting). x.bytes) c.in_ok-tokenizer.ensures.setting in
+    let text : bytes ≡ c.args.value.now = c.as_bytes-bytes.ensures.value in
+    let small : length c.args.value.now < 2 ^ 61 = omega (arith, c.requires.size) in
+    let ahead : IsAhead state start found new mark items = record {
+      built = c.requires.built;
+      utf8 = subst IsUtf8 (sym text) c.utf8.value;
+      small = subst (λ (l : List ℕ). length l < 2 ^ 61) (sym text) small;
+      starts = c.in_ok-front.ensures.point;
+      marks = c.in_ok-front.ensures.events;
+      flow = c.in_ok-tokenizer.ensures;
+      items_are = items_are;
+      mark_placed = rw c.in_ok-front.ensures.bytes_are at c.in_ok-front.front.sound.right;
+      items_placed = rw items_are (rw same at c.in_ok-tokenizer.tokenizer.sound.right);
+      definitions = refl;
+      footnotes =
+          c.in_ok-footnotes.ensures
+          ∙ ap (footnotes_listed c.args.options.now bytes) (c.deref.ensures.value ∙ sym items_are);
+    } in
+    parts-asked state start found new mark items ahead
 
 pub returns : goal.returns
-returns g c = ?
+returns g c =
+    let bytes : List ℕ = c.as_bytes-bytes.result.now in
+    let state : ParseState = record {
+      options = c.args.options;
+      bytes = c.as_bytes-bytes.result;
+      definitions = c.in_ok-tokenizer.found.definitions;
+      gfm_footnote_definitions = c.in_ok-footnotes.footnotes;
+    } in
+    let start : Point = c.in_ok-front.front.point in
+    let found : Found = found_in c.in_ok-tokenizer.found in
+    let new : World = world c.in_ok-tokenizer.tokenizer in
+    let mark : List Event = c.in_ok-front.front.events.items in
+    let items : List Event = c.deref-2.result.now in
+    let items_are : items ≡ new.events =
+    c.deref-2.ensures.value ∙ ap (λ (w : World). w.events) c.take_spare-spare.ensures.same in
+    let same : c.in_ok-tokenizer.tokenizer.bytes.now ≡ bytes =
+    ap (λ (x : Setting). x.bytes) c.in_ok-tokenizer.ensures.setting in
+    let text : bytes ≡ c.args.value.now = c.as_bytes-bytes.ensures.value in
+    let small : length c.args.value.now < 2 ^ 61 = omega (arith, c.requires.size) in
+    let ahead : IsAhead state start found new mark items = record {
+      built = c.requires.built;
+      utf8 = subst IsUtf8 (sym text) c.utf8.value;
+      small = subst (λ (l : List ℕ). length l < 2 ^ 61) (sym text) small;
+      starts = c.in_ok-front.ensures.point;
+      marks = c.in_ok-front.ensures.events;
+      flow = c.in_ok-tokenizer.ensures;
+      items_are = items_are;
+      mark_placed = rw c.in_ok-front.ensures.bytes_are at c.in_ok-front.front.sound.right;
+      items_placed = rw items_are (rw same at c.in_ok-tokenizer.tokenizer.sound.right);
+      definitions = refl;
+      footnotes =
+          c.in_ok-footnotes.ensures
+          ∙ ap (footnotes_listed c.args.options.now bytes) (c.deref.ensures.value ∙ sym items_are);
+    } in
+    subst
+    (λ (l : List ℕ).
+    IsRead (g.I.Inline.reads c.args.inline.now) l c.args.options.now c.in_ok-events.events.items state) text
+    (reads-with state start found new mark items ahead (g.I.Inline.reads c.args.inline.now)
+    (g.met.I.Inline.keeps_frame c.args.inline.now (document_of state)) c.in_ok-body.body.items
+    c.in_ok-events.events.items c.in_ok-body.ensures.substituted c.in_ok-events.ensures)

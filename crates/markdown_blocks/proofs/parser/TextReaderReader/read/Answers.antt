@@ -1,5 +1,4 @@
 use Rattle.std.proofs.Common.{◌≡◌, ◌^◌, ◌<◌, ℕ, true, List, [], ◌∷◌, length, subst, sym}
-use Rattle.std.specs.List.{list_all}
 use Rattle.std.proofs.lemmas.Bool.{and_parts}
 use Rattle.std.proofs.lemmas.List.Elements.{All-cons, All-nil}
 use Rattle.std.proofs.lemmas.Result.{IfOk-weaker}
@@ -9,7 +8,7 @@ use Rattle.md_seam.specs.declared.inline.PartKind.{PartKind}
 use Rattle.md_seam.specs.Events.Inline.{Part}
 use Rattle.md_seam.specs.Events.Places.{are_placed, is_placed}
 use Rattle.md_seam.specs.Parts.{ArePlaced}
-use Rattle.md_seam.specs.TextPart.{Document, IsTextPart, document_of, text_kind}
+use Rattle.md_seam.specs.TextPart.{Document, IsTextPart, document_of}
 use Rattle.md_seam.proofs.TextParts.{text-part}
 use Rattle.md_seam.proofs.WalkedLemmas.{placed-point}
 use Rattle.markdown_blocks.proofs.parser.TextReaderReader.read.Goals as goal
