@@ -8,5 +8,5 @@ pub mod resolve;
 
 pub use md_engine::{configuration, event, message, state, subtokenize, table, tokenizer};
 pub use md_outline::outline;
-pub use md_seam::{inline, plain, slice};
+pub use md_seam::{inline, slice};
 pub use md_wrap::wrap;

@@ -13,7 +13,7 @@ use Rattle.md_seam.specs.Events.Endings.{endings_stand}
 use Rattle.md_seam.specs.Events.Grammar.{keeps_grammar, unread_text}
 use Rattle.md_seam.specs.Events.Pieces.{pieces_stand}
 use Rattle.md_seam.specs.Events.Tiles.{parts_stand, chunks_stand}
-use Rattle.md_seam.proofs.EventRowParts.{at, within_tab, chunk}
+use Rattle.md_seam.proofs.EventRowParts.{at, within_tab, chunk, string_chunk}
 
 -- How the lists are written.
 
@@ -575,6 +575,8 @@ record Unread : Type 0 where
   -- two chunks on one line: "ab"
   two_chunks_on_a_line : parts_stand (codes "ab") (
       around n.Paragraph (on 0) (on 2) (chunk (on 0) (on 1) ++ chunk (on 1) (on 2))) ≡ false
+  -- a string in the place of a text: "a"
+  other_kind : parts_stand (codes "a") (around n.Paragraph (on 0) (on 1) (string_chunk (on 0) (on 1))) ≡ false
   -- a chunk over nothing: "a"
   empty_chunk : pieces_stand (codes "a") (pieces (
       around n.Paragraph (on 0) (on 1) (chunk (on 0) (on 1) ++ chunk (on 1) (on 1)))) ≡ false
@@ -591,6 +593,7 @@ unread = record {
   late_chunk = refl;
   early_part = refl;
   two_chunks_on_a_line = refl;
+  other_kind = refl;
   empty_chunk = refl;
 }
 
