@@ -232,6 +232,38 @@ TABLES: dict[str, Callable[[int], str]] = {
     "a head of 100,000 cells and a delimiter row of one fewer": lambda n: "|a" * 100_000 * n + "\n" + "|-" * (100_000 * n - 1) + "\n",
 }
 
+
+def front(lines: int, line: str, behind: str) -> str:
+    """A text that begins as frontmatter does, with so many lines and with this behind them."""
+    return "---\n" + f"{line}\n" * lines + behind
+
+
+def in_notes(notes: int) -> str:
+    """So many footnote definitions in one another, each on a line of its own."""
+    return "".join("    " * depth + "[^a]: b\n" for depth in range(notes))
+
+
+# The same, of footnote definitions, of frontmatter, and of what is almost some.
+EXTENSIONS: dict[str, Callable[[int], str]] = {
+    "10,000 footnote definitions": lambda n: "[^a]: b\n" * 10_000 * n,
+    "10,000 footnote definitions in a quote": lambda n: "> [^a]: b\n" * 10_000 * n,
+    "10,000 footnote definitions without text": lambda n: "[^a]:\n" * 10_000 * n,
+    "a footnote definition of 100,000 paragraphs": lambda n: "[^a]: b\n" + "\n    b\n" * 100_000 * n,
+    "a footnote definition with 100,000 lazy lines": lambda n: "[^a]: b\n" + "b\n" * 100_000 * n,
+    "1,000 footnote definitions in one another on one line": lambda n: "[^a]: " * 1_000 * n + "b\n",
+    "200 footnote definitions in one another line by line": lambda n: in_notes(int(200 * n**0.5)),
+    "1,000 such with 1,000 blank lines, twice both": lambda n: "[^a]: " * 1_000 * n + "b\n" + "\n" * 1_000 * n,
+    "1,000 labels of 990 bytes": lambda n: f"[^{'a' * 990}]: b\n" * 1_000 * n,
+    "1,000 labels of 990 bytes that are not closed": lambda n: f"[^{'a' * 990}\n\n" * 1_000 * n,
+    "a label of 1,000,000 bytes": lambda n: "[^" + "a" * 1_000_000 * n + "]: b\n",
+    "frontmatter of 8 MB": lambda n: front(101_000 * n, LINE, "---\n"),
+    "frontmatter of 8 MB that is not closed": lambda n: front(101_000 * n, LINE, ""),
+    "100,000 lines in frontmatter, too short to close it": lambda n: front(100_000 * n, "--", "---\n"),
+    "such lines, and nothing that closes it": lambda n: front(100_000 * n, "--", ""),
+    "100,000 blank lines in frontmatter": lambda n: front(100_000 * n, "", "---\n"),
+    "100,000 blank lines, and nothing that closes it": lambda n: front(100_000 * n, "", ""),
+}
+
 # What is timed: a part, and how many times it stands.
 TIMED: list[tuple[str, str, list[int]]] = [
     ("MB of paragraphs", PARTS["paragraphs of long lines"] * 8 + "* * *\n\n", [1, 2, 4, 8]),
@@ -243,7 +275,9 @@ TIMED: list[tuple[str, str, list[int]]] = [
 
 
 def arguments(name: str) -> list[str]:
-    """What the program is told of the text of this name: to read tables, where it is about them."""
+    """What the program is told of the text of this name: to read tables, or all, where it is about them."""
+    if name in EXTENSIONS:
+        return ["all"]
     return ["gfm"] if name in TABLES or name == "tables" else []
 
 
@@ -328,7 +362,7 @@ def print_growth(program: Program, size: int) -> None:
     """
     head("Text", "Bytes", "Instructions a byte", "Twice the text")
     texts = {name: (filled(part, size // 4), filled(part, size // 4) * 4, 2) for name, part in PARTS.items()}
-    texts |= {name: (make(1), make(2), 1) for name, make in (GROWING | TABLES).items()}
+    texts |= {name: (make(1), make(2), 1) for name, make in (GROWING | TABLES | EXTENSIONS).items()}
     for name, (once, more, doublings) in texts.items():
         first, last = (program.by_byte(text, arguments(name)) for text in (once, more))
         growth = 2 * (last / first) ** (1 / doublings)

@@ -1,4 +1,4 @@
-// Tries whether two bodies give the same, on all short texts.
+// Tries whether two bodies give the same: on a text, and on all short texts.
 
 use crate::report::Report;
 use crate::rows::{built_of, printed};
@@ -79,8 +79,8 @@ pub fn try_agree<A: Body, B: Body>(
     try_letters::<A, B>(alloc, &KINDS, most.saturating_sub(2), report)
 }
 
-/// Tries them on all texts of at most so many of these letters.
-fn try_letters<A: Body, B: Body>(
+/// Tries two bodies on all texts of at most so many of these letters, with all constructs of the first.
+pub fn try_letters<A: Body, B: Body>(
     alloc: Global,
     letters: &[&str],
     most: usize,
@@ -91,11 +91,22 @@ fn try_letters<A: Body, B: Body>(
     for length in 0..=most {
         for number in 0..count {
             let text = numbered(alloc, letters, length, number)?;
-            let got = printed::<A>(alloc, text.as_str(), &constructs)?;
-            let wanted = printed::<B>(alloc, text.as_str(), &constructs)?;
-            report.add("two bodies", text.as_str(), wanted.as_str(), got.as_str())?;
+            try_text::<A, B>(alloc, text.as_str(), &constructs, report)?;
         }
         count = count.wrapping_mul(letters.len());
     }
+    Ok(())
+}
+
+/// Tries whether two bodies print the same for a text.
+pub fn try_text<A: Body, B: Body>(
+    alloc: Global,
+    text: &str,
+    constructs: &Constructs,
+    report: &mut Report,
+) -> Result<(), CaseError> {
+    let got = printed::<A>(alloc, text, constructs)?;
+    let wanted = printed::<B>(alloc, text, constructs)?;
+    report.add("two bodies", text, wanted.as_str(), got.as_str())?;
     Ok(())
 }

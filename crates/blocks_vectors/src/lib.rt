@@ -5,9 +5,11 @@
 pub mod agree;
 pub mod laws;
 pub mod long;
+pub mod nasty;
 pub mod report;
 pub mod rows;
 pub mod search;
+pub mod sets;
 pub mod task;
 pub mod texts;
 pub mod without;

@@ -3,12 +3,11 @@
 use crate::laws::try_laws;
 use crate::report::Report;
 use crate::rows::built_of;
+use crate::sets::{FEW, without_some};
 use crate::texts::{numbered, random};
 use blocks_cases::case::{Case, CaseError};
-use blocks_cases::constructs::{NAMES, switch};
 use md_engine::configuration::Constructs;
 use md_program::body::Body;
-use rand_core::utils::NextWord;
 use rand_pcg::Pcg32;
 use std::alloc::Global;
 
@@ -74,19 +73,8 @@ pub fn try_random<B: Body>(
     let mut source = Pcg32::new(seed, 0);
     for _ in 0..count {
         let text = random(alloc, &mut source, &PIECES, MOST_PIECES)?;
-        let constructs = built_of::<B>(&some_of(&mut source));
+        let constructs = built_of::<B>(&without_some(&mut source, FEW));
         try_laws::<B>(alloc, text.as_str(), &constructs, report)?;
     }
     Ok(())
-}
-
-/// All constructs, of which about one in eight is off.
-fn some_of(source: &mut Pcg32) -> Constructs {
-    let mut constructs = Constructs::ALL;
-    for name in NAMES {
-        if source.next_word() % 8 == 0 {
-            let _ = switch(&mut constructs, name, false);
-        }
-    }
-    constructs
 }
