@@ -16,8 +16,10 @@ use Rattle.md_definition.specs.Preamble.{front_marker, has_mark, is_front_fence,
 use Rattle.md_seam.specs.Events.Nested.{enter, exit, pair}
 use Rattle.md_seam.specs.Events.Places.{past_text}
 use Rattle.md_seam.specs.Substituted.{stays}
-use Rattle.markdown_blocks.specs.Front.{FrontRead, behind_these, ending_of, ending_part, events_of, fence_part, front_events}
-use Rattle.markdown_blocks.specs.Front.{front_from, front_read, line_part, lines_read, mark_end, mark_events, mark_point}
+use Rattle.markdown_blocks.specs.Front.{FrontRead, behind_these, ending_of, ending_part, events_of, fence_part}
+use Rattle.markdown_blocks.specs.Front.{front_events}
+use Rattle.markdown_blocks.specs.Front.{front_from, front_read, line_part, lines_read, mark_end, mark_events}
+use Rattle.markdown_blocks.specs.Front.{mark_point}
 use Rattle.markdown_blocks.specs.Front.{past_ending, text_front}
 use Rattle.markdown_blocks.specs.LineColumns.{part_over}
 use Rattle.markdown_blocks.proofs.EachEvent.{each-append}
@@ -38,7 +40,7 @@ fence-unlinked line p =
         (
           refl,
           each-append IsUnlinked (part_over n.SpaceOrTab (drop 3 line) q r) (exit n.FrontmatterFence r ∷ [])
-          (over-unlinked n.SpaceOrTab (drop 3 line) q r) (refl, tt),
+              (over-unlinked n.SpaceOrTab (drop 3 line) q r) (refl, tt),
         ),
       ),
     )
@@ -94,11 +96,10 @@ from-unlinked (Some m) full more p =
     let ending : List ℕ = ending_of full in
     let q : Point = past_text line p in
     these-unlinked (enter n.Frontmatter p ∷ fence_part line p ++ ending_part ending q)
-    (lines_read m more (past_ending ending q))
-    (
+    (lines_read m more (past_ending ending q)) (
       refl,
       each-append IsUnlinked (fence_part line p) (ending_part ending q) (fence-unlinked line p)
-      (ending-unlinked ending q),
+          (ending-unlinked ending q),
     )
     (lines-unlinked m more (past_ending ending q))
 
