@@ -16,8 +16,10 @@ use Rattle.md_definition.specs.Preamble.{front_marker, has_mark, is_front_fence,
 use Rattle.md_seam.specs.Events.Nested.{enter, exit, pair}
 use Rattle.md_seam.specs.Events.Places.{past_text}
 use Rattle.md_seam.specs.Substituted.{stays}
-use Rattle.markdown_blocks.specs.Front.{FrontRead, behind_these, ending_of, ending_part, events_of, fence_part, front_events}
-use Rattle.markdown_blocks.specs.Front.{front_from, front_read, line_part, lines_read, mark_end, mark_events, mark_point}
+use Rattle.markdown_blocks.specs.Front.{FrontRead, behind_these, ending_of, ending_part, events_of, fence_part}
+use Rattle.markdown_blocks.specs.Front.{front_events}
+use Rattle.markdown_blocks.specs.Front.{front_from, front_read, line_part, lines_read, mark_end, mark_events}
+use Rattle.markdown_blocks.specs.Front.{mark_point}
 use Rattle.markdown_blocks.specs.Front.{past_ending, text_front}
 use Rattle.markdown_blocks.specs.LineColumns.{part_over}
 use Rattle.markdown_blocks.proofs.EachEvent.{each-append}

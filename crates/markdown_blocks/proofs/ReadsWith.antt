@@ -104,8 +104,8 @@ module _ (state : ParseState) (start : Point) (found : Found) (new : World) (mar
       (asked-blocks (document_of state) (block_list state.options.now state.bytes.now) known))
 
   -- and what it gives is known in whole.
-  pub reads-with : (reads : Document → Part → List Event → Type 0) → KeepsFrame state.bytes.now (reads (document_of state)) →
-      (body events : List Event) →
+  pub reads-with : (reads : Document → Part → List Event → Type 0) →
+      KeepsFrame state.bytes.now (reads (document_of state)) → (body events : List Event) →
       Substituted wants_text (text_readings (reads (document_of state))) [] 0 items body → events ≡ mark ++ body →
       IsRead reads state.bytes.now state.options.now events state
   reads-with reads frame body events substituted is =

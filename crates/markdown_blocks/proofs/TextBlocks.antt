@@ -1,5 +1,5 @@
--- What stands in a text before its text parts are read, where the constructs of MDX are off: its block list, which tiles
--- it and spells its tree, and its labels. No inline layer changes that.
+-- What stands in a text before its text parts are read, where the constructs of MDX are off: its block list, which
+-- tiles it and spells its tree, and its labels. No inline layer changes that.
 use Rattle.md_engine.specs.declared.tokenizer.held_leaf.HeldLeaf.TheVariants as held_leaf
 use Rattle.std.proofs.Common.{◌≡◌, ◌^◌, ◌<◌, ℕ, Bool, true, suc, List, [], ◌++◌, length, drop, refl, ap}
 use Rattle.std.proofs.Common.{sym, ◌∙◌, subst, cond, false}

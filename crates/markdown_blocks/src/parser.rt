@@ -271,8 +271,8 @@ fn behind_front(mut front: Vec<Event>, mut body: Vec<Event>) -> Result<Vec<Event
 /// Reads a text, its text parts by an inline layer: its events, and what else is known of it.
 ///
 /// The labels of the whole text are known before the layer reads a part. The text has at most `usize::MAX / 8` bytes,
-/// and the constructs of MDX are off. A byte order mark in front of the text is taken as such. An `Err` says that memory
-/// ran out; then nothing is handed out.
+/// and the constructs of MDX are off. A byte order mark in front of the text is taken as such. An `Err` says that
+/// memory ran out; then nothing is handed out.
 pub fn parse_with<'a, I: Inline>(
     alloc: Global,
     inline: &I,

@@ -39,5 +39,6 @@ returns-clause-placed g c =
     IfOk-weaker c.read.result _ (λ events. ArePlaced document.bytes events.items)
     (λ events reads.
     placed-events document.bytes is.are.sized events.items
-    (g.met.I.Inline.keeps_frame c.args.self.now.inline.now document part events.items (text-part document part is) reads).placed)
+    (g.met.I.Inline.keeps_frame c.args.self.now.inline.now document part events.items (text-part document part is)
+    reads).placed)
     c.read.ensures
