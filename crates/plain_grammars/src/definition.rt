@@ -161,7 +161,7 @@ fn are_blank(lines: &[&[u8]]) -> bool
 
 /// Whether these lines are a label: not blank, and not too long.
 #[tactic(auto, using(crate::proofs::DefinitionLemmas::list_all_texts))]
-pub fn is_label(lines: &[&[u8]]) -> bool
+fn is_label(lines: &[&[u8]]) -> bool
     ensures { result ≡ definition.is_label (m.texts lines.now) }
 {
     !are_blank(lines) && is_short(lines)

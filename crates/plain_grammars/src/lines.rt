@@ -12,7 +12,7 @@ use md_engine::message::Message;
 use std::alloc::Global;
 
 /// How many bytes stand before the first line ending.
-pub fn line_len(text: &[u8]) -> usize
+fn line_len(text: &[u8]) -> usize
     ensures value { result ≡ prefix_len (λ b. not (lines.is_ending b)) text.now }
     ensures bound { result ≤ length text.now }
 {
@@ -22,7 +22,7 @@ pub fn line_len(text: &[u8]) -> usize
 }
 
 /// What follows the line ending that comes first: LF, CR or CRLF.
-pub fn behind_ending(bytes: &[u8]) -> &[u8]
+fn behind_ending(bytes: &[u8]) -> &[u8]
     ensures value { result.now ≡ after_ending bytes.now }
     ensures bound { length result.now ≤ length bytes.now - 1 }
 {

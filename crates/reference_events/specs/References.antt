@@ -16,13 +16,13 @@ use Rattle.md_seam.specs.declared.inline.Chunk.{Chunk}
 use Rattle.md_seam.specs.declared.inline.PartKind.{PartKind}
 use Rattle.md_seam.specs.declared.inline.PartKind.TheVariants as kind
 use Rattle.md_seam.specs.Events.Inline.{Part, chunk_text, pair_unless_empty, plain_events, together}
-use Rattle.md_seam.specs.Events.Nested.{enter, exit, pair}
+use Rattle.md_seam.specs.Events.Nested.{enter, exit}
 use Rattle.md_seam.specs.Events.Places.{past_byte, past_text}
 use Rattle.md_seam.specs.TextPart.{Document}
-use Rattle.references.specs.declared.roles.Place.{Place}
-use Rattle.references.specs.declared.roles.Place.TheVariants.{Outside, Taken, Inside}
-use Rattle.references.specs.declared.roles.Role.{Role}
-use Rattle.references.specs.declared.roles.Role.TheVariants.{Text, Opens, Last, Closes}
+use Rattle.reference_events.specs.declared.roles.Place.{Place}
+use Rattle.reference_events.specs.declared.roles.Place.TheVariants.{Outside, Taken, Inside}
+use Rattle.reference_events.specs.declared.roles.Role.{Role}
+use Rattle.reference_events.specs.declared.roles.Role.TheVariants.{Text, Opens, Last, Closes}
 
 -- Labels.
 
@@ -75,14 +75,20 @@ roles document place (byte ∷ behind) =
 
 -- Events.
 
+-- around a label, and its brackets
+abbrev pub opened : Point → Point → List Event
+opened at behind =
+    enter n.Link at ∷ enter n.LabelMarker at ∷ exit n.LabelMarker behind ∷ enter n.LabelText behind ∷ []
+
+abbrev pub closed : Point → Point → List Event
+closed at behind = enter n.LabelMarker at ∷ exit n.LabelMarker behind ∷ exit n.Link behind ∷ []
+
 -- What a byte between two points brings, where the text in front of it began at `from`. Text waits for what ends it.
 abbrev pub byte_events : Role → Point → Point → Point → List Event
 byte_events Text from at behind = []
-byte_events Opens from at behind =
-    pair_unless_empty n.Data from at ++ enter n.Link at ∷ pair n.LabelMarker at behind ++ enter n.LabelText behind ∷ []
+byte_events Opens from at behind = pair_unless_empty n.Data from at ++ opened at behind
 byte_events Last from at behind = pair_unless_empty n.Data from behind ++ exit n.LabelText behind ∷ []
-byte_events Closes from at behind =
-    pair_unless_empty n.Data from at ++ pair n.LabelMarker at behind ++ exit n.Link behind ∷ []
+byte_events Closes from at behind = pair_unless_empty n.Data from at ++ closed at behind
 
 -- where the text that waits begins, behind such a byte
 abbrev pub text_from : Role → Point → Point → Point
@@ -107,17 +113,17 @@ is_last _ = false
 abbrev pub ends_label : List Role → Bool
 ends_label roles = list_any is_last roles
 
--- a label that ends with the ending of a line ends behind it
-abbrev pub label_end : Bool → Point → List Event
-label_end ends point = if ends then exit n.LabelText point ∷ [] else []
+-- what stands behind a line: its ending, if it has one, and there the end of a label that goes on up to it
+abbrev pub ending_events : Point → Point → Bool → List Event
+ending_events end after ends =
+    pair_unless_empty n.LineEnding end after ++ (if ends then exit n.LabelText after ∷ [] else [])
 
 -- the events of a chunk with this text, whose bytes have these roles
 abbrev pub chunk_events : Chunk → List ℕ → List Role → List Event
 chunk_events chunk text roles =
-    let line : List ℕ = without_ending text in
-    line_events line (take (length line) roles) chunk.first chunk.first
-    ++ pair_unless_empty n.LineEnding (past_text line chunk.first) chunk.after
-    ++ label_end (ends_label (drop (length line) roles)) chunk.after
+    line_events (without_ending text) (take (length (without_ending text)) roles) chunk.first chunk.first
+    ++ ending_events (past_text (without_ending text) chunk.first) chunk.after
+    (ends_label (drop (length (without_ending text)) roles))
 
 -- the events of each chunk; the roles are those of all their bytes
 abbrev pub chunks_events : List ℕ → List Chunk → List Role → List (List Event)

@@ -1,3 +1,2 @@
 pub mod References
 pub mod Room
-pub mod Framed

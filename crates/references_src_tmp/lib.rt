@@ -1,0 +1,21 @@
+// An inline layer that looks labels up: it marks shortcut references (CommonMark 6.3).
+//
+// A reference is a label between brackets that a definition of the document has, wherever that definition stands:
+//
+//     reference ::= '[' label ']'
+//     label     ::= 1*( '\' byte | byte but '[', ']' and '\' )
+//
+// A label is not blank and has at most 999 bytes, and it may go over the lines of a text part. It is compared in its
+// normal form: so `[a B]` refers to `[A  b]: /c`. Everything else is text, brackets without a definition too. Inside of
+// strings, as an info string or a title, nothing is marked.
+//
+// Events: `Link` around a reference, `LabelMarker` over each bracket, `LabelText` around the label, and `Data` and
+// `LineEnding` as the plain layer gives them.
+#![tactic(auto)]
+
+mod events;
+mod label;
+mod layer;
+mod roles;
+
+pub use layer::References;
