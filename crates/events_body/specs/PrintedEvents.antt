@@ -86,6 +86,9 @@ name_text n.LineEnding = codes "LineEnding"
 name_text n.BlankLineEnding = codes "BlankLineEnding"
 name_text n.Content = codes "Content"
 name_text n.Data = codes "Data"
+name_text n.Link = codes "Link"
+name_text n.LabelMarker = codes "LabelMarker"
+name_text n.LabelText = codes "LabelText"
 
 -- `+` for an enter, `-` for an exit
 abbrev pub sign : Kind → List ℕ

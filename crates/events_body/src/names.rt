@@ -83,5 +83,8 @@ pub(crate) fn text_of(name: Name) -> &'static str
         Name::BlankLineEnding => "BlankLineEnding",
         Name::Content => "Content",
         Name::Data => "Data",
+        Name::Link => "Link",
+        Name::LabelMarker => "LabelMarker",
+        Name::LabelText => "LabelText",
     }
 }

@@ -128,7 +128,7 @@ Filled bytes list inside out =
 -- a part whose chunks stand in order is read
 pub fill-part : (bytes : List ℕ) (name : Name) (kind : PartKind) (p q : Point) (list : List Chunk)
     (inside out : List Event) →
-    part_kind name ≡ Some kind → Inside bytes list inside → Fills list (plain_chunks bytes list) →
+    part_kind name ≡ Some kind → Inside bytes kind list inside → Fills list (plain_chunks bytes list) →
     Filled bytes list inside out →
     Fill bytes (around name p q inside) (around name p q out)
 fill-part bytes name kind p q list inside out is h fills into = record {

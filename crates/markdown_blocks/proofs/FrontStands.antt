@@ -13,6 +13,7 @@ use Rattle.md_seam.proofs.InlineLemmas.{same-refl}
 use Rattle.markdown_blocks.proofs.PiecesLemmas.{Tiled, tiled-append, tiled-none, tiled-within, pieces-before}
 use Rattle.markdown_blocks.proofs.FrontFacts.{Behind, Begins, LinePrefix, Goes}
 use Rattle.markdown_blocks.specs.Registry.{container_name}
+use Rattle.md_seam.specs.declared.inline.PartKind.{PartKind}
 use Rattle.markdown_blocks.proofs.PartsStand.{Inside, inside-append}
 use Rattle.markdown_blocks.proofs.ContainerNames.{container-facts}
 use Rattle.md_seam.specs.Events.Pieces.{pieces_stand}
@@ -46,18 +47,19 @@ fronts-tiled bytes opens first last es (Begins c before p q r xs ys is more) =
     (tiled-append p q r xs ys is.common.tiled (fronts-tiled bytes before q r ys more))
 
 -- what stands in front of a further line of a text
-pub fronts-inside : (bytes : List ℕ) (opens : List Container) (p q : Point) (es : List Event) → opens ≡ [] →
-    LinePrefix bytes opens p q es → Inside bytes [] es
-fronts-inside bytes opens p q es none (Behind at) = record {
+pub fronts-inside : (bytes : List ℕ) (kind : PartKind) (opens : List Container) (p q : Point) (es : List Event) →
+    opens ≡ [] → LinePrefix bytes opens p q es → Inside bytes kind [] es
+fronts-inside bytes kind opens p q es none (Behind at) = record {
   outside = tt;
   ends = refl;
   white = refl;
   has = refl;
+  kinds = refl;
   stand = λ ys. refl;
 }
-fronts-inside bytes opens first last es none (Goes same p q r xs ys is more) =
-    inside-append bytes [] [] xs ys is.inside (fronts-inside bytes same q r ys none more)
-fronts-inside bytes opens first last es none (Begins c before p q r xs ys is more) = cc
+fronts-inside bytes kind opens first last es none (Goes same p q r xs ys is more) =
+    inside-append bytes kind [] [] xs ys (is.inside kind) (fronts-inside bytes kind same q r ys none more)
+fronts-inside bytes kind opens first last es none (Begins c before p q r xs ys is more) = cc
 
 -- the begin of a container in front of what stands behind it
 pub begun-stood : (bytes : List ℕ) (name : Name) (p q : Point) (es : List Event) → es ≢ [] → Tiled p q es →

@@ -14,10 +14,12 @@ use Rattle.md_engine.specs.declared.event.Point.{Point}
 use Rattle.md_content.specs.Paragraph.{text_link}
 use Rattle.md_seam.specs.declared.inline.Chunk.{Chunk}
 use Rattle.md_seam.specs.declared.inline.PartKind.{PartKind}
+use Rattle.md_seam.specs.declared.inline.PartKind.TheVariants as part_kinds
 use Rattle.md_seam.specs.Events.Inline.{Piece, are_lines, pieces}
 use Rattle.md_seam.specs.Events.Nested.{around, enter, enter_link, exit, is_exit}
 use Rattle.md_seam.specs.Events.Tiles.{begins_at, chunks, chunks_stand, inside_part, is_part, is_white_piece, part_end}
-use Rattle.md_seam.specs.Events.Tiles.{part_kind, part_stands, parts_stand, stands_in_part}
+use Rattle.md_seam.specs.Events.Tiles.{links_kind, of_kind, part_kind, part_stands, parts_stand, stands_in_part}
+use Rattle.md_seam.proofs.PlacesLemmas.{all-append}
 use Rattle.markdown_blocks.proofs.EachEvent.{each-append}
 use Rattle.markdown_blocks.specs.Unread.{linked}
 use Rattle.markdown_blocks.proofs.PartFacts.{NoLinks, NoParts, end-goes, linked-chunks, linked-no_parts, part-inside}
@@ -65,20 +67,30 @@ pub linked-ends : (link : Link) (cs : List Chunk) → Ends Exit (linked n.Data l
 linked-ends link [] = refl
 linked-ends link (c ∷ cs) = linked-ends link cs
 
--- Events that may stand in a text part, with these chunks.
-pub record Inside (bytes : List ℕ) (cs : List Chunk) (es : List Event) : Type 0 where
+pub linked-kinds : (kind : PartKind) (link : Link) (cs : List Chunk) → of_kind kind link.content ≡ true →
+    list_all (links_kind kind) (linked n.Data link cs) ≡ true
+linked-kinds kind link [] h = refl
+linked-kinds kind link (c ∷ cs) h =
+    and_from (of_kind kind link.content) (list_all (links_kind kind) (linked n.Data link cs)) h
+    (linked-kinds kind link cs h)
+
+-- Events that may stand in a text part of this kind, with these chunks.
+pub record Inside (bytes : List ℕ) (kind : PartKind) (cs : List Chunk) (es : List Event) : Type 0 where
   pub outside : NoParts es
   pub ends : Ends Exit es
   pub white : list_all (is_white_piece bytes) (pieces es) ≡ true
   pub has : chunks (pieces es) ≡ cs
+  pub kinds : list_all (links_kind kind) es ≡ true
   pub stand : (ys : List Event) → chunks_stand 1 (es ++ ys) ≡ chunks_stand 1 ys
 
-pub inside-linked : (bytes : List ℕ) (link : Link) (cs : List Chunk) → Inside bytes cs (linked n.Data link cs)
-inside-linked bytes link cs = record {
+pub inside-linked : (bytes : List ℕ) (kind : PartKind) (link : Link) (cs : List Chunk) →
+    of_kind kind link.content ≡ true → Inside bytes kind cs (linked n.Data link cs)
+inside-linked bytes kind link cs h = record {
   outside = linked-no_parts link cs;
   ends = linked-ends link cs;
   white = linked-white bytes link cs;
   has = linked-chunks link cs;
+  kinds = linked-kinds kind link cs h;
   stand = linked-stand link cs;
 }
 
@@ -105,9 +117,9 @@ chunks-append (x ∷ xs) ys = go x.linked (chunks-append xs ys)
     go true same = ap (λ (l : List Chunk). chunk ∷ l) same
     go false same = same
 
-pub inside-append : (bytes : List ℕ) (cs ds : List Chunk) (xs ys : List Event) → Inside bytes cs xs →
-    Inside bytes ds ys → Inside bytes (cs ++ ds) (xs ++ ys)
-inside-append bytes cs ds xs ys h k = record {
+pub inside-append : (bytes : List ℕ) (kind : PartKind) (cs ds : List Chunk) (xs ys : List Event) →
+    Inside bytes kind cs xs → Inside bytes kind ds ys → Inside bytes kind (cs ++ ds) (xs ++ ys)
+inside-append bytes kind cs ds xs ys h k = record {
   outside = each-append IsNoPart xs ys h.outside k.outside;
   ends = ends-append Exit xs ys h.ends k.ends;
   white =
@@ -116,17 +128,19 @@ inside-append bytes cs ds xs ys h k = record {
   has =
       ap (λ (l : List Piece). chunks l) (pieces-ended xs ys h.ends) ∙ chunks-append (pieces xs) (pieces ys)
       ∙ ap (λ (l : List Chunk). l ++ chunks (pieces ys)) h.has ∙ ap (λ (l : List Chunk). cs ++ l) k.has;
+  kinds = all-append (links_kind kind) xs ys h.kinds k.kinds;
   stand = λ zs. ap (chunks_stand 1) (append_assoc xs ys zs) ∙ h.stand (ys ++ zs) ∙ k.stand zs;
 }
 
 -- the lines of a text
 pub inside-chunk : (bytes : List ℕ) (p q : Point) →
-    Inside bytes ((record { first = p; after = q }) ∷ []) (enter_link n.Data p text_link ∷ exit n.Data q ∷ [])
+    Inside bytes part_kinds.Text ((record { first = p; after = q }) ∷ []) (enter_link n.Data p text_link ∷ exit n.Data q ∷ [])
 inside-chunk bytes p q = record {
   outside = (refl, (refl, tt));
   ends = refl;
   white = refl;
   has = refl;
+  kinds = refl;
   stand = λ ys. refl;
 }
 
@@ -157,7 +171,7 @@ stands-around bytes name p q inside other h =
 -- A text part of chunks that are lines, which begins with the first of them.
 pub stands-part : (bytes : List ℕ) (name : Name) (kind : PartKind) (p q : Point) (cs : List Chunk)
     (inside : List Event) →
-    part_kind name ≡ Some kind → Inside bytes cs inside → begins_at p cs ≡ true → are_lines bytes q cs ≡ true →
+    part_kind name ≡ Some kind → Inside bytes kind cs inside → begins_at p cs ≡ true → are_lines bytes q cs ≡ true →
     Stands bytes (around name p q inside)
 stands-part bytes name kind p q cs inside named h begins lines = record {
   parts = λ ys.
@@ -193,9 +207,12 @@ stands-part bytes name kind p q cs inside named h begins lines = record {
         let list : List Chunk = chunks (pieces (inside_part rest)) in
         let white : Bool = list_all (is_white_piece bytes) (pieces (inside_part rest)) in
         ap (λ (x : Option PartKind). part_stands bytes Enter x p rest) named
-        ∙ and_from (begins_at p list && white) (are_lines bytes (part_end rest) list)
+        ∙ and_from (begins_at p list && white && are_lines bytes (part_end rest) list)
+        (list_all (links_kind kind) (inside_part rest))
+        (and_from (begins_at p list && white) (are_lines bytes (part_end rest) list)
         (and_from (begins_at p list) white (ap (begins_at p) (held ys) ∙ begins)
         (ap (λ (l : List Event). list_all (is_white_piece bytes) (pieces l))
         (part-inside name kind q inside ys named h.outside)
         ∙ h.white))
-        (ap (λ (r : Point). are_lines bytes r list) (end ys) ∙ ap (are_lines bytes q) (held ys) ∙ lines)
+        (ap (λ (r : Point). are_lines bytes r list) (end ys) ∙ ap (are_lines bytes q) (held ys) ∙ lines))
+        (ap (list_all (links_kind kind)) (part-inside name kind q inside ys named h.outside) ∙ h.kinds)

@@ -20,6 +20,7 @@ use Rattle.md_seam.proofs.GrammarLemmas as grammar
 use Rattle.md_outline.specs.Between.{is_between}
 use Rattle.markdown_blocks.specs.Registry.{container_name, shape_of}
 use Rattle.markdown_blocks.proofs.BetweenFacts.{AreBetween}
+use Rattle.md_seam.specs.declared.inline.PartKind.{PartKind}
 use Rattle.markdown_blocks.proofs.PartsStand.{Inside}
 use Rattle.markdown_blocks.proofs.PiecesLemmas.{Tiled}
 use Rattle.markdown_blocks.proofs.PrefixNames.{AreFront, ArePrefixes}
@@ -71,7 +72,7 @@ pub record Continues (bytes : List ℕ) (p q : Point) (es : List Event) : Type 0
   -- a text goes on behind them
   pub parted : PartsText bytes p q es
   -- they may stand in a text part
-  pub inside : Inside bytes [] es
+  pub inside : (kind : PartKind) → Inside bytes kind [] es
   -- of a text that goes on behind them, they leave whitespace alone
   pub collects : (ys : List Event) (end : ℕ) (all : List ℕ) → Collects bytes ys (byte_at q) end all →
       (white : List ℕ) × (is_blank white ≡ true) × Collects bytes (es ++ ys) (byte_at p) end (white ++ all)

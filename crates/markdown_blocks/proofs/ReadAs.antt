@@ -73,7 +73,7 @@ pub read_as-stands : (bytes : List ℕ) (es done : List Event) → ReadAs bytes 
 read_as-stands bytes _ _ (Same es unlinked no_parts) = stands-outside bytes es no_parts unlinked
 read_as-stands bytes _ _ (Part name p q is) =
     stands-part bytes name String p q (one_chunk p q) (linked n.Data label_link (one_chunk p q)) is.kind
-    (inside-linked bytes label_link (one_chunk p q)) (same-refl p) is.line
+    (inside-linked bytes String label_link (one_chunk p q) refl) (same-refl p) is.line
 read_as-stands bytes _ _ (Both xs zs more done h k) =
     stands-append bytes xs more (read_as-stands bytes xs zs h) (read_as-stands bytes more done k)
 
@@ -84,7 +84,7 @@ read_as-fill bytes _ _ (Part name p q is) =
     let order : in_order p (one_chunk p q) ≡ true = and_from (at_or_before p p && at_or_before p q) true
     (and_from (at_or_before p p) (at_or_before p q) (at_or_before-refl p) is.onward) refl in
     fill-part bytes name String p q (one_chunk p q) (linked n.Data label_link (one_chunk p q))
-    (together (plain_chunks bytes (one_chunk p q))) is.kind (inside-linked bytes label_link (one_chunk p q))
+    (together (plain_chunks bytes (one_chunk p q))) is.kind (inside-linked bytes String label_link (one_chunk p q) refl)
     (plain-fills bytes p (one_chunk p q) order) (linked-filled bytes label_link (one_chunk p q))
 read_as-fill bytes _ _ (Both xs zs more done h k) =
     fill-append bytes xs zs more done (read_as-fill bytes xs zs h) (read_as-fill bytes more done k)

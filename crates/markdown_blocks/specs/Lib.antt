@@ -28,7 +28,6 @@ pub mod Fed
 pub mod FlowReads
 pub mod Footnotes
 pub mod Unread
-pub mod TextReads
 pub mod Document
 pub mod DocumentRule
 pub mod AtOnce

@@ -3,8 +3,9 @@
 
 pub mod construct;
 pub mod parser;
+pub mod plain;
 pub mod resolve;
 
 pub use md_engine::{configuration, event, message, state, subtokenize, table, tokenizer};
 pub use md_outline::outline;
-pub use md_seam::{inline, plain};
+pub use md_seam::inline;

@@ -12,11 +12,12 @@ ghost use Rattle.markdown_blocks.specs.FlowReads.{FlowReads, lines_joined, table
 ghost use Rattle.markdown_blocks.specs.Footnotes.{footnotes_listed};
 ghost use Rattle.markdown_blocks.specs.Parsed.{IsBuilt, IsParsed, IsSmall};
 ghost use Rattle.markdown_blocks.specs.Registry.{stays_alone};
-ghost use Rattle.markdown_blocks.specs.TextReads.{text_kind, wants_text};
+ghost use Rattle.md_seam.specs.TextPart.{IsTextPart, document_of, text_kind, wants_text};
 
 use crate::construct::document::DocumentTable;
 use crate::construct::flow::FlowTable;
 use crate::construct::registry;
+use crate::plain::Plain;
 use crate::resolve;
 use md_content::footnote_labels::footnote_labels;
 use md_engine::configuration::ParseOptions;
@@ -31,7 +32,6 @@ use md_engine::table::{flush, push};
 use md_engine::tokenizer::Tokenizer;
 use md_leaves::spans;
 use md_seam::inline::{Chunk, Inline, PartKind};
-use md_seam::plain::Plain;
 use md_seam::subtokenize::{Reader, subtokenize};
 use std::alloc::Global;
 
@@ -65,7 +65,10 @@ impl<I: Inline> Reader for TextReader<'_, '_, I> {
 
     ghost wants = { λ reader. wants_text };
 
-    ghost reads_as = { λ reader content chunks events. I.reads reader.inline.now reader.state.now.bytes.now
+    ghost may_read = { λ reader content chunks. IsTextPart (document_of reader.state.now)
+        (record { kind = text_kind content; chunks = chunks }) };
+
+    ghost reads_as = { λ reader content chunks events. I.reads reader.inline.now (document_of reader.state.now)
         (record { kind = text_kind content; chunks = chunks }) events };
 
     fn reads(&self, content: Content) -> bool {

@@ -3,6 +3,7 @@
 use Rattle.std.proofs.Common.{◌≡◌, ℕ, Bool, true, false, cond, ◌&&◌, List, [], ◌∷◌, ◌++◌, refl, ap, sym, ◌∙◌}
 use Rattle.std.proofs.Common.{append_assoc}
 use Rattle.std.specs.Prelude.{Option, Some, None, if◌then◌else◌}
+use Rattle.std.specs.List.{list_all}
 use Rattle.md_engine.specs.declared.event.Event.{Event}
 use Rattle.md_engine.specs.declared.event.Kind.{Kind}
 use Rattle.md_engine.specs.declared.event.Kind.TheVariants.{Enter, Exit}
@@ -18,7 +19,7 @@ use Rattle.md_seam.specs.Events.Inline.{Part, Piece, pieces, pieces_from}
 use Rattle.md_seam.specs.Events.Nested.{enter, exit, is_exit}
 use Rattle.md_seam.specs.Events.Places.{first_point}
 use Rattle.md_seam.specs.Events.Spelled.{is_ordered, role}
-use Rattle.md_seam.specs.Events.Tiles.{chunks, inside_part, is_part, part_at, part_end, part_kind, part_of}
+use Rattle.md_seam.specs.Events.Tiles.{chunks, inside_part, is_part, links_kind, part_at, part_end, part_kind, part_of}
 use Rattle.md_seam.specs.Events.Tiles.{part_stands, parts, parts_stand}
 
 -- what holds of both names of lists
@@ -164,6 +165,70 @@ end-kept bytes place (e ∷ es) =
         ap part_end (passes-given bytes place (record e { kind = kind; name = name }) es i)
         ∙ ap (cond (is_part name && is_exit kind) e.point) h
 
+-- What its events are linked by.
+
+links-begin : (part : PartKind) (within : Bool) (m : ℕ) (p : Point) (xs : List Event) →
+    list_all (links_kind part) (list_begin within m p ++ xs) ≡ list_all (links_kind part) xs
+links-begin part true m p xs = refl
+links-begin part false m p xs = refl
+
+links-end : (part : PartKind) (markers : List ℕ) (next : Option ℕ) (p : Point) (xs : List Event) →
+    list_all (links_kind part) (list_end markers next p ++ xs) ≡ list_all (links_kind part) xs
+links-end part [] next p xs = refl
+links-end part (m ∷ markers) next p xs = go (goes_on m next)
+  where
+    go : (x : Bool) → list_all (links_kind part) (cond x [] (exit (list_name m) p ∷ []) ++ xs) ≡ list_all (links_kind part) xs
+    go true = refl
+    go false = refl
+
+links-kept : (part : PartKind) (bytes : List ℕ) (place : Place) (es : List Event) →
+    list_all (links_kind part) (inside_part (listed_from bytes place es)) ≡ list_all (links_kind part) (inside_part es)
+links-kept part bytes place [] = refl
+links-kept part bytes place (e ∷ es) =
+    by-turn
+    (λ (kind : Kind) (name : Name).
+    list_all (links_kind part) (inside_part (listed_from bytes place (record e { kind = kind; name = name } ∷ es)))
+    ≡ list_all (links_kind part) (inside_part (record e { kind = kind; name = name } ∷ es)))
+    (ap (λ (l : List Event). list_all (links_kind part) (inside_part l))
+    (append_assoc (list_begin place.within (marker_ahead bytes es) e.point) (item ∷ []) (listed_from bytes inner es))
+    ∙ ap (list_all (links_kind part))
+    (inside-begin place.within (marker_ahead bytes es) e.point (item ∷ listed_from bytes inner es))
+    ∙ links-begin part place.within (marker_ahead bytes es) e.point (item ∷ inside_part (listed_from bytes inner es))
+    ∙ ap (λ (b : Bool). links_kind part item && b) (links-kept part bytes inner es))
+    (ap (λ (l : List Event). links_kind part item && list_all (links_kind part) l)
+    (inside-end place.markers (next_item bytes es) e.point (listed_from bytes behind es))
+    ∙ ap (λ (b : Bool). links_kind part item && b)
+    (links-end part place.markers (next_item bytes es) e.point (inside_part (listed_from bytes behind es))
+    ∙ links-kept part bytes behind es))
+    (passed (links-kept part bytes place es))
+    e.kind e.name
+  where
+    inner : Place
+    inner = record { within = false; markers = marker_ahead bytes es ∷ place.markers }
+
+    behind : Place
+    behind = place_behind place (next_item bytes es)
+
+    item : Event
+    item = record e { kind = Enter; name = n.ListItem }
+
+    passed : list_all (links_kind part) (inside_part (listed_from bytes place es)) ≡
+        list_all (links_kind part) (inside_part es) →
+        (kind : Kind) (name : Name) → is_item (role name) ≡ false →
+        list_all (links_kind part) (inside_part (listed_from bytes place (record e { kind = kind; name = name } ∷ es)))
+        ≡ list_all (links_kind part) (inside_part (record e { kind = kind; name = name } ∷ es))
+    passed h kind name i =
+        ap (λ (l : List Event). list_all (links_kind part) (inside_part l))
+        (passes-given bytes place (record e { kind = kind; name = name }) es i)
+        ∙ go (is_part name && is_exit kind)
+      where
+        go : (x : Bool) →
+            list_all (links_kind part)
+            (cond x [] (record e { kind = kind; name = name } ∷ inside_part (listed_from bytes place es)))
+            ≡ list_all (links_kind part) (cond x [] (record e { kind = kind; name = name } ∷ inside_part es))
+        go true = refl
+        go false = ap (λ (b : Bool). links_kind part e && b) h
+
 -- All text parts.
 
 -- what is a function of the parts, one after the other: no list and no item has one
@@ -253,7 +318,7 @@ no-stand bytes Exit p es = refl
 stand-same : (text bytes : List ℕ) (place : Place) (kind : Kind) (part : Option PartKind) (p : Point)
     (es : List Event) →
     part_stands text kind part p (listed_from bytes place es) ≡ part_stands text kind part p es
-stand-same text bytes place Enter (Some kind) p es = rw (inside-pieces bytes place es, end-kept bytes place es) refl
+stand-same text bytes place Enter (Some kind) p es = rw (inside-pieces bytes place es, end-kept bytes place es, links-kept kind bytes place es) refl
 stand-same text bytes place Enter None p es = refl
 stand-same text bytes place Exit part p es = refl
 

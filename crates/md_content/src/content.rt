@@ -246,6 +246,8 @@ impl Reader for ContentReader<'_> {
 
     ghost wants = { λ reader. wants_content };
 
+    ghost may_read = { λ reader content chunks. Unit {0} };
+
     ghost reads_as = { λ reader. content_readings reader.bytes.now reader.options.now };
 
     fn reads(&self, content: Content) -> bool {

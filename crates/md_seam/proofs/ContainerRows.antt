@@ -7,7 +7,7 @@ use Rattle.md_definition.specs.Tree as t
 use Rattle.md_seam.specs.Events.Spelled.{spelled}
 use Rattle.md_seam.specs.Events.Nested.{pair, around}
 use Rattle.md_seam.specs.Events.Grammar.{keeps_grammar}
-use Rattle.md_seam.proofs.EventRowParts.{at, within_tab, chunk, line, Row}
+use Rattle.md_seam.proofs.EventRowParts.{at, within_tab, chunk, string_chunk, line, Row}
 
 -- a quote whose second line is lazy: "> a\nb"
 abbrev pub lazy_text : List ℕ
@@ -369,18 +369,18 @@ definition_events =
     (around n.DefinitionLabel (at 1 3 2) (at 2 5 9)
     (pair n.DefinitionLabelMarker (at 1 3 2) (at 1 4 3)
     ++ around n.DefinitionLabelString (at 1 4 3) (at 2 4 8)
-    (chunk (at 1 4 3) (at 2 1 5)
+    (string_chunk (at 1 4 3) (at 2 1 5)
     ++ around n.BlockQuotePrefix (at 2 1 5) (at 2 3 7)
     (pair n.BlockQuoteMarker (at 2 1 5) (at 2 2 6)
     ++ pair n.SpaceOrTab (at 2 2 6) (at 2 3 7))
-    ++ chunk (at 2 3 7) (at 2 4 8))
+    ++ string_chunk (at 2 3 7) (at 2 4 8))
     ++ pair n.DefinitionLabelMarker (at 2 4 8) (at 2 5 9))
     ++ pair n.DefinitionMarker (at 2 5 9) (at 2 6 10)
     ++ pair n.SpaceOrTab (at 2 6 10) (at 2 7 11)
     ++ around n.DefinitionDestination (at 2 7 11) (at 2 8 12)
     (around n.DefinitionDestinationRaw (at 2 7 11) (at 2 8 12)
     (around n.DefinitionDestinationString (at 2 7 11) (at 2 8 12)
-    (chunk (at 2 7 11) (at 2 8 12))))
+    (string_chunk (at 2 7 11) (at 2 8 12))))
     ++ pair n.LineEnding (at 2 8 12) (at 3 1 13)
     ++ around n.BlockQuotePrefix (at 3 1 13) (at 3 3 15)
     (pair n.BlockQuoteMarker (at 3 1 13) (at 3 2 14)
@@ -388,10 +388,10 @@ definition_events =
     ++ around n.DefinitionTitle (at 3 3 15) (at 4 4 21)
     (pair n.DefinitionTitleMarker (at 3 3 15) (at 3 4 16)
     ++ around n.DefinitionTitleString (at 3 4 16) (at 4 3 20)
-    (chunk (at 3 4 16) (at 4 1 18)
+    (string_chunk (at 3 4 16) (at 4 1 18)
     ++ around n.BlockQuotePrefix (at 4 1 18) (at 4 2 19)
     (pair n.BlockQuoteMarker (at 4 1 18) (at 4 2 19))
-    ++ chunk (at 4 2 19) (at 4 3 20))
+    ++ string_chunk (at 4 2 19) (at 4 3 20))
     ++ pair n.DefinitionTitleMarker (at 4 3 20) (at 4 4 21))))
 
 abbrev pub definition_tree : t.Blocks
@@ -431,7 +431,7 @@ footnote_events =
     (pair n.GfmFootnoteDefinitionLabelMarker (at 1 1 0) (at 1 2 1)
     ++ pair n.GfmFootnoteDefinitionMarker (at 1 2 1) (at 1 3 2)
     ++ around n.GfmFootnoteDefinitionLabelString (at 1 3 2) (at 1 4 3)
-    (chunk (at 1 3 2) (at 1 4 3))
+    (string_chunk (at 1 3 2) (at 1 4 3))
     ++ pair n.GfmFootnoteDefinitionLabelMarker (at 1 4 3) (at 1 5 4))
     ++ pair n.DefinitionMarker (at 1 5 4) (at 1 6 5)
     ++ pair n.SpaceOrTab (at 1 6 5) (at 1 7 6))
@@ -522,14 +522,14 @@ behind_definition_events =
     (around n.DefinitionLabel (at 1 3 2) (at 1 6 5)
     (pair n.DefinitionLabelMarker (at 1 3 2) (at 1 4 3)
     ++ around n.DefinitionLabelString (at 1 4 3) (at 1 5 4)
-    (chunk (at 1 4 3) (at 1 5 4))
+    (string_chunk (at 1 4 3) (at 1 5 4))
     ++ pair n.DefinitionLabelMarker (at 1 5 4) (at 1 6 5))
     ++ pair n.DefinitionMarker (at 1 6 5) (at 1 7 6)
     ++ pair n.SpaceOrTab (at 1 7 6) (at 1 8 7)
     ++ around n.DefinitionDestination (at 1 8 7) (at 1 9 8)
     (around n.DefinitionDestinationRaw (at 1 8 7) (at 1 9 8)
     (around n.DefinitionDestinationString (at 1 8 7) (at 1 9 8)
-    (chunk (at 1 8 7) (at 1 9 8)))))
+    (string_chunk (at 1 8 7) (at 1 9 8)))))
     ++ pair n.LineEnding (at 1 9 8) (at 2 1 9)
     ++ around n.BlockQuotePrefix (at 2 1 9) (at 2 3 11)
     (pair n.BlockQuoteMarker (at 2 1 9) (at 2 2 10)

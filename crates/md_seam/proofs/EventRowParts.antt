@@ -4,6 +4,7 @@ use Rattle.std.specs.Prelude.{false, Some, IsTrue}
 use Rattle.md_engine.specs.declared.event.Point.{Point}
 use Rattle.md_engine.specs.declared.event.Event.{Event}
 use Rattle.md_engine.specs.declared.event.Kind.TheVariants.{Enter}
+use Rattle.md_engine.specs.declared.event.Content.{Content}
 use Rattle.md_engine.specs.declared.event.Content.TheVariants as c
 use Rattle.md_engine.specs.declared.event.Name.TheVariants as n
 use Rattle.md_definition.specs.Tree as t
@@ -24,16 +25,22 @@ at line column index = record { line = line; column = column; index = index; vs 
 abbrev pub within_tab : ℕ → ℕ → ℕ → ℕ → Point
 within_tab line column index vs = record { line = line; column = column; index = index; vs = vs }
 
--- a chunk that is not read yet
-abbrev pub chunk : Point → Point → List Event
-chunk p q =
+-- a chunk that is not read yet: of a text, and of a string
+abbrev chunk_of : Content → Point → Point → List Event
+chunk_of content p q =
     (record {
       kind = Enter;
       name = n.Data;
       point = p;
-      link = Some (record { previous = false; next = false; content = c.Text });
+      link = Some (record { previous = false; next = false; content = content });
     })
     ∷ exit n.Data q ∷ []
+
+abbrev pub chunk : Point → Point → List Event
+chunk p q = chunk_of c.Text p q
+
+abbrev pub string_chunk : Point → Point → List Event
+string_chunk p q = chunk_of c.String p q
 
 -- a line of code
 abbrev pub line : ℕ → List ℕ → t.Line

@@ -7,7 +7,7 @@ use Rattle.md_definition.specs.Tree as t
 use Rattle.md_seam.specs.Events.Spelled.{spelled}
 use Rattle.md_seam.specs.Events.Nested.{pair, around}
 use Rattle.md_seam.specs.Events.Grammar.{keeps_grammar}
-use Rattle.md_seam.proofs.EventRowParts.{at, chunk, line, Row}
+use Rattle.md_seam.proofs.EventRowParts.{at, chunk, string_chunk, line, Row}
 
 -- nothing: ""
 abbrev pub empty_text : List ℕ
@@ -291,10 +291,10 @@ fence_events =
     (around n.CodeFencedFence (at 1 1 0) (at 1 9 8)
     (pair n.CodeFencedFenceSequence (at 1 1 0) (at 1 4 3)
     ++ around n.CodeFencedFenceInfo (at 1 4 3) (at 1 5 4)
-    (chunk (at 1 4 3) (at 1 5 4))
+    (string_chunk (at 1 4 3) (at 1 5 4))
     ++ pair n.SpaceOrTab (at 1 5 4) (at 1 6 5)
     ++ around n.CodeFencedFenceMeta (at 1 6 5) (at 1 9 8)
-    (chunk (at 1 6 5) (at 1 9 8)))
+    (string_chunk (at 1 6 5) (at 1 9 8)))
     ++ pair n.LineEnding (at 1 9 8) (at 2 1 9)
     ++ pair n.CodeFlowChunk (at 2 1 9) (at 2 2 10)
     ++ pair n.LineEnding (at 2 2 10) (at 3 1 11)
@@ -454,7 +454,7 @@ math_events =
     (pair n.MathFlowFenceSequence (at 1 1 0) (at 1 3 2)
     ++ pair n.SpaceOrTab (at 1 3 2) (at 1 4 3)
     ++ around n.MathFlowFenceMeta (at 1 4 3) (at 1 5 4)
-    (chunk (at 1 4 3) (at 1 5 4)))
+    (string_chunk (at 1 4 3) (at 1 5 4)))
     ++ pair n.LineEnding (at 1 5 4) (at 2 1 5)
     ++ pair n.MathFlowChunk (at 2 1 5) (at 2 2 6)
     ++ pair n.LineEnding (at 2 2 6) (at 3 1 7)
@@ -537,7 +537,7 @@ empty_parts_events =
     (around n.DefinitionLabel (at 1 1 0) (at 2 2 4)
     (pair n.DefinitionLabelMarker (at 1 1 0) (at 1 2 1)
     ++ around n.DefinitionLabelString (at 1 2 1) (at 2 1 3)
-    (chunk (at 1 2 1) (at 2 1 3))
+    (string_chunk (at 1 2 1) (at 2 1 3))
     ++ pair n.DefinitionLabelMarker (at 2 1 3) (at 2 2 4))
     ++ pair n.DefinitionMarker (at 2 2 4) (at 2 3 5)
     ++ pair n.SpaceOrTab (at 2 3 5) (at 2 4 6)
@@ -583,22 +583,22 @@ empty_lines_events =
     (around n.DefinitionLabel (at 1 1 0) (at 2 4 5)
     (pair n.DefinitionLabelMarker (at 1 1 0) (at 1 2 1)
     ++ around n.DefinitionLabelString (at 1 2 1) (at 2 3 4)
-    (chunk (at 1 2 1) (at 2 1 2)
-    ++ chunk (at 2 1 2) (at 2 3 4))
+    (string_chunk (at 1 2 1) (at 2 1 2)
+    ++ string_chunk (at 2 1 2) (at 2 3 4))
     ++ pair n.DefinitionLabelMarker (at 2 3 4) (at 2 4 5))
     ++ pair n.DefinitionMarker (at 2 4 5) (at 2 5 6)
     ++ pair n.SpaceOrTab (at 2 5 6) (at 2 6 7)
     ++ around n.DefinitionDestination (at 2 6 7) (at 2 7 8)
     (around n.DefinitionDestinationRaw (at 2 6 7) (at 2 7 8)
     (around n.DefinitionDestinationString (at 2 6 7) (at 2 7 8)
-    (chunk (at 2 6 7) (at 2 7 8))))
+    (string_chunk (at 2 6 7) (at 2 7 8))))
     ++ pair n.SpaceOrTab (at 2 7 8) (at 2 8 9)
     ++ around n.DefinitionTitle (at 2 8 9) (at 3 4 14)
     (pair n.DefinitionTitleMarker (at 2 8 9) (at 2 9 10)
     ++ around n.DefinitionTitleString (at 2 9 10) (at 3 3 13)
-    (chunk (at 2 9 10) (at 3 1 11)
+    (string_chunk (at 2 9 10) (at 3 1 11)
     ++ pair n.SpaceOrTab (at 3 1 11) (at 3 2 12)
-    ++ chunk (at 3 2 12) (at 3 3 13))
+    ++ string_chunk (at 3 2 12) (at 3 3 13))
     ++ pair n.DefinitionTitleMarker (at 3 3 13) (at 3 4 14)))
 
 abbrev pub empty_lines_tree : t.Blocks

@@ -23,9 +23,13 @@ use Rattle.md_seam.specs.Events.Tiles.{stands_in_part}
 
 -- The name of a piece.
 
--- chunks that are not read yet have the name of a piece
+-- chunks that are not read yet have such a name
+abbrev pub AreCalled : (Name → Bool) → List Piece → Type 0
+AreCalled test pieces = list_all (λ (piece : Piece). not piece.linked || test piece.name) pieces ≡ true
+
+-- and it is that of a piece
 abbrev AreNamed : List Piece → Type 0
-AreNamed pieces = list_all (λ (piece : Piece). not piece.linked || is_piece_name piece.name) pieces ≡ true
+AreNamed pieces = AreCalled is_piece_name pieces
 
 -- a rule that holds of a text is one
 over-named : (rule : Option (List ℕ → Bool)) (text : List ℕ) →
@@ -114,36 +118,43 @@ end-behind bytes index h = grind (arith, nat_tests)
 
 -- Events.
 
--- whether an event has the name of a piece, if it is read later
+-- whether an event has such a name, if it is read later
+abbrev pub is_called : (Name → Bool) → Event → Bool
+is_called test e = not (is_linked e) || test e.name
+
+-- whether it has the name of a piece
 abbrev pub is_named : Event → Bool
-is_named e = not (is_linked e) || is_piece_name e.name
+is_named e = is_called is_piece_name e
 
 -- their pieces
-pieces-named : (e : Event) (es : List Event) → list_all is_named (e ∷ es) ≡ true → AreNamed (pieces_from e es)
-pieces-named e [] h = refl
-pieces-named e (f ∷ es) h =
-    let both : (is_named e ≡ true) ×
-    (list_all is_named (f ∷ es) ≡ true) = and_parts (is_named e) (list_all is_named (f ∷ es)) h in
-    go e.kind f.kind both.0 (pieces-named f es both.1)
+pieces-called : (test : Name → Bool) (e : Event) (es : List Event) → list_all (is_called test) (e ∷ es) ≡ true →
+    AreCalled test (pieces_from e es)
+pieces-called test e [] h = refl
+pieces-called test e (f ∷ es) h =
+    let both : (is_called test e ≡ true) ×
+    (list_all (is_called test) (f ∷ es) ≡ true) = and_parts (is_called test e) (list_all (is_called test) (f ∷ es)) h in
+    go e.kind f.kind both.0 (pieces-called test f es both.1)
   where
-    go : (k l : Kind) → is_named e ≡ true → AreNamed (pieces_from f es) →
-        AreNamed (piece_of e f k l ++ pieces_from f es)
+    go : (k l : Kind) → is_called test e ≡ true → AreCalled test (pieces_from f es) →
+        AreCalled test (piece_of e f k l ++ pieces_from f es)
     go Enter Exit one rest =
-        and_from (is_named e)
-        (list_all (λ (piece : Piece). not piece.linked || is_piece_name piece.name) (pieces_from f es)) one rest
+        and_from (is_called test e)
+        (list_all (λ (piece : Piece). not piece.linked || test piece.name) (pieces_from f es)) one rest
     go Enter Enter one rest = rest
     go Exit l one rest = rest
 
-all-named : (events : List Event) → list_all is_named events ≡ true → AreNamed (pieces events)
-all-named [] h = refl
-all-named (e ∷ es) h = pieces-named e es h
+pub all-called : (test : Name → Bool) (events : List Event) → list_all (is_called test) events ≡ true →
+    AreCalled test (pieces events)
+all-called test [] h = refl
+all-called test (e ∷ es) h = pieces-called test e es h
 
 -- Every byte of a text stands in a piece of its events.
 pub bytes-held : (bytes : List ℕ) (events : List Event) → Covers first_point (pieces events) (end_point bytes) →
     pieces_stand bytes (pieces events) ≡ true → list_all is_named events ≡ true → (index : ℕ) → index < length bytes →
     Holds bytes (pieces events) index
 bytes-held bytes events covers stand named index h =
-    pieces-hold bytes first_point (end_point bytes) (pieces events) index covers stand (all-named events named)
+    pieces-hold bytes first_point (end_point bytes) (pieces events) index covers stand
+    (all-called is_piece_name events named)
     (first-before index) (end-behind bytes index h)
 
 -- A block list, where each chunk is called `Data`.
@@ -164,9 +175,9 @@ chunk-data e (f ∷ es) h =
     (and_parts (not (is_exit e.kind)) (is_data e.name) named).1
 
 -- an event in a text part, where chunks stand only in text parts, and what stands behind it
-inside-named : (depth : ℕ) (e : Event) (es : List Event) → chunks_stand (suc depth) (e ∷ es) ≡ true →
-    (is_named e ≡ true) × ((behind : ℕ) × (chunks_stand behind es ≡ true))
-inside-named depth e es h = go (is_part e.name) (is_linked e) h
+inside-data : (depth : ℕ) (e : Event) (es : List Event) → chunks_stand (suc depth) (e ∷ es) ≡ true →
+    (is_called is_data e ≡ true) × ((behind : ℕ) × (chunks_stand behind es ≡ true))
+inside-data depth e es h = go (is_part e.name) (is_linked e) h
   where
     behind : ℕ
     behind = depth_behind e.kind (suc depth)
@@ -175,34 +186,51 @@ inside-named depth e es h = go (is_part e.name) (is_linked e) h
         cond part (is_exit e.kind && (depth == 0) && not linked && chunks_stand 0 es)
         ((cond linked ((depth == 0) && is_chunk e es) (stands_in_part e.kind e.name)) && chunks_stand behind es) ≡
         true →
-        ((not linked || is_piece_name e.name) ≡ true) × ((behind : ℕ) × (chunks_stand behind es ≡ true))
+        ((not linked || is_data e.name) ≡ true) × ((behind : ℕ) × (chunks_stand behind es ≡ true))
     go true linked h =
         let both : (is_exit e.kind && (depth == 0) && not linked ≡ true) ×
         (chunks_stand 0 es ≡ true) = and_parts (is_exit e.kind && (depth == 0) && not linked)
         (chunks_stand 0 es) h in (
-          or_left (not linked) (is_piece_name e.name)
+          or_left (not linked) (is_data e.name)
               (and_parts (is_exit e.kind && (depth == 0)) (not linked) both.0).1,
           (0, both.1),
         )
     go false true h =
         let both : ((depth == 0) && is_chunk e es ≡ true) ×
         (chunks_stand behind es ≡ true) = and_parts ((depth == 0) && is_chunk e es) (chunks_stand behind es) h in
-        (data-named e.name (chunk-data e es (and_parts (depth == 0) (is_chunk e es) both.0).1), (behind, both.1))
+        (chunk-data e es (and_parts (depth == 0) (is_chunk e es) both.0).1, (behind, both.1))
     go false false h = (refl, (behind, (and_parts (stands_in_part e.kind e.name) (chunks_stand behind es) h).1))
 
--- all events
-pub chunks-named : (depth : ℕ) (events : List Event) → chunks_stand depth events ≡ true →
-    list_all is_named events ≡ true
-chunks-named depth [] h = refl
-chunks-named zero (e ∷ es) h =
+-- all events that are read later are called `Data`
+pub chunks-data : (depth : ℕ) (events : List Event) → chunks_stand depth events ≡ true →
+    list_all (is_called is_data) events ≡ true
+chunks-data depth [] h = refl
+chunks-data zero (e ∷ es) h =
     let behind : ℕ = cond (is_part e.name && not (is_exit e.kind)) 1 0 in
     let both : (not (is_linked e) ≡ true) ×
     (chunks_stand behind es ≡ true) = and_parts (not (is_linked e)) (chunks_stand behind es) h in
-    and_from (is_named e) (list_all is_named es) (or_left (not (is_linked e)) (is_piece_name e.name) both.0)
-    (chunks-named behind es both.1)
-chunks-named (suc depth) (e ∷ es) h =
-    let both : (is_named e ≡ true) × ((behind : ℕ) × (chunks_stand behind es ≡ true)) = inside-named depth e es h in
-    and_from (is_named e) (list_all is_named es) both.0 (chunks-named both.1.0 es both.1.1)
+    and_from (is_called is_data e) (list_all (is_called is_data) es) (or_left (not (is_linked e)) (is_data e.name) both.0)
+    (chunks-data behind es both.1)
+chunks-data (suc depth) (e ∷ es) h =
+    let both : (is_called is_data e ≡ true) × ((behind : ℕ) × (chunks_stand behind es ≡ true)) = inside-data depth e es
+    h in
+    and_from (is_called is_data e) (list_all (is_called is_data) es) both.0 (chunks-data both.1.0 es both.1.1)
+
+-- so they have the name of a piece
+all-named : (events : List Event) → list_all (is_called is_data) events ≡ true → list_all is_named events ≡ true
+all-named [] h = refl
+all-named (e ∷ es) h =
+    let both : (is_called is_data e ≡ true) × (list_all (is_called is_data) es ≡ true) = and_parts (is_called is_data e)
+    (list_all (is_called is_data) es) h in
+    and_from (is_named e) (list_all is_named es) (go (is_linked e) both.0) (all-named es both.1)
+  where
+    go : (linked : Bool) → (not linked || is_data e.name) ≡ true → (not linked || is_piece_name e.name) ≡ true
+    go true h = data-named e.name h
+    go false h = refl
+
+pub chunks-named : (depth : ℕ) (events : List Event) → chunks_stand depth events ≡ true →
+    list_all is_named events ≡ true
+chunks-named depth events h = all-named events (chunks-data depth events h)
 
 -- So every byte of a text stands in a piece of its block list.
 pub blocks-held : (bytes : List ℕ) (blocks : List Event) → Covers first_point (pieces blocks) (end_point bytes) →

@@ -1,7 +1,8 @@
 -- The plain layer keeps the promise of all inline layers.
-use Rattle.std.proofs.Common.{◌≡◌, ℕ, suc, ◌+◌, ◌-◌, ◌≤◌, Bool, true, false, cond, ◌&&◌, List, [], ◌∷◌, ◌++◌, length}
+use Rattle.std.proofs.Common.{◌≡◌, ℕ, suc, ◌+◌, ◌-◌, ◌<◌, ◌≤◌, Bool, true, false, cond, ◌&&◌, List, [], ◌∷◌, ◌++◌}
+use Rattle.std.proofs.Common.{length}
 use Rattle.std.proofs.Common.{take, drop, refl, ap, sym, ◌∙◌, subst, append_assoc, arith}
-use Rattle.std.specs.Prelude.{◌==◌, IsTrue, not}
+use Rattle.std.specs.Prelude.{◌==◌, IsTrue, nat_le, nat_lt, not}
 use Rattle.std.specs.List.{list_all, prefix_len}
 use Rattle.std.proofs.lemmas.List.{append-nil, take-append-drop, length-take}
 use Rattle.std.proofs.lemmas.List.Sums.{take_while-cons}
@@ -15,13 +16,15 @@ use Rattle.md_seam.specs.declared.inline.Chunk.{Chunk}
 use Rattle.md_definition.specs.Lines.{is_ending, without_ending}
 use Rattle.md_seam.specs.Events.Places.{first_point, is_placed, are_placed, same_place, at_or_before, past_byte}
 use Rattle.md_seam.specs.Events.Places.{past_text}
-use Rattle.md_seam.specs.Events.Nested.{pair, Balanced, Forward, last_point}
+use Rattle.md_seam.specs.Events.Nested.{exit, pair, Balanced, Forward, last_point}
 use Rattle.md_seam.specs.Events.Inline.{Part, pieces, Covers, in_order, chunk_placed, chunk_text, line_end}
 use Rattle.md_seam.specs.Events.Inline.{pair_unless_empty, endings_of, plain_chunk, plain_chunks, together}
 use Rattle.md_seam.specs.Events.Inline.{plain_events, is_inline, is_line_ending, line_endings, Fills, Framed, IsPart}
-use Rattle.md_seam.specs.Events.Inline.{KeepsFrame}
+use Rattle.md_seam.specs.Events.Inline.{KeepsFrame, cut_at, ends_whole}
+use Rattle.md_seam.specs.Substituted.{belongs}
 use Rattle.md_definition.proofs.TextsLemmas.{NoEnding}
 use Rattle.md_seam.proofs.PlacesLemmas.{all-append, placed-facts, placed-from, placed-text}
+use Rattle.md_seam.proofs.CutLemmas.{cut-front, cut-last}
 use Rattle.md_seam.proofs.NestedLemmas.{balanced-none, balanced-append, at_or_before-refl, at_or_before-trans}
 use Rattle.md_seam.proofs.NestedLemmas.{forward-from}
 
@@ -296,6 +299,103 @@ plain-fills bytes p (chunk ∷ chunks) h =
       plain-fills bytes chunk.after chunks outer.1,
     )
 
+-- What it gives for each chunk is what is cut out for it.
+
+-- an event that stands at a chunk's end, or before it
+pair-belongs : (end : ℕ) (name : Name) (p q : Point) → (same_place p q ≡ false → p.index < end) → q.index ≤ end →
+    list_all (belongs end) (pair_unless_empty name p q) ≡ true
+pair-belongs end name p q h k = go (same_place p q) refl
+  where
+    first : p.index < end → nat_lt p.index end ≡ true
+    first lt = grind (arith, nat_tests)
+
+    last : nat_le q.index end ≡ true
+    last = grind (arith, nat_tests)
+
+    go : (x : Bool) → same_place p q ≡ x → list_all (belongs end) (cond x [] (pair name p q)) ≡ true
+    go true e = refl
+    go false e =
+        and_from (nat_lt p.index end) (nat_le q.index end && true) (first (h e))
+        (and_from (nat_le q.index end) true last refl)
+
+index-before : (p q : Point) → IsTrue (at_or_before p q) → p.index ≤ q.index
+index-before p q h = grind (arith, nat_tests)
+
+-- a line that is not empty has bytes
+line-bytes : (text : List ℕ) (p : Point) → same_place p (past_text text p) ≡ false → p.index < (past_text text p).index
+line-bytes [] p h = let same : same_place p p ≡ true = same-refl p in cc
+line-bytes (b ∷ text) p h = omega (arith, past-index (b ∷ text) p)
+
+-- and so has an ending that does not end within a tab
+ending-bytes : (p q : Point) → IsTrue (at_or_before p q) → (q.vs == 0) ≡ true → same_place p q ≡ false → p.index < q.index
+ending-bytes p q h whole apart = grind (arith, nat_tests)
+
+plain-belongs : (bytes : List ℕ) (chunk : Chunk) → IsTrue (at_or_before chunk.first chunk.after) →
+    IsTrue (ends_whole chunk) → list_all (belongs chunk.after.index) (plain_chunk bytes chunk) ≡ true
+plain-belongs bytes chunk h whole =
+    let end : Point = line_end bytes chunk in
+    let before : IsTrue (at_or_before end chunk.after) = end-before bytes chunk h in
+    let index : end.index ≤ chunk.after.index = index-before end chunk.after before in
+    all-append (belongs chunk.after.index) (pair_unless_empty n.Data chunk.first end)
+    (pair_unless_empty n.LineEnding end chunk.after)
+    (pair-belongs chunk.after.index n.Data chunk.first end
+    (λ apart. omega (arith, index, line-bytes (without_ending (chunk_text bytes chunk)) chunk.first apart)) index)
+    (pair-belongs chunk.after.index n.LineEnding end chunk.after (ending-bytes end chunk.after before whole)
+    (omega arith))
+
+-- what begins at a chunk's end, or behind it
+pair-behind : (end : ℕ) (name : Name) (p q : Point) (rest : List Event) → end ≤ p.index →
+    prefix_len (belongs end) rest ≡ 0 → prefix_len (belongs end) (pair_unless_empty name p q ++ rest) ≡ 0
+pair-behind end name p q rest h none = go (same_place p q)
+  where
+    late : nat_lt p.index end ≡ false
+    late = grind (arith, nat_tests)
+
+    go : (x : Bool) → prefix_len (belongs end) (cond x [] (pair name p q) ++ rest) ≡ 0
+    go true = none
+    go false = ap (λ (x : Bool). cond x (1 + prefix_len (belongs end) (exit name q ∷ rest)) 0) late
+
+plain-behind : (bytes : List ℕ) (end : ℕ) (p : Point) (chunks : List Chunk) → end ≤ p.index →
+    in_order p chunks ≡ true → prefix_len (belongs end) (together (plain_chunks bytes chunks)) ≡ 0
+plain-behind bytes end p [] h order = refl
+plain-behind bytes end p (chunk ∷ chunks) h order =
+    let outer : (at_or_before p chunk.first && at_or_before chunk.first chunk.after ≡ true) ×
+    (in_order chunk.after chunks ≡ true) = and_parts
+    (at_or_before p chunk.first && at_or_before chunk.first chunk.after) (in_order chunk.after chunks) order in
+    let inner : (at_or_before p chunk.first ≡ true) ×
+    (at_or_before chunk.first chunk.after ≡ true) = and_parts (at_or_before p chunk.first)
+    (at_or_before chunk.first chunk.after) outer.0 in
+    let to : Point = line_end bytes chunk in
+    let first : p.index ≤ chunk.first.index = index-before p chunk.first inner.0 in
+    let line : chunk.first.index ≤ to.index = index-before chunk.first to (end-behind bytes chunk) in
+    let after : chunk.first.index ≤ chunk.after.index = index-before chunk.first chunk.after inner.1 in
+    let content : List Event = pair_unless_empty n.Data chunk.first to in
+    let ending : List Event = pair_unless_empty n.LineEnding to chunk.after in
+    let rest : List Event = together (plain_chunks bytes chunks) in
+    ap (prefix_len (belongs end)) (append_assoc content ending rest)
+    ∙ pair-behind end n.Data chunk.first to (ending ++ rest) (omega (arith, h, first))
+    (pair-behind end n.LineEnding to chunk.after rest (omega (arith, h, first, line))
+    (plain-behind bytes end chunk.after chunks (omega (arith, h, first, after)) outer.1))
+
+plain-cut : (bytes : List ℕ) (p : Point) (chunks : List Chunk) → in_order p chunks ≡ true →
+    list_all ends_whole chunks ≡ true → cut_at chunks (together (plain_chunks bytes chunks)) ≡ plain_chunks bytes chunks
+plain-cut bytes p [] order whole = refl
+plain-cut bytes p (chunk ∷ []) order whole = cut-last chunk (plain_chunk bytes chunk)
+plain-cut bytes p (chunk ∷ next ∷ chunks) order whole =
+    let outer : (at_or_before p chunk.first && at_or_before chunk.first chunk.after ≡ true) ×
+    (in_order chunk.after (next ∷ chunks) ≡ true) = and_parts
+    (at_or_before p chunk.first && at_or_before chunk.first chunk.after) (in_order chunk.after (next ∷ chunks)) order in
+    let inner : (at_or_before p chunk.first ≡ true) ×
+    (at_or_before chunk.first chunk.after ≡ true) = and_parts (at_or_before p chunk.first)
+    (at_or_before chunk.first chunk.after) outer.0 in
+    let ends : (ends_whole chunk ≡ true) × (list_all ends_whole (next ∷ chunks) ≡ true) = and_parts (ends_whole chunk)
+    (list_all ends_whole (next ∷ chunks)) whole in
+    cut-front chunk next chunks (plain_chunk bytes chunk) (together (plain_chunks bytes (next ∷ chunks)))
+    (plain-belongs bytes chunk inner.1 ends.0)
+    (plain-behind bytes chunk.after.index chunk.after (next ∷ chunks) (omega arith) outer.1)
+    ∙ ap (λ (l : List (List Event)). plain_chunk bytes chunk ∷ l)
+    (plain-cut bytes chunk.after (next ∷ chunks) outer.1 ends.1)
+
 -- What the plain layer gives for a text part keeps the promise of every layer.
 pub plain-framed : (bytes : List ℕ) (part : Part) → IsPart bytes part → Framed bytes part (plain_events bytes part)
 plain-framed bytes part is = record {
@@ -303,9 +403,9 @@ plain-framed bytes part is = record {
   placed = plain-placed bytes part.chunks is.placed;
   inline = plain-inline bytes part.chunks;
   endings = plain-endings bytes part.chunks;
-  cut = plain_chunks bytes part.chunks;
-  whole = refl;
-  fills = plain-fills bytes first_point part.chunks is.order;
+  fills =
+      subst (Fills part.chunks) (sym (plain-cut bytes first_point part.chunks is.order is.whole))
+      (plain-fills bytes first_point part.chunks is.order);
 }
 
 pub plain-keeps : (bytes : List ℕ) → KeepsFrame bytes (λ part events. events ≡ plain_events bytes part)

@@ -1,21 +1,27 @@
 -- The text parts of a block list may be read, and the tree does not depend on how.
-use Rattle.std.proofs.Common.{◌≡◌, ℕ, Bool, true, false, cond, ◌&&◌, List, [], ◌∷◌, ◌++◌, refl, ap, ◌∙◌, arith}
-use Rattle.std.specs.Prelude.{Option, Some, None, IsTrue}
+use Rattle.std.proofs.Common.{◌≡◌, ℕ, Bool, true, false, cond, not, ◌&&◌, ◌||◌, List, [], ◌∷◌, ◌++◌, refl, ap, ◌∙◌, arith}
+use Rattle.std.specs.Prelude.{◌==◌, Option, Some, None, IsTrue}
 use Rattle.std.specs.List.{list_all}
 use Rattle.std.proofs.lemmas.Bool.{and_parts, and_from}
 use Rattle.md_engine.specs.declared.event.Point.{Point}
 use Rattle.md_engine.specs.declared.event.Event.{Event}
 use Rattle.md_engine.specs.declared.event.Kind.{Kind}
 use Rattle.md_engine.specs.declared.event.Kind.TheVariants.{Enter, Exit}
+use Rattle.md_engine.specs.declared.event.Name.{Name}
+use Rattle.md_engine.specs.declared.event.Name.TheVariants as n
+use Rattle.md_definition.specs.Texts.{split_lines}
 use Rattle.md_seam.specs.declared.inline.PartKind.{PartKind}
 use Rattle.md_seam.specs.declared.inline.Chunk.{Chunk}
-use Rattle.md_seam.specs.Events.Places.{first_point, is_placed, are_placed, at_or_before}
+use Rattle.md_seam.specs.Events.Pieces.{begins_in_tab, ends_in_tab, piece_stands, piece_text, pieces_stand, stands_over}
+use Rattle.md_seam.specs.Events.Places.{first_point, is_placed, are_placed, at_or_before, same_place}
 use Rattle.md_seam.specs.Events.Nested.{Forward, is_exit}
 use Rattle.md_seam.specs.Events.Spelled.{Role, spelled}
 use Rattle.md_seam.specs.Events.Inline.{Part, Piece, IsPart, KeepsFrame, is_linked, is_inline, together, piece_of}
-use Rattle.md_seam.specs.Events.Inline.{pieces_from, pieces, in_order, chunk_placed, are_lines}
+use Rattle.md_seam.specs.Events.Inline.{pieces_from, pieces, in_order, chunk_placed, are_lines, ends_whole, is_one_line}
 use Rattle.md_seam.specs.Events.Tiles.{begins_at, is_part, parts, part_kind, part_of, part_at, part_end, is_white_piece}
+use Rattle.md_seam.specs.Events.Tiles.{is_data, links_kind}
 use Rattle.md_seam.specs.Events.Tiles.{part_stands, parts_stand, inside_part, chunks, IsBlockList, EachRead, Tiles}
+use Rattle.md_seam.proofs.HeldLemmas.{AreCalled, all-called, chunks-data}
 use Rattle.md_seam.proofs.NestedLemmas.{at_or_before-refl, at_or_before-trans}
 use Rattle.md_seam.proofs.SpelledLemmas.{Roles, QuietOrEnding}
 use Rattle.md_seam.proofs.FilledLemmas.{EachInline, inline-role, spelled-filled}
@@ -115,6 +121,109 @@ inside-placed bytes (e ∷ es) placed =
     go true h rest = refl
     go false h rest = and_from (is_placed bytes e.point) (are_placed bytes (inside_part es)) h rest
 
+-- Chunks end between two bytes.
+
+-- whether a piece does, if it is not read yet
+abbrev is_whole : Piece → Bool
+is_whole piece = not piece.linked || (piece.after.vs == 0)
+
+-- `Data` does not end within a tab
+data-whole : (name : Name) → is_data name ≡ true → ends_in_tab name ≡ false
+data-whole n.Data h = refl
+data-whole name h = cc
+
+whole-piece : (bytes : List ℕ) (piece : Piece) → piece_stands bytes piece ≡ true →
+    (not piece.linked || is_data piece.name) ≡ true → is_whole piece ≡ true
+whole-piece bytes piece stands data_link = go piece.linked data_link
+  where
+    text : List ℕ
+    text = piece_text bytes piece
+
+    ends : ((piece.after.vs == 0) || ends_in_tab piece.name) ≡ true
+    ends =
+        (and_parts (not (same_place piece.first piece.after) && ((piece.first.vs == 0) || begins_in_tab piece.name))
+        ((piece.after.vs == 0) || ends_in_tab piece.name)
+        (and_parts
+        (not (same_place piece.first piece.after) && ((piece.first.vs == 0) || begins_in_tab piece.name)
+        && ((piece.after.vs == 0) || ends_in_tab piece.name))
+        (cond piece.linked (is_one_line (split_lines text) true) (stands_over piece.name text)) stands).0).1
+
+    one : (x y : Bool) → (x || y) ≡ true → y ≡ false → x ≡ true
+    one true y h k = refl
+    one false y h k = cc
+
+    go : (linked : Bool) → (not linked || is_data piece.name) ≡ true → (not linked || (piece.after.vs == 0)) ≡ true
+    go true h = one (piece.after.vs == 0) (ends_in_tab piece.name) ends (data-whole piece.name h)
+    go false h = refl
+
+whole-pieces : (bytes : List ℕ) (list : List Piece) → pieces_stand bytes list ≡ true → AreCalled is_data list →
+    list_all is_whole list ≡ true
+whole-pieces bytes [] stand called = refl
+whole-pieces bytes (piece ∷ list) stand called =
+    let stands : (piece_stands bytes piece ≡ true) × (pieces_stand bytes list ≡ true) = and_parts
+    (piece_stands bytes piece) (pieces_stand bytes list) stand in
+    let names : ((not piece.linked || is_data piece.name) ≡ true) × AreCalled is_data list = and_parts
+    (not piece.linked || is_data piece.name)
+    (list_all (λ (piece : Piece). not piece.linked || is_data piece.name) list) called in
+    and_from (is_whole piece) (list_all is_whole list) (whole-piece bytes piece stands.0 names.0)
+    (whole-pieces bytes list stands.1 names.1)
+
+-- behind the first event
+whole-behind : (e : Event) (es : List Event) → list_all is_whole (pieces_from e es) ≡ true →
+    list_all is_whole (pieces es) ≡ true
+whole-behind e [] whole = refl
+whole-behind e (f ∷ es) whole = go e.kind f.kind whole
+  where
+    go : (k l : Kind) → list_all is_whole (piece_of e f k l ++ pieces_from f es) ≡ true →
+        list_all is_whole (pieces_from f es) ≡ true
+    go Enter Exit h =
+        (and_parts (not (is_linked e) || (f.point.vs == 0)) (list_all is_whole (pieces_from f es)) h).1
+    go Enter Enter h = h
+    go Exit l h = h
+
+-- and inside of a part
+whole-from : (e : Event) (es : List Event) → list_all is_whole (pieces_from e es) ≡ true →
+    list_all is_whole (pieces_from e (inside_part es)) ≡ true
+whole-from e [] whole = refl
+whole-from e (f ∷ es) whole = go (is_part f.name && is_exit f.kind) (whole-from f es (whole-behind e (f ∷ es) whole))
+  where
+    here : (k l : Kind) → list_all is_whole (piece_of e f k l ++ pieces_from f es) ≡ true →
+        list_all is_whole (pieces_from f (inside_part es)) ≡ true →
+        list_all is_whole (piece_of e f k l ++ pieces_from f (inside_part es)) ≡ true
+    here Enter Exit h rest =
+        and_from (not (is_linked e) || (f.point.vs == 0)) (list_all is_whole (pieces_from f (inside_part es)))
+        (and_parts (not (is_linked e) || (f.point.vs == 0)) (list_all is_whole (pieces_from f es)) h).0 rest
+    here Enter Enter h rest = rest
+    here Exit l h rest = rest
+
+    go : (x : Bool) → list_all is_whole (pieces_from f (inside_part es)) ≡ true →
+        list_all is_whole (pieces_from e (cond x [] (f ∷ inside_part es))) ≡ true
+    go true rest = refl
+    go false rest = here e.kind f.kind whole rest
+
+whole-inside : (es : List Event) → list_all is_whole (pieces es) ≡ true →
+    list_all is_whole (pieces (inside_part es)) ≡ true
+whole-inside [] whole = refl
+whole-inside (e ∷ es) whole = go (is_part e.name && is_exit e.kind)
+  where
+    go : (x : Bool) → list_all is_whole (pieces (cond x [] (e ∷ inside_part es))) ≡ true
+    go true = refl
+    go false = whole-from e es whole
+
+whole-chunks : (list : List Piece) → list_all is_whole list ≡ true → list_all ends_whole (chunks list) ≡ true
+whole-chunks [] whole = refl
+whole-chunks (piece ∷ list) whole =
+    let both : (is_whole piece ≡ true) × (list_all is_whole list ≡ true) = and_parts (is_whole piece)
+    (list_all is_whole list) whole in
+    go piece.linked both.0 (whole-chunks list both.1)
+  where
+    go : (linked : Bool) → (not linked || (piece.after.vs == 0)) ≡ true → list_all ends_whole (chunks list) ≡ true →
+        list_all ends_whole
+        (cond linked ((record { first = piece.first; after = piece.after }) ∷ chunks list) (chunks list)) ≡
+        true
+    go true h rest = and_from (piece.after.vs == 0) (list_all ends_whole (chunks list)) h rest
+    go false h rest = rest
+
 -- what holds of each part
 abbrev pub EachPart : (Part → Type 0) → List Part → Type 0
 EachPart P [] = Unit {0}
@@ -125,30 +234,33 @@ each-part-append P [] ys h k = k
 each-part-append P (part ∷ xs) ys h k = (h.0, each-part-append P xs ys h.1 k)
 
 part-is : (bytes : List ℕ) (kind : PartKind) (end : Point) (list : List Chunk) → are_lines bytes end list ≡ true →
-    in_order first_point list ≡ true → list_all (chunk_placed bytes) list ≡ true →
+    list_all ends_whole list ≡ true → in_order first_point list ≡ true → list_all (chunk_placed bytes) list ≡ true →
     EachPart (IsPart bytes) (part_of kind list)
-part-is bytes kind end [] lines order placed = tt
-part-is bytes kind end (chunk ∷ list) lines order placed =
-    (record { end = end; lines = lines; some = omega arith; order = order; placed = placed }, tt)
+part-is bytes kind end [] lines whole order placed = tt
+part-is bytes kind end (chunk ∷ list) lines whole order placed =
+    (record { end = end; lines = lines; whole = whole; some = omega arith; order = order; placed = placed }, tt)
 
 parts-at : (bytes : List ℕ) (p : Point) (kind : Kind) (part : Option PartKind) (es : List Event) →
-    part_stands bytes kind part p es ≡ true → Forward p es → are_placed bytes es ≡ true →
-    IsTrue (at_or_before first_point p) → EachPart (IsPart bytes) (part_at kind part es)
-parts-at bytes p Enter (Some kind) es stands forward placed h =
+    part_stands bytes kind part p es ≡ true → list_all is_whole (pieces es) ≡ true → Forward p es →
+    are_placed bytes es ≡ true → IsTrue (at_or_before first_point p) → EachPart (IsPart bytes) (part_at kind part es)
+parts-at bytes p Enter (Some kind) es stands whole forward placed h =
     let list : List Chunk = chunks (pieces (inside_part es)) in
+    let front : Bool = begins_at p list && list_all (is_white_piece bytes) (pieces (inside_part es)) in
     part-is bytes kind (part_end es) list
-    (and_parts (begins_at p list && list_all (is_white_piece bytes) (pieces (inside_part es)))
-    (are_lines bytes (part_end es) list) stands).1
+    (and_parts front (are_lines bytes (part_end es) list)
+    (and_parts (front && are_lines bytes (part_end es) list) (list_all (links_kind kind) (inside_part es)) stands).0).1
+    (whole-chunks (pieces (inside_part es)) (whole-inside es whole))
     (order-from first_point p (chunks (pieces (inside_part es))) h
     (order-chunks p (inside_part es) (inside-forward p es forward)))
     (placed-chunks bytes (inside_part es) (inside-placed bytes es placed))
-parts-at bytes p Enter None es stands forward placed h = tt
-parts-at bytes p Exit part es stands forward placed h = tt
+parts-at bytes p Enter None es stands whole forward placed h = tt
+parts-at bytes p Exit part es stands whole forward placed h = tt
 
-parts-from : (bytes : List ℕ) (p : Point) (es : List Event) → parts_stand bytes es ≡ true → Forward p es →
-    are_placed bytes es ≡ true → IsTrue (at_or_before first_point p) → EachPart (IsPart bytes) (parts es)
-parts-from bytes p [] stands forward placed h = tt
-parts-from bytes p (e ∷ es) stands forward placed h =
+parts-from : (bytes : List ℕ) (p : Point) (es : List Event) → parts_stand bytes es ≡ true →
+    list_all is_whole (pieces es) ≡ true → Forward p es → are_placed bytes es ≡ true →
+    IsTrue (at_or_before first_point p) → EachPart (IsPart bytes) (parts es)
+parts-from bytes p [] stands whole forward placed h = tt
+parts-from bytes p (e ∷ es) stands whole forward placed h =
     let lines : (part_stands bytes e.kind (part_kind e.name) e.point es ≡ true) ×
     (parts_stand bytes es ≡ true) = and_parts (part_stands bytes e.kind (part_kind e.name) e.point es)
     (parts_stand bytes es) stands in
@@ -156,14 +268,17 @@ parts-from bytes p (e ∷ es) stands forward placed h =
     (are_placed bytes es ≡ true) = and_parts (is_placed bytes e.point) (are_placed bytes es) placed in
     let behind : IsTrue (at_or_before first_point e.point) = at_or_before-trans first_point p e.point h forward.0 in
     each-part-append (IsPart bytes) (part_at e.kind (part_kind e.name) es) (parts es)
-    (parts-at bytes e.point e.kind (part_kind e.name) es lines.0 forward.1 points.1 behind)
-    (parts-from bytes e.point es lines.1 forward.1 points.1 behind)
+    (parts-at bytes e.point e.kind (part_kind e.name) es lines.0 (whole-behind e es whole) forward.1 points.1 behind)
+    (parts-from bytes e.point es lines.1 (whole-behind e es whole) forward.1 points.1 behind)
 
 -- The text parts of a block list may be read.
 pub parts-are : (bytes : List ℕ) (events : List Event) → IsBlockList bytes events →
     EachPart (IsPart bytes) (parts events)
 parts-are bytes events list =
-    parts-from bytes first_point events list.lines list.nested.forward list.placed (at_or_before-refl first_point)
+    parts-from bytes first_point events list.lines
+    (whole-pieces bytes (pieces events) list.pieces_are
+    (all-called is_data events (chunks-data 0 events list.chunks)))
+    list.nested.forward list.placed (at_or_before-refl first_point)
 
 -- Layers that keep the promise of all layers.
 

@@ -23,8 +23,7 @@ use Rattle.md_seam.specs.Events.Places.{column_past, past_byte, past_text, same_
 use Rattle.md_seam.specs.Events.Nested.{enter, exit, pair}
 use Rattle.md_seam.specs.declared.inline.Chunk.{Chunk}
 use Rattle.md_seam.specs.Parts.{IsChunk}
-use Rattle.md_seam.specs.declared.inline.PartKind.{PartKind}
-use Rattle.md_seam.specs.Events.Inline.{PlainReads, are_lines, chunk_text, ends_whole, is_line, is_none, is_one_line}
+use Rattle.md_seam.specs.Events.Inline.{are_lines, chunk_text, ends_whole, is_line, is_none, is_one_line}
 use Rattle.md_seam.specs.Events.Inline.{line_end, pair_unless_empty, plain_chunk, plain_chunks, together}
 use Rattle.md_seam.specs.Transition.{entered, exited}
 use Rattle.md_seam.proofs.InlineLemmas.{line-length, line-no_ending, past-index, past-vs, same-refl}
@@ -45,7 +44,7 @@ before-trans p q r (inl h) (inr k) = inl (omega arith)
 before-trans p q r (inr h) (inl k) = inl (omega arith)
 before-trans p q r (inr h) (inr k) = inr (omega arith, omega arith)
 
-before-next : (bytes : List ℕ) (p : Point) → Before p (next_point bytes p)
+pub before-next : (bytes : List ℕ) (p : Point) → Before p (next_point bytes p)
 before-next bytes p =
     go (is_ending (slice_index bytes p.index)) (is_pair bytes p.index)
     ((slice_index bytes p.index == 9) && not (p.column % 4 == 0))
@@ -678,26 +677,25 @@ one-line ((b ∷ bs) ∷ [] ∷ next ∷ lines) x h = h
 one-line ([] ∷ (c ∷ cs) ∷ lines) x h = h
 one-line ((b ∷ bs) ∷ (c ∷ cs) ∷ lines) x h = h
 
--- each chunk is a line
-line-at : (bytes : List ℕ) (end : Point) (chunks : List Chunk) (i : ℕ) (d : Chunk) → i < length chunks →
-    IsTrue (are_lines bytes end chunks) → IsTrue (is_line bytes (get_or chunks i d))
-line-at bytes end [] i d h lines = absurd (omega arith)
-line-at bytes end (chunk ∷ chunks) zero d h lines =
+-- each chunk of a part is a line
+pub lines-each : (bytes : List ℕ) (end : Point) (chunks : List Chunk) → IsTrue (are_lines bytes end chunks) →
+    IsTrue (list_all (is_line bytes) chunks)
+lines-each bytes end [] lines = refl
+lines-each bytes end (chunk ∷ chunks) lines =
     let ends : Bool = is_none chunks && same_place chunk.after end in
-    one-line (split_lines (chunk_text bytes chunk)) ends
-    (and_parts (is_one_line (split_lines (chunk_text bytes chunk)) ends) (are_lines bytes end chunks) lines).0
-line-at bytes end (chunk ∷ chunks) (suc i) d h lines =
-    line-at bytes end chunks i d (omega arith)
-    (and_parts (is_one_line (split_lines (chunk_text bytes chunk)) (is_none chunks && same_place chunk.after end))
-    (are_lines bytes end chunks) lines).1
+    let both : (is_one_line (split_lines (chunk_text bytes chunk)) ends ≡ true) ×
+    (are_lines bytes end chunks ≡ true) = and_parts (is_one_line (split_lines (chunk_text bytes chunk)) ends)
+    (are_lines bytes end chunks) lines in
+    and_from (is_line bytes chunk) (list_all (is_line bytes) chunks)
+    (one-line (split_lines (chunk_text bytes chunk)) ends both.0) (lines-each bytes end chunks both.1)
 
--- and ends between two bytes
-whole-at : (chunks : List Chunk) (i : ℕ) (d : Chunk) → i < length chunks → IsTrue (list_all ends_whole chunks) →
-    IsTrue (ends_whole (get_or chunks i d))
-whole-at [] i d h whole = absurd (omega arith)
-whole-at (chunk ∷ chunks) zero d h whole = (and_parts (ends_whole chunk) (list_all ends_whole chunks) whole).0
-whole-at (chunk ∷ chunks) (suc i) d h whole =
-    whole-at chunks i d (omega arith) (and_parts (ends_whole chunk) (list_all ends_whole chunks) whole).1
+-- what holds of each chunk holds of the one at an index
+pub all-at : (test : Chunk → Bool) (chunks : List Chunk) (i : ℕ) (d : Chunk) → i < length chunks →
+    IsTrue (list_all test chunks) → IsTrue (test (get_or chunks i d))
+all-at test [] i d h all = absurd (omega arith)
+all-at test (chunk ∷ chunks) zero d h all = (and_parts (test chunk) (list_all test chunks) all).0
+all-at test (chunk ∷ chunks) (suc i) d h all =
+    all-at test chunks i d (omega arith) (and_parts (test chunk) (list_all test chunks) all).1
 
 plain-push : (bytes : List ℕ) (chunks : List Chunk) (chunk : Chunk) →
     together (plain_chunks bytes (chunks ++ chunk ∷ [])) ≡
@@ -709,31 +707,22 @@ plain-push bytes (c ∷ chunks) chunk =
 
 -- what the plain layer gives for so many of the chunks of a part
 abbrev pub ReadChunks : List ℕ → List Chunk → ℕ → List Event → Type 0
-ReadChunks bytes chunks many events =
-    (end : Point) → IsTrue (are_lines bytes end chunks) → IsTrue (list_all ends_whole chunks) →
-    events ≡ together (plain_chunks bytes (take many chunks))
+ReadChunks bytes chunks many events = events ≡ together (plain_chunks bytes (take many chunks))
 
 -- one chunk more
 pub chunks-more : (bytes same : List ℕ) (chunks : List Chunk) (i : ℕ) (d : Chunk) (events new : List Event) →
     i < length chunks → same ≡ bytes → ReadChunks bytes chunks i events →
-    (IsTrue (is_line same (get_or chunks i d)) → IsTrue (ends_whole (get_or chunks i d)) →
-    new ≡ events ++ plain_chunk same (get_or chunks i d)) →
-    ReadChunks bytes chunks (i + 1) new
-chunks-more bytes same chunks i d events new h is read next end lines whole =
+    new ≡ events ++ plain_chunk same (get_or chunks i d) → ReadChunks bytes chunks (i + 1) new
+chunks-more bytes same chunks i d events new h is read next =
     let chunk : Chunk = get_or chunks i d in
-    let step : new ≡ events ++ plain_chunk bytes chunk =
-    subst
-    (λ (bs : List ℕ).
-    IsTrue (is_line bs chunk) → IsTrue (ends_whole chunk) → new ≡ events ++ plain_chunk bs chunk) is next
-    (line-at bytes end chunks i d h lines) (whole-at chunks i d h whole) in
-    step
-    ∙ ap (λ (es : List Event). es ++ plain_chunk bytes chunk) (read end lines whole)
+    next
+    ∙ ap (λ (bs : List ℕ). events ++ plain_chunk bs chunk) is
+    ∙ ap (λ (es : List Event). es ++ plain_chunk bytes chunk) read
     ∙ sym (plain-push bytes (take i chunks) chunk)
     ∙ ap (λ (cs : List Chunk). together (plain_chunks bytes cs)) (sym (take_more chunks i d h))
 
 -- all chunks
-pub chunks-all : (bytes : List ℕ) (kind : PartKind) (chunks : List Chunk) (i : ℕ) (events : List Event) →
-    length chunks ≤ i → ReadChunks bytes chunks i events →
-    PlainReads bytes (record { kind = kind; chunks = chunks }) events
-chunks-all bytes kind chunks i events h read end lines whole =
-    read end lines whole ∙ ap (λ (cs : List Chunk). together (plain_chunks bytes cs)) (take_all i chunks h)
+pub chunks-all : (bytes : List ℕ) (chunks : List Chunk) (i : ℕ) (events : List Event) → length chunks ≤ i →
+    ReadChunks bytes chunks i events → events ≡ together (plain_chunks bytes chunks)
+chunks-all bytes chunks i events h read =
+    read ∙ ap (λ (cs : List Chunk). together (plain_chunks bytes cs)) (take_all i chunks h)

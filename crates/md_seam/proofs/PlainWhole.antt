@@ -1,41 +1,26 @@
 -- A chunk that is a line without an ending is `Data` as a whole.
 use Rattle.std.proofs.Common.{◌≡◌, ℕ, ◌+◌, ◌-◌, ◌<◌, ◌≤◌, ◌⊎◌, inl, inr, true, false, cond, List, [], ◌∷◌, ◌++◌, length}
-use Rattle.std.proofs.Common.{get_or, drop, take, refl, ap, sym, ◌∙◌, subst, append_assoc, arith}
+use Rattle.std.proofs.Common.{get_or, drop, refl, ap, sym, ◌∙◌, subst, append_assoc, arith}
 use Rattle.std.specs.Prelude.{◌==◌, IfOk, IsTrue, Result, Ok, Err, slice_index, slice_range}
 use Rattle.std.proofs.lemmas.Bool.{and_parts, cases_lt, eqb-true, true≢false}
 use Rattle.std.proofs.lemmas.List.{take-append-drop}
-use Rattle.std.proofs.lemmas.List.Elements.{All-cons, All-nil}
-use Rattle.md_engine.specs.Place.{IsPlaced}
 use Rattle.md_engine.specs.declared.event.Event.{Event}
 use Rattle.md_engine.specs.declared.event.Name.TheVariants as n
 use Rattle.md_engine.specs.declared.event.Point.{Point}
 use Rattle.md_definition.specs.Lines.{is_ending, without_ending}
 use Rattle.md_definition.specs.Texts.{split_lines}
 use Rattle.md_seam.specs.Events.Inline.{chunk_text, ends_whole, is_line, is_one_line, line_end, pair_unless_empty}
-use Rattle.md_seam.specs.Events.Inline.{PlainReads, plain_chunk}
-use Rattle.md_seam.specs.Events.Nested.{enter, exit, pair}
-use Rattle.md_seam.specs.Events.Places.{columns_before, same_place}
+use Rattle.md_seam.specs.Events.Inline.{plain_chunk, plain_chunks, together}
+use Rattle.md_seam.specs.Events.Nested.{pair}
+use Rattle.md_seam.specs.Events.Places.{same_place}
 use Rattle.md_seam.specs.declared.inline.Chunk.{Chunk}
-use Rattle.md_seam.specs.declared.inline.PartKind.{PartKind}
-use Rattle.md_seam.specs.Parts.{ArePlaced, IsChunk}
+use Rattle.md_seam.specs.Parts.{IsChunk}
 use Rattle.md_seam.proofs.InlineLemmas.{line-no_ending, past-index, same-refl}
 use Rattle.md_seam.proofs.PlacesLemmas.{Placed, apart-later, placed-facts, placed-text}
 use Rattle.md_seam.proofs.PlainSteps.{Rests, One, Two, ending-none, line-and-rest, range-drop, range-length, range-next}
-use Rattle.md_seam.proofs.PlainSteps.{ReadChunks, chunks-all, chunks-more, rests-of, stops-at}
+use Rattle.md_seam.proofs.PlainSteps.{chunks-all, chunks-more, rests-of, stops-at}
 use Rattle.md_seam.proofs.ReachedLemmas.{point-placed}
-
--- the byte and the virtual spaces tell a point of a text
-one-point : (bytes : List ℕ) (p q : Point) → Placed bytes p → Placed bytes q → p.index ≡ q.index → p.vs ≡ q.vs → p ≡ q
-one-point bytes p q h k i v =
-    let line : p.line ≡ q.line = h.line ∙ ap (λ (n : ℕ). length (split_lines (take n bytes))) i ∙ sym k.line in
-    let columns : columns_before bytes p.index ≡ columns_before bytes q.index = ap (columns_before bytes) i in
-    let column : p.column ≡ q.column = omega (arith, h.column, k.column, columns, v) in
-    same p.line q.line p.column q.column p.index q.index p.vs q.vs line column i v
-  where
-    same : (l m c d i j v w : ℕ) → l ≡ m → c ≡ d → i ≡ j → v ≡ w →
-        ◌≡◌ {A = Point} (record { line = l; column = c; index = i; vs = v })
-        (record { line = m; column = d; index = j; vs = w })
-    same l m c d i j v w el ec ei ev = rw (el, ec, ei, ev) refl
+use Rattle.md_seam.proofs.WalkedLemmas.{one-point}
 
 -- the line of a chunk whose last byte ends no line is the whole chunk
 whole-line : (bytes : List ℕ) (chunk : Chunk) → IsChunk bytes chunk → IsTrue (is_line bytes chunk) →
@@ -156,22 +141,10 @@ pub if_ok-map : {A E : Type 0} {P Q : A → Type 0} (r : Result A E) → ((a : A
 if_ok-map (Ok a) f h = f a h
 if_ok-map (Err e) f h = h
 
-pub whole-placed : (bytes : List ℕ) (chunk : Chunk) (events : List Event) → IsChunk bytes chunk →
-    events ≡ pair n.Data chunk.first chunk.after → ArePlaced bytes events
-whole-placed bytes chunk events is e =
-    let Stands : Event → Type 0 = λ (e : Event). IsPlaced bytes e.point in
-    subst (ArePlaced bytes) (sym e)
-    (All-cons Stands (enter n.Data chunk.first) (exit n.Data chunk.after ∷ []) is.first
-    (All-cons Stands (exit n.Data chunk.after) [] is.after (All-nil Stands)))
-
-pub whole-reads : (bytes : List ℕ) (kind : PartKind) (chunks : List Chunk) (d : Chunk) (events : List Event) →
-    length chunks ≡ 1 →
-    (IsTrue (is_line bytes (get_or chunks 0 d)) → IsTrue (ends_whole (get_or chunks 0 d)) →
-    plain_chunk bytes (get_or chunks 0 d) ≡ pair n.Data (get_or chunks 0 d).first (get_or chunks 0 d).after) →
+pub whole-reads : (bytes : List ℕ) (chunks : List Chunk) (d : Chunk) (events : List Event) → length chunks ≡ 1 →
+    plain_chunk bytes (get_or chunks 0 d) ≡ pair n.Data (get_or chunks 0 d).first (get_or chunks 0 d).after →
     events ≡ pair n.Data (get_or chunks 0 d).first (get_or chunks 0 d).after →
-    PlainReads bytes (record { kind = kind; chunks = chunks }) events
-whole-reads bytes kind chunks d events one whole is =
-    let none : ReadChunks bytes chunks 0 [] = λ end lines ends. refl in
-    chunks-all bytes kind chunks 1 events (omega (arith, one))
-    (chunks-more bytes bytes chunks 0 d [] events (omega (arith, one)) refl none
-    (λ line ends. is ∙ sym (whole line ends)))
+    events ≡ together (plain_chunks bytes chunks)
+whole-reads bytes chunks d events one whole is =
+    chunks-all bytes chunks 1 events (omega (arith, one))
+    (chunks-more bytes bytes chunks 0 d [] events (omega (arith, one)) refl refl (is ∙ sym whole))

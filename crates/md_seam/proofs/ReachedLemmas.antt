@@ -112,7 +112,7 @@ byte-inside bytes i b e some = go (nat_lt i (length bytes)) refl
         let le : length bytes ≤ i = grind (arith, nat_tests) in absurd (omega (arith, past-end bytes i le, e, some))
 
 -- a step from the end leaves the text
-step-inside : (bytes : List ℕ) (p : Point) → (next_point bytes p).index ≤ length bytes → p.index < length bytes
+pub step-inside : (bytes : List ℕ) (p : Point) → (next_point bytes p).index ≤ length bytes → p.index < length bytes
 step-inside bytes p le = go (nat_lt p.index (length bytes)) refl
   where
     beyond : length bytes ≤ p.index → p.index + 1 ≤ length bytes
@@ -281,7 +281,7 @@ placed-both bytes p h e k =
         ∙ ap (λ (t : List ℕ). t ++ 10 ∷ []) (take-next bytes p.index 13 (omega (arith, lt)) e)
 
 -- The point behind what is seen at such a point is one.
-placed-next : (bytes : List ℕ) (p : Point) → Placed bytes p → (next_point bytes p).index ≤ length bytes →
+pub placed-next : (bytes : List ℕ) (p : Point) → Placed bytes p → (next_point bytes p).index ≤ length bytes →
     Placed bytes (next_point bytes p)
 placed-next bytes p h le =
     go (slice_index bytes p.index == 10) (slice_index bytes p.index == 13) (slice_index bytes (p.index + 1) == 10)
@@ -315,7 +315,7 @@ placed-next bytes p h le =
         (ap (λ (x : Bool). x || (slice_index bytes p.index == 13)) e ∙ f)
         (same-behind (slice_index bytes p.index) p (omega (arith, h.column)) k)
 
-index-behind : (bytes : List ℕ) (p : Point) → p.index ≤ (next_point bytes p).index
+pub index-behind : (bytes : List ℕ) (p : Point) → p.index ≤ (next_point bytes p).index
 index-behind bytes p =
     go (is_ending (slice_index bytes p.index)) (is_pair bytes p.index)
     ((slice_index bytes p.index == 9) && not (p.column % 4 == 0))
@@ -331,7 +331,7 @@ index-behind bytes p =
     go false y false = omega arith
 
 -- So is each point within the text that one comes to.
-placed-walked : (bytes : List ℕ) (n : ℕ) → (walked bytes n).index ≤ length bytes → Placed bytes (walked bytes n)
+pub placed-walked : (bytes : List ℕ) (n : ℕ) → (walked bytes n).index ≤ length bytes → Placed bytes (walked bytes n)
 unfolding walked
 placed-walked bytes zero le = record { index = le; within = refl; line = refl; column = refl; apart = refl }
 placed-walked bytes (suc n) le =

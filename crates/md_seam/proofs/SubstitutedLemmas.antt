@@ -207,7 +207,7 @@ leads-chunk wants reads events left all (suc last) e f es content some leads now
 
 -- At an index.
 
-two-left : (events : List Event) (at : ℕ) (d : Event) → at + 1 < length events →
+pub two-left : (events : List Event) (at : ℕ) (d : Event) → at + 1 < length events →
     drop at events ≡ get_or events at d ∷ get_or events (at + 1) d ∷ drop (at + 2) events
 two-left events at d h =
     let next : (at + 1) + 1 ≡ at + 2 = omega arith in

@@ -1,5 +1,5 @@
 -- What an inline layer reads: the text parts of a document, each with all labels of the document.
-use Rattle.std.specs.Prelude.{◌≡◌, ℕ, Bool, true, false, List, ◌∷◌, ◌++◌, map}
+use Rattle.std.specs.Prelude.{◌≡◌, ℕ, ◌^◌, ◌<◌, Bool, true, false, List, ◌∷◌, ◌++◌, length, map}
 use Rattle.std.specs.String.{string_bytes}
 use Rattle.md_engine.specs.declared.configuration.ParseOptions.{ParseOptions}
 use Rattle.md_engine.specs.declared.event.Content.{Content}
@@ -45,6 +45,8 @@ document_of state = record {
 -- A document whose blocks are known, before its text parts are read: they spell its tree and tile it, and the labels are
 -- all labels of that tree, those of definitions behind a part too.
 pub record AreBlocks (document : Document) (blocks : List Event) : Type 0 where
+  -- points have room for it
+  pub sized : length document.bytes < 2 ^ 61
   pub list : IsBlockList document.bytes blocks
   pub covers : Covers first_point (pieces blocks) (end_point document.bytes)
   pub spells : spelled blocks document.bytes ≡ tree document.options document.bytes

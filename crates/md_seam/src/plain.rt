@@ -1,16 +1,17 @@
-// The plainest inline layer.
+// What the plainest inline layer reads: lines. The layer itself stands where its law may be proved, in `markdown_blocks`.
 
 ghost use Rattle.std.specs.Prelude.{◌≡◌, ◌≤◌, ◌∷◌, ◌++◌, IfOk, IsTrue, None, OnOk, [], length, slice_range, true};
+ghost use Rattle.std.specs.List.{list_all};
 ghost use Rattle.md_engine.specs.World.{world};
 ghost use Rattle.md_engine.specs.declared.event.Name.{Name};
-ghost use Rattle.md_seam.specs.Events.Inline.{PlainReads, ends_whole, is_line, pair_unless_empty, plain_chunk};
+ghost use Rattle.md_seam.specs.Events.Inline.{ends_whole, is_line, pair_unless_empty, plain_chunk, plain_chunks};
+ghost use Rattle.md_seam.specs.Events.Inline.{together};
 ghost use Rattle.md_definition.specs.Lines.{is_ending, without_ending};
-ghost use Rattle.md_seam.specs.Parts.{AreChunks, ArePlaced, IsChunk};
-ghost use Rattle.md_seam.specs.declared.inline.PartKind.{PartKind};
+ghost use Rattle.md_seam.specs.Parts.{AreChunks, IsChunk};
 ghost use Rattle.md_seam.specs.Events.Nested.{pair};
 ghost use Rattle.md_seam.specs.Events.Places.{past_text};
 
-use crate::inline::{Chunk, Inline, PartKind};
+use crate::inline::Chunk;
 use md_engine::class::Class;
 use md_engine::event::{Event, Kind, Name, Point};
 use md_engine::message::Message;
@@ -20,9 +21,6 @@ use std::alloc::Global;
 
 /// How many events stand in the place of a chunk at most: those of its line and of its ending.
 const MOST: usize = 4;
-
-/// Reads a text part as lines: `Data` over each line, if it is not empty, and `LineEnding` over its ending.
-pub struct Plain;
 
 /// Whether a line ends at this byte, which lies in the text.
 fn ends_line(byte: u8) -> bool
@@ -53,11 +51,12 @@ fn read_line(tokenizer: &mut Tokenizer, end: usize) -> Result<(), Message>
 /// Reads the line of a chunk, and its ending.
 fn read_chunk(tokenizer: &mut Tokenizer, chunk: &Chunk) -> Result<(), Message>
     requires chunk { IsChunk (world tokenizer.old).setting.bytes chunk.now }
+    requires line { IsTrue (is_line (world tokenizer.old).setting.bytes chunk.now) }
+    requires whole { IsTrue (ends_whole chunk.now) }
     requires skips { (world tokenizer.old).setting.skips ≡ [] }
     ensures setting { OnOk result ((world tokenizer.new).setting ≡ (world tokenizer.old).setting) }
     ensures events { OnOk result
-        (IsTrue (is_line (world tokenizer.old).setting.bytes chunk.now) → IsTrue (ends_whole chunk.now) →
-        (world tokenizer.new).events ≡
+        ((world tokenizer.new).events ≡
         (world tokenizer.old).events ++ plain_chunk (world tokenizer.old).setting.bytes chunk.now) }
 {
     tokenizer.point = chunk.first;
@@ -73,8 +72,10 @@ fn read_chunk(tokenizer: &mut Tokenizer, chunk: &Chunk) -> Result<(), Message>
 
 /// Whether a chunk has bytes, and no line ending at its end. A chunk of one line then has none, and ends with the line.
 fn is_without_ending(bytes: &[u8], chunk: &Chunk) -> bool
-    requires { IsChunk bytes.now chunk.now }
-    ensures { result ≡ true → IsTrue (is_line bytes.now chunk.now) → IsTrue (ends_whole chunk.now) →
+    requires chunk { IsChunk bytes.now chunk.now }
+    requires line { IsTrue (is_line bytes.now chunk.now) }
+    requires whole { IsTrue (ends_whole chunk.now) }
+    ensures { result ≡ true →
         plain_chunk bytes.now chunk.now ≡ pair Name.Data chunk.now.first chunk.now.after }
 {
     let end = chunk.after.index;
@@ -114,11 +115,10 @@ fn whole_chunk(alloc: Global, chunk: &Chunk) -> Result<Vec<Event>, Message>
 /// apart from them.
 #[inline(never)]
 fn read_lines(alloc: Global, chunks: &[Chunk], state: &ParseState) -> Result<Vec<Event>, Message>
-    requires { AreChunks state.now.bytes.now chunks.now }
-    ensures placed { IfOk result (λ events. ArePlaced state.now.bytes.now events.items) }
-    ensures reading { IfOk result
-        (λ events. (kind : PartKind) →
-        PlainReads state.now.bytes.now (record { kind = kind; chunks = chunks.now }) events.items) }
+    requires chunks { AreChunks state.now.bytes.now chunks.now }
+    requires lines { IsTrue (list_all (is_line state.now.bytes.now) chunks.now) }
+    requires whole { IsTrue (list_all ends_whole chunks.now) }
+    ensures { IfOk result (λ events. events.items ≡ together (plain_chunks state.now.bytes.now chunks.now)) }
 {
     let mut tokenizer = Tokenizer::new(alloc, chunks[0].first, state.bytes, state.options);
     let Ok(events) = Vec::with_capacity(alloc, chunks.len().saturating_mul(MOST)) else {
@@ -131,19 +131,18 @@ fn read_lines(alloc: Global, chunks: &[Chunk], state: &ParseState) -> Result<Vec
     Ok(tokenizer.events)
 }
 
-impl Inline for Plain {
-    ghost reads = { λ plain document part events. events ≡ plain_events document.bytes part };
-
-    fn read(
-        &self,
-        alloc: Global,
-        _kind: PartKind,
-        chunks: &[Chunk],
-        state: &ParseState,
-    ) -> Result<Vec<Event>, Message> {
-        if chunks.len() == 1 && is_without_ending(state.bytes, &chunks[0]) {
-            return whole_chunk(alloc, &chunks[0]);
-        }
-        read_lines(alloc, chunks, state)
+/// The events of a part that stands in these chunks: `Data` over each line, if it is not empty, and `LineEnding` over
+/// its ending.
+///
+/// An `Err` says that memory ran out.
+pub fn read(alloc: Global, chunks: &[Chunk], state: &ParseState) -> Result<Vec<Event>, Message>
+    requires chunks { AreChunks state.now.bytes.now chunks.now }
+    requires lines { IsTrue (list_all (is_line state.now.bytes.now) chunks.now) }
+    requires whole { IsTrue (list_all ends_whole chunks.now) }
+    ensures { IfOk result (λ events. events.items ≡ together (plain_chunks state.now.bytes.now chunks.now)) }
+{
+    if chunks.len() == 1 && is_without_ending(state.bytes, &chunks[0]) {
+        return whole_chunk(alloc, &chunks[0]);
     }
+    read_lines(alloc, chunks, state)
 }

@@ -26,6 +26,7 @@ use Rattle.md_containers.proofs.UnlistedLemmas.{NoListing, among, stands-append,
 use Rattle.markdown_blocks.proofs.LeafStands.{between-stand, between-unlisted}
 use Rattle.md_containers.proofs.QuoteLines.{IsPrefix, prefix_by}
 use Rattle.markdown_blocks.proofs.SpanLemmas.{Spans, order-grows}
+use Rattle.md_seam.specs.declared.inline.PartKind.{PartKind}
 use Rattle.markdown_blocks.proofs.PartsStand.{Inside}
 use Rattle.markdown_blocks.proofs.PartedFacts.{Still, sits-still}
 use Rattle.markdown_blocks.proofs.PlainFacts.{Untold, plain-untold}
@@ -134,16 +135,18 @@ prefix-some bytes p q es is none = go (same_place p is.marker) (sym is.events �
     go false h = cc
 
 -- the prefix of a quote
-pub prefix-inside : (bytes : List ℕ) (p q : Point) (es : List Event) → IsPrefix bytes p q es → Inside bytes [] es
-prefix-inside bytes p q es is =
-    subst (Inside bytes []) (sym is.events) (go (same_place p is.marker) (same_place is.behind q))
+pub prefix-inside : (bytes : List ℕ) (kind : PartKind) (p q : Point) (es : List Event) → IsPrefix bytes p q es →
+    Inside bytes kind [] es
+prefix-inside bytes kind p q es is =
+    subst (Inside bytes kind []) (sym is.events) (go (same_place p is.marker) (same_place is.behind q))
   where
-    go : (x y : Bool) → Inside bytes [] (prefix_by x y p is.marker is.behind q)
+    go : (x y : Bool) → Inside bytes kind [] (prefix_by x y p is.marker is.behind q)
     go true true = record {
       outside = (refl, (refl, (refl, (refl, tt))));
       ends = refl;
       white = refl;
       has = refl;
+      kinds = refl;
       stand = λ ys. refl;
     }
     go true false = record {
@@ -151,6 +154,7 @@ prefix-inside bytes p q es is =
       ends = refl;
       white = rw is.white_behind refl;
       has = refl;
+      kinds = refl;
       stand = λ ys. refl;
     }
     go false true = record {
@@ -158,6 +162,7 @@ prefix-inside bytes p q es is =
       ends = refl;
       white = rw is.white_before refl;
       has = refl;
+      kinds = refl;
       stand = λ ys. refl;
     }
     go false false = record {
@@ -165,6 +170,7 @@ prefix-inside bytes p q es is =
       ends = refl;
       white = rw (is.white_before, is.white_behind) refl;
       has = refl;
+      kinds = refl;
       stand = λ ys. refl;
     }
 
@@ -226,7 +232,7 @@ quote-continues bytes p q es is less = record {
   names = prefix-are bytes p q es is;
   stays = prefix-stays bytes p q es is;
   parted = prefix-parted bytes p q es is;
-  inside = prefix-inside bytes p q es is;
+  inside = λ kind. prefix-inside bytes kind p q es is;
   collects = λ ys end all. collects-quote bytes p q es ys end all is;
 }
 

@@ -99,7 +99,7 @@ walks-stand bytes = record {
       let q = past_text (b ∷ bs) p in
       let chunk : Chunk = record { first = p; after = q } in
       stands-part bytes name String p q (chunk ∷ []) (chunks.linked n.Data string_link (chunk ∷ [])) (text-kind name is)
-      (inside-linked bytes string_link (chunk ∷ [])) (same-refl p) (one-line bytes b bs rest p at);
+      (inside-linked bytes String string_link (chunk ∷ []) refl) (same-refl p) (one-line bytes b bs rest p at);
 }
 
 -- What is read fills them.
@@ -122,7 +122,7 @@ walks-filled bytes = record {
       let order : in_order p (chunk ∷ []) ≡ true = and_from (at_or_before p p && at_or_before p q) true
       (and_from (at_or_before p p) (at_or_before p q) (at_or_before-refl p) (before-text (b ∷ bs) p)) refl in
       fill-part bytes name String p q (chunk ∷ []) (chunks.linked n.Data string_link (chunk ∷ []))
-      (together (plain_chunks bytes (chunk ∷ []))) (text-kind name is) (inside-linked bytes string_link (chunk ∷ []))
+      (together (plain_chunks bytes (chunk ∷ []))) (text-kind name is) (inside-linked bytes String string_link (chunk ∷ []) refl)
       (plain-fills bytes p (chunk ∷ []) order) (linked-filled bytes string_link (chunk ∷ []));
 }
 

@@ -243,10 +243,10 @@ row-text bytes b bs rest p at = record {
   roles = by_piece (λ (xs : List Event). Roles IsPart (around n.GfmTableCellText p q xs)) (tt, (tt, (tt, (tt, tt))));
   parts =
       stands-part bytes n.GfmTableCellText Text p q (chunk ∷ []) us refl
-      (inside-linked bytes text_link (chunk ∷ [])) (same-refl p) (one-line bytes b bs rest p at);
+      (inside-linked bytes Text text_link (chunk ∷ []) refl) (same-refl p) (one-line bytes b bs rest p at);
   filled =
       fill-part bytes n.GfmTableCellText Text p q (chunk ∷ []) us (together (plain_chunks bytes (chunk ∷ []))) refl
-      (inside-linked bytes text_link (chunk ∷ [])) (plain-fills bytes p (chunk ∷ []) in_place)
+      (inside-linked bytes Text text_link (chunk ∷ []) refl) (plain-fills bytes p (chunk ∷ []) in_place)
       (linked-filled bytes text_link (chunk ∷ []));
   unlinked =
       by_piece (λ (xs : List Event). NoLinks (around n.GfmTableCellText p q xs)) (refl, (refl, (refl, (refl, tt))));

@@ -158,7 +158,7 @@ stands-title bytes r line p q is =
     text true e = stands-outside bytes [] tt tt
     text false e =
         stands-part bytes n.HeadingAtxText Text begin end (chunk ∷ []) (linked n.Data heading_link (chunk ∷ [])) refl
-        (inside-linked bytes heading_link (chunk ∷ [])) (same-refl begin)
+        (inside-linked bytes Text heading_link (chunk ∷ []) refl) (same-refl begin)
         (title-lines bytes r line p q is (grind (arith, nat_tests)))
 
 -- What is read stands in its place.
@@ -181,7 +181,7 @@ fill-text bytes size p q h = go (size == 0)
     go true = fill-same bytes [] tt tt
     go false =
         fill-part bytes n.HeadingAtxText Text p q (chunk ∷ []) (linked n.Data heading_link (chunk ∷ []))
-        (together (plain_chunks bytes (chunk ∷ []))) refl (inside-linked bytes heading_link (chunk ∷ []))
+        (together (plain_chunks bytes (chunk ∷ []))) refl (inside-linked bytes Text heading_link (chunk ∷ []) refl)
         (plain-fills bytes p (chunk ∷ []) order)
         (linked-filled bytes heading_link (chunk ∷ []))
 

@@ -17,21 +17,23 @@ use Rattle.markdown_blocks.proofs.BlockQuote.Collected.{blank-before}
 use Rattle.markdown_blocks.proofs.CollectFacts.{Collects, blank-append, collects-back, collects-behind}
 use Rattle.markdown_blocks.proofs.ListItem.Parted.{byte-grows}
 use Rattle.markdown_blocks.proofs.ListItem.Prefix.{IsIndent}
+use Rattle.md_seam.specs.declared.inline.PartKind.{PartKind}
 use Rattle.markdown_blocks.proofs.PartsStand.{Inside}
 use Rattle.markdown_blocks.proofs.PlainRoles.{pair-roles}
 
 -- it may stand in a text part
-pub white-inside : (bytes : List ℕ) (p q : Point) → White bytes p q →
-    Inside bytes [] (pair_unless_empty n.SpaceOrTab p q)
-white-inside bytes p q is = go (same_place p q)
+pub white-inside : (bytes : List ℕ) (kind : PartKind) (p q : Point) → White bytes p q →
+    Inside bytes kind [] (pair_unless_empty n.SpaceOrTab p q)
+white-inside bytes kind p q is = go (same_place p q)
   where
-    go : (same : Bool) → Inside bytes [] (cond same [] (pair n.SpaceOrTab p q))
-    go true = record { outside = tt; ends = refl; white = refl; has = refl; stand = λ ys. refl }
+    go : (same : Bool) → Inside bytes kind [] (cond same [] (pair n.SpaceOrTab p q))
+    go true = record { outside = tt; ends = refl; white = refl; has = refl; kinds = refl; stand = λ ys. refl }
     go false = record {
       outside = (refl, (refl, tt));
       ends = refl;
       white = rw is.blank refl;
       has = refl;
+      kinds = refl;
       stand = λ ys. refl;
     }
 

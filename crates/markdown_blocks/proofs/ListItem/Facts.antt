@@ -53,7 +53,7 @@ item-continues bytes p q es is = record {
   names = subst ArePrefixes (sym is.events) (pair-prefixes p q);
   stays = λ text x takes. subst (Leads text (x ∷ []) (x ∷ [])) (sym is.events) (white-stays p q text x takes);
   parted = white-parted bytes p q es is.events is.white;
-  inside = subst (Inside bytes []) (sym is.events) (white-inside bytes p q is.white);
+  inside = λ kind. subst (Inside bytes kind []) (sym is.events) (white-inside bytes kind p q is.white);
   collects = λ ys end all c. indent-collects bytes p q es ys end all is c;
 }
 

@@ -12,22 +12,23 @@ use Rattle.markdown_blocks.specs.Registry.{text_leaf}
 use Rattle.markdown_blocks.specs.Rows.{Row, behind_row, chunks_of, read_lines}
 use Rattle.markdown_blocks.specs.Unread.{unread_lines}
 use Rattle.markdown_blocks.proofs.GroupLemmas.{AreLines}
+use Rattle.md_seam.specs.declared.inline.PartKind.TheVariants.{Text}
 use Rattle.markdown_blocks.proofs.PartsStand.{Inside, inside-append, inside-chunk}
 use Rattle.markdown_blocks.proofs.FrontNames.{fronts-unlinked}
 use Rattle.md_seam.specs.Events.Inline.{plain_chunk, plain_chunks}
 use Rattle.markdown_blocks.proofs.FillFacts.{Filled, passes-filled}
 
 pub lines-inside : (options : ParseOptions) (bytes : List ℕ) (row : Row) (rows : List Row) →
-    AreLines options bytes row rows → Inside bytes (chunks_of row rows) (unread_lines row rows)
+    AreLines options bytes row rows → Inside bytes Text (chunks_of row rows) (unread_lines row rows)
 lines-inside options bytes row [] is = inside-chunk bytes row.first row.end
 lines-inside options bytes row (next ∷ rows) is =
     let q : Point = behind_row row in
     let lines : List Event = unread_lines next rows in
-    inside-append bytes ((record { first = row.first; after = q }) ∷ []) (chunks_of next rows)
+    inside-append bytes Text ((record { first = row.first; after = q }) ∷ []) (chunks_of next rows)
     (enter_link n.Data row.first text_leaf.link ∷ exit n.Data q ∷ []) (next.front ++ lines)
     (inside-chunk bytes row.first q)
-    (inside-append bytes [] (chunks_of next rows) next.front lines
-    (fronts-inside bytes [] is.3 next.first next.front refl is.6) (lines-inside options bytes next rows is.7))
+    (inside-append bytes Text [] (chunks_of next rows) next.front lines
+    (fronts-inside bytes Text [] is.3 next.first next.front refl is.6) (lines-inside options bytes next rows is.7))
 
 -- a text begins with its first chunk
 pub chunks-begin : (row : Row) (rows : List Row) → begins_at row.first (chunks_of row rows) ≡ true

@@ -79,6 +79,9 @@ name_place n.LineEnding = 70
 name_place n.BlankLineEnding = 71
 name_place n.Content = 72
 name_place n.Data = 73
+name_place n.Link = 74
+name_place n.LabelMarker = 75
+name_place n.LabelText = 76
 
 -- whether two names are the same
 abbrev pub same_name : Name → Name → Bool

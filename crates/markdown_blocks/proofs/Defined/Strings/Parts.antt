@@ -24,20 +24,21 @@ use Rattle.markdown_blocks.proofs.FrontLemmas.{fronts-order}
 use Rattle.markdown_blocks.proofs.FrontNames.{fronts-unlinked}
 use Rattle.markdown_blocks.proofs.FrontStands.{fronts-inside}
 use Rattle.markdown_blocks.proofs.LineTexts.{one-last, one-next}
+use Rattle.md_seam.specs.declared.inline.PartKind.TheVariants.{String}
 use Rattle.markdown_blocks.proofs.PartsStand.{Inside, inside-append, inside-linked}
 
 -- each chunk stands in the text, and what stands between them may stand there
 pub strand-inside : (bytes : List ℕ) (p q : Point) (s : Strand) → AreLines bytes p q s →
-    Inside bytes (strand_chunks s) (strand_unread s)
-strand-inside bytes q _ _ (NoneLeft _ whole) = inside-linked bytes string_link []
+    Inside bytes String (strand_chunks s) (strand_unread s)
+strand-inside bytes q _ _ (NoneLeft _ whole) = inside-linked bytes String string_link [] refl
 strand-inside bytes p q _ (Last _ _ text some run) =
-    inside-linked bytes string_link ((record { first = p; after = q }) ∷ [])
+    inside-linked bytes String string_link ((record { first = p; after = q }) ∷ []) refl
 strand-inside bytes p q _ (More _ e b r _ text front s run break more) =
-    inside-append bytes ((record { first = p; after = b }) ∷ []) (strand_chunks s)
+    inside-append bytes String ((record { first = p; after = b }) ∷ []) (strand_chunks s)
     (enter_link n.Data p string_link ∷ exit n.Data b ∷ []) (front ++ strand_unread s)
-    (inside-linked bytes string_link ((record { first = p; after = b }) ∷ []))
-    (inside-append bytes [] (strand_chunks s) front (strand_unread s)
-    (fronts-inside bytes [] b r front refl break.front_is) (strand-inside bytes r q s more))
+    (inside-linked bytes String string_link ((record { first = p; after = b }) ∷ []) refl)
+    (inside-append bytes String [] (strand_chunks s) front (strand_unread s)
+    (fronts-inside bytes String [] b r front refl break.front_is) (strand-inside bytes r q s more))
 
 -- it begins with the first
 pub strand-begins : (bytes : List ℕ) (p q : Point) (s : Strand) → HasLine s → AreLines bytes p q s →

@@ -14,7 +14,7 @@ use Rattle.md_seam.proofs.ReachedLemmas.{events-placed}
 use Rattle.markdown_blocks.proofs.Parses.{Reads, parsed-footnotes, parsed-labels, parsed-reads}
 use Rattle.markdown_blocks.proofs.TextItemised.{text-itemised}
 use Rattle.markdown_blocks.proofs.TextQuoted.{text-quoted}
-use Rattle.markdown_blocks.specs.TextReads.{text_kind, wants_text}
+use Rattle.md_seam.specs.TextPart.{text_kind, wants_text}
 use Rattle.markdown_blocks.proofs.parser.parse.Goals as goal
 
 pub read_front-requires : goal.read_front-requires

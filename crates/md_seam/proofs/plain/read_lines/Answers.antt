@@ -2,7 +2,8 @@ use Rattle.std.proofs.Common.{ap, ◌∙◌, arith}
 use Rattle.std.proofs.lemmas.List.Elements.{All-nil}
 use Rattle.md_engine.specs.World.{Setting, World}
 use Rattle.md_seam.specs.declared.inline.Chunk.{Chunk}
-use Rattle.md_seam.proofs.PlainSteps.{chunks-all, chunks-more}
+use Rattle.md_seam.specs.Events.Inline.{ends_whole, is_line}
+use Rattle.md_seam.proofs.PlainSteps.{all-at, chunks-all, chunks-more}
 use Rattle.md_seam.proofs.plain.read_lines.Goals as goal
 
 -- what indexing gives past the end of a list
@@ -13,7 +14,7 @@ unset = record {
 }
 
 pub new-tokenizer-requires : goal.new-tokenizer-requires
-new-tokenizer-requires c = (c.requires.each 0 _ c.requires.some).first
+new-tokenizer-requires c = (c.requires.chunks.each 0 _ c.requires.chunks.some).first
 
 pub set_events-requires-clause-frames : goal.set_events-requires-clause-frames
 set_events-requires-clause-frames c = ap (λ (w : World). w.frames) c.new-tokenizer.ensures
@@ -27,12 +28,22 @@ loop-chunk-init c = record {
       ∙ ap (λ (w : World). w.setting.bytes) c.new-tokenizer.ensures;
   skips = ap (λ (w : World). w.setting.skips) c.set_events.ensures
       ∙ ap (λ (w : World). w.setting.skips) c.new-tokenizer.ensures;
-  events = λ end lines whole. ap (λ (w : World). w.events) c.set_events.ensures ∙ c.in-Ok.ensures.items;
+  events = ap (λ (w : World). w.events) c.set_events.ensures ∙ c.in-Ok.ensures.items;
 }
 
 pub read_chunk-requires-clause-chunk : goal.read_chunk-requires-clause-chunk
 read_chunk-requires-clause-chunk c =
-    rw c.loop-chunk.invariant.bytes (c.requires.each c.loop-chunk.chunk-index _ (omega arith))
+    rw c.loop-chunk.invariant.bytes (c.requires.chunks.each c.loop-chunk.chunk-index _ (omega arith))
+
+pub read_chunk-requires-clause-line : goal.read_chunk-requires-clause-line
+read_chunk-requires-clause-line c =
+    rw c.loop-chunk.invariant.bytes
+    (all-at (is_line c.args.state.now.bytes.now) c.args.chunks.now c.loop-chunk.chunk-index _
+    (omega arith) c.requires.lines)
+
+pub read_chunk-requires-clause-whole : goal.read_chunk-requires-clause-whole
+read_chunk-requires-clause-whole c =
+    all-at ends_whole c.args.chunks.now c.loop-chunk.chunk-index _ (omega arith) c.requires.whole
 
 pub loop-chunk-preserved : goal.loop-chunk-preserved
 loop-chunk-preserved c = record {
@@ -45,9 +56,6 @@ loop-chunk-preserved c = record {
 }
 
 pub returns : goal.returns
-returns c = record {
-  placed = rw c.loop-chunk.invariant.bytes at c.loop-chunk.tokenizer.sound.right;
-  reading = λ kind.
-      chunks-all c.args.state.now.bytes.now kind c.args.chunks.now c.loop-chunk.chunk-index
-      c.loop-chunk.tokenizer.events.items (omega arith) c.loop-chunk.invariant.events;
-}
+returns c =
+    chunks-all c.args.state.now.bytes.now c.args.chunks.now c.loop-chunk.chunk-index c.loop-chunk.tokenizer.events.items
+    (omega arith) c.loop-chunk.invariant.events

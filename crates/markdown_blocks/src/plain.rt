@@ -1,0 +1,31 @@
+// The plainest inline layer.
+
+ghost use Rattle.std.specs.Prelude.{◌≡◌};
+ghost use Rattle.md_seam.specs.Events.Inline.{plain_events};
+ghost use Rattle.md_seam.proofs.InlineLemmas.{plain-keeps};
+
+use md_engine::event::Event;
+use md_engine::message::Message;
+use md_engine::parse_state::ParseState;
+use md_seam::inline::{Chunk, Inline, PartKind};
+use md_seam::plain;
+use std::alloc::Global;
+
+/// Reads a text part as lines: `Data` over each line, if it is not empty, and `LineEnding` over its ending.
+pub struct Plain;
+
+impl Inline for Plain {
+    ghost reads = { λ plain document part events. events ≡ plain_events document.bytes part };
+
+    fn read(
+        &self,
+        alloc: Global,
+        _kind: PartKind,
+        chunks: &[Chunk],
+        state: &ParseState,
+    ) -> Result<Vec<Event>, Message> {
+        plain::read(alloc, chunks, state)
+    }
+
+    ghost keeps_frame = { λ plain document. plain-keeps document.bytes };
+}
