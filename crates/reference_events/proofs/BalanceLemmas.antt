@@ -9,7 +9,6 @@ use Rattle.md_engine.specs.declared.event.Name.{Name}
 use Rattle.md_engine.specs.declared.event.Name.TheVariants as n
 use Rattle.md_engine.specs.declared.event.Point.{Point}
 use Rattle.md_definition.specs.Ascii.{backslash, left_bracket, right_bracket}
-use Rattle.md_definition.specs.Definition.{is_label}
 use Rattle.md_definition.specs.Enclosed.{Closed, Open, Broken, Enclosed, enclosed, with_byte}
 use Rattle.md_definition.specs.Lines.{is_ending}
 use Rattle.md_seam.specs.Events.Inline.{pair_unless_empty}
@@ -27,7 +26,7 @@ use Rattle.reference_events.specs.declared.roles.Role.TheVariants.{Text, Opens, 
 
 -- Which parts are open at a byte, and behind it, by its role. Brackets end no line.
 pub data Fit : List Name → ℕ → Role → List Name → Type 0 where
-  text : {names : List Name} {b : ℕ} → Fit names b Text names
+  stays : {names : List Name} {b : ℕ} → Fit names b Text names
   opens : {b : ℕ} → is_ending b ≡ false → Fit [] b Opens (n.LabelText ∷ n.Link ∷ [])
   last : {b : ℕ} → Fit (n.LabelText ∷ n.Link ∷ []) b Last (n.Link ∷ [])
   closes : {b : ℕ} → is_ending b ≡ false → Fit (n.Link ∷ []) b Closes []
@@ -57,17 +56,17 @@ turns-pair names name p q = record {
 
 turns-byte : {names next : List Name} {b : ℕ} {role : Role} (from at behind : Point) → Fit names b role next →
     Turns names next (byte_events role from at behind)
-turns-byte from at behind text = record { matches = tt; still = refl }
+turns-byte from at behind stays = record { matches = tt; still = refl }
 turns-byte from at behind (opens h) =
     turns-append [] [] (n.LabelText ∷ n.Link ∷ []) (pair_unless_empty n.Data from at) (opened at behind)
-    (turns-pair [] n.Data from at) (record { matches = (tt, tt, refl, tt, tt); still = refl })
+    (turns-pair [] n.Data from at) (record { matches = (tt, (tt, (refl, (tt, tt)))); still = refl })
 turns-byte from at behind last =
     turns-append (n.LabelText ∷ n.Link ∷ []) (n.LabelText ∷ n.Link ∷ []) (n.Link ∷ [])
     (pair_unless_empty n.Data from behind) (exit n.LabelText behind ∷ [])
     (turns-pair (n.LabelText ∷ n.Link ∷ []) n.Data from behind) (record { matches = (refl, tt); still = refl })
 turns-byte from at behind (closes h) =
     turns-append (n.Link ∷ []) (n.Link ∷ []) [] (pair_unless_empty n.Data from at) (closed at behind)
-    (turns-pair (n.Link ∷ []) n.Data from at) (record { matches = (tt, refl, refl, tt); still = refl })
+    (turns-pair (n.Link ∷ []) n.Data from at) (record { matches = (tt, (refl, (refl, tt))); still = refl })
 
 pub turns-line : {names end : List Name} {line : List ℕ} {roles : List Role} (from at : Point) →
     Runs names line roles end → Turns names end (line_events line roles from at)
@@ -88,13 +87,13 @@ AreEndings (b ∷ bs) = (is_ending b ≡ true) × AreEndings bs
 rests : {bs : List ℕ} {roles : List Role} {end : List Name} → Runs (n.Link ∷ []) bs roles end → AreEndings bs →
     end ≡ n.Link ∷ []
 rests none h = refl
-rests (more text runs) h = rests runs h.1
+rests (more stays runs) h = rests runs h.1
 rests (more (closes plain) runs) h = let e : true ≡ false = sym h.0 ∙ plain in cc
 
 turns-label : {names end : List Name} {bs : List ℕ} {roles : List Role} (p : Point) → Runs names bs roles end →
     AreEndings bs → Turns names end (cond (ends_label roles) (exit n.LabelText p ∷ []) [])
 turns-label p none h = record { matches = tt; still = refl }
-turns-label p (more text runs) h = turns-label p runs h.1
+turns-label p (more stays runs) h = turns-label p runs h.1
 turns-label p (more (opens plain) runs) h = let e : true ≡ false = sym h.0 ∙ plain in cc
 turns-label p (more last runs) h = record { matches = (refl, tt); still = sym (rests runs h.1) }
 turns-label p (more (closes plain) runs) h = let e : true ≡ false = sym h.0 ∙ plain in cc
@@ -230,13 +229,13 @@ runs-roles document Outside (b ∷ bs) h =
         ((cond x (Text, Taken) (cond y (bracket_role o) (Text, Outside))).0
         ∷ roles document (cond x (Text, Taken) (cond y (bracket_role o) (Text, Outside))).1 bs)
         []
-    go true y is o len rec = more text (rec Taken tt)
-    go false false is o len rec = more text (rec Outside tt)
-    go false true is None len rec = more text (rec Outside tt)
+    go true y is o len rec = more stays (rec Taken tt)
+    go false false is o len rec = more stays (rec Outside tt)
+    go false true is None len rec = more stays (rec Outside tt)
     go false true is (Some size) len rec =
-        let closes = label-closes document bs size len in
-        begun size is closes.0 closes.1 (rec (Inside size) closes.2)
-runs-roles document Taken (b ∷ bs) h = more text (runs-roles document Outside bs tt)
+        let found = label-closes document bs size len in
+        begun size is found.0 found.1 (rec (Inside size) found.2)
+runs-roles document Taken (b ∷ bs) h = more stays (runs-roles document Outside bs tt)
 runs-roles document (Inside zero) (b ∷ bs) h = more (closes (ap is_ending h)) (runs-roles document Outside bs tt)
 runs-roles document (Inside (suc zero)) (b ∷ bs) h = more last (runs-roles document (Inside zero) bs h)
-runs-roles document (Inside (suc (suc left))) (b ∷ bs) h = more text (runs-roles document (Inside (suc left)) bs h)
+runs-roles document (Inside (suc (suc left))) (b ∷ bs) h = more stays (runs-roles document (Inside (suc left)) bs h)

@@ -282,7 +282,7 @@ endings-behind bytes chunk w = go (cases_lt (length line) (length text))
 
     left : (b : ℕ) (rest : List ℕ) → is_ending b ≡ true → Rests b rest → AreEndings (b ∷ rest)
     left b rest ends (One none) = subst (λ (l : List ℕ). AreEndings (b ∷ l)) (sym none) (ends, tt)
-    left b rest ends (Two return feed) = subst (λ (l : List ℕ). AreEndings (b ∷ l)) (sym feed) (ends, refl, tt)
+    left b rest ends (Two return feed) = subst (λ (l : List ℕ). AreEndings (b ∷ l)) (sym feed) (ends, (refl, tt))
 
     none-left : (n : ℕ) (bs : List ℕ) → length bs ≤ n → drop n bs ≡ []
     none-left zero [] h = refl

@@ -72,16 +72,15 @@ wholes bytes p (chunk ∷ chunks) order placed lines ends =
 abbrev roles_behind : List ℕ → Chunk → List Role → List Role
 roles_behind bytes chunk roles = drop (length (chunk_text bytes chunk)) roles
 
-chunks-turn : {names next : List Name} (bytes : List ℕ) (chunks : List Chunk) (roles : List Role) →
-    Wholes bytes chunks → Runs names (part_text bytes chunks) roles next →
-    Turns names next (together (chunks_events bytes chunks roles))
-chunks-turn bytes [] _ ws none = record { matches = tt; still = refl }
-chunks-turn {names} {next} bytes (chunk ∷ chunks) roles ws runs =
+chunks-turn : (bytes : List ℕ) (chunks : List Chunk) (names next : List Name) (here : List Role) → Wholes bytes chunks →
+    Runs names (part_text bytes chunks) here next → Turns names next (together (chunks_events bytes chunks here))
+chunks-turn bytes [] names _ _ ws none = record { matches = tt; still = refl }
+chunks-turn bytes (chunk ∷ chunks) names next here ws runs =
     let cut = runs-split (chunk_text bytes chunk) (part_text bytes chunks) runs in
-    turns-append names cut.0 next (read_chunk bytes chunk roles)
-    (together (chunks_events bytes chunks (roles_behind bytes chunk roles)))
-    (chunk-turns bytes chunk roles ws.0 cut.1)
-    (chunks-turn bytes chunks (roles_behind bytes chunk roles) ws.1 cut.2)
+    turns-append names cut.0 next (read_chunk bytes chunk here)
+    (together (chunks_events bytes chunks (roles_behind bytes chunk here)))
+    (chunk-turns bytes chunk here ws.0 cut.1)
+    (chunks-turn bytes chunks cut.0 next (roles_behind bytes chunk here) ws.1 cut.2)
 
 chunks-placed : (bytes : List ℕ) (chunks : List Chunk) (roles : List Role) → Wholes bytes chunks →
     are_placed bytes (together (chunks_events bytes chunks roles)) ≡ true
@@ -142,7 +141,8 @@ late-ending end p q ends es h apart rest = go (same_place p q) ends apart
         Late end ((cond x [] (pair n.LineEnding p q) ++ cond y (exit n.LabelText q ∷ []) []) ++ es)
     go true true apart = let e : true ≡ false = apart refl in cc
     go true false apart = rest
-    go false y apart = late-enter end n.LineEnding p _ h
+    go false y apart =
+        late-enter end n.LineEnding p ((exit n.LineEnding q ∷ cond y (exit n.LabelText q ∷ []) []) ++ es) h
 
 chunks-late : (bytes : List ℕ) (end : ℕ) (p : Point) (chunks : List Chunk) (roles : List Role) → Wholes bytes chunks →
     end ≤ p.index → in_order p chunks ≡ true → Late end (together (chunks_events bytes chunks roles))
@@ -202,7 +202,7 @@ text-framed document part is =
     let all : List Role = roles document Outside (part_text bytes chunks) in
     let ws : Wholes bytes chunks = wholes bytes first_point chunks is.order is.placed
     (lines-each bytes is.end chunks is.lines) is.whole in
-    let turns : Turns [] [] (together (chunks_events bytes chunks all)) = chunks-turn bytes chunks all ws
+    let turns : Turns [] [] (together (chunks_events bytes chunks all)) = chunks-turn bytes chunks [] [] all ws
     (runs-roles document Outside (part_text bytes chunks) tt) in
     record {
       balanced = record { matches = turns.matches; closed = turns.still };

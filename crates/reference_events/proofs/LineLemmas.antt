@@ -163,7 +163,7 @@ goes-pair name p q h = go (same_place p q)
   where
     go : (x : Bool) → Goes p q (cond x [] (pair name p q))
     go true = record { forward = tt; last = h }
-    go false = record { forward = (at_or_before-refl p, h, tt); last = at_or_before-refl q }
+    go false = record { forward = (at_or_before-refl p, (h, tt)); last = at_or_before-refl q }
 
 goes-byte : (role : Role) (from at behind : Point) → IsTrue (at_or_before from at) → IsTrue (at_or_before at behind) →
     Goes from (text_from role from behind) (byte_events role from at behind)
@@ -171,7 +171,7 @@ goes-byte Text from at behind h k = record { forward = tt; last = at_or_before-r
 goes-byte Opens from at behind h k =
     goes-append from at behind (pair_unless_empty n.Data from at) (opened at behind) k (goes-pair n.Data from at h)
     (record {
-      forward = (at_or_before-refl at, at_or_before-refl at, k, at_or_before-refl behind, tt);
+      forward = (at_or_before-refl at, (at_or_before-refl at, (k, (at_or_before-refl behind, tt))));
       last = at_or_before-refl behind;
     })
 goes-byte Last from at behind h k =
@@ -181,7 +181,7 @@ goes-byte Last from at behind h k =
     (record { forward = (at_or_before-refl behind, tt); last = at_or_before-refl behind })
 goes-byte Closes from at behind h k =
     goes-append from at behind (pair_unless_empty n.Data from at) (closed at behind) k (goes-pair n.Data from at h)
-    (record { forward = (at_or_before-refl at, k, at_or_before-refl behind, tt); last = at_or_before-refl behind })
+    (record { forward = (at_or_before-refl at, (k, (at_or_before-refl behind, tt))); last = at_or_before-refl behind })
 
 from-before : (role : Role) (from at behind : Point) → IsTrue (at_or_before from at) → IsTrue (at_or_before at behind) →
     IsTrue (at_or_before (text_from role from behind) behind)

@@ -1,17 +1,16 @@
 -- The shortcut references of a text part (CommonMark 6.3), and the events that mark them.
 use Rattle.std.specs.Prelude.{ℕ, zero, suc, ◌+◌, ◌*◌, ◌^◌, ◌<◌, ◌≤◌, Bool, true, false, ◌&&◌, ◌||◌, ◌==◌}
-use Rattle.std.specs.Prelude.{if◌then◌else◌, List, [], ◌∷◌, ◌++◌, length, take, drop, map, Option, Some, None, string_bytes}
-use Rattle.std.specs.List.{list_any}
+use Rattle.std.specs.Prelude.{filter, nat_le, not, if◌then◌else◌, List, [], ◌∷◌, ◌++◌, length, take, drop, map, Option, Some, None, string_bytes}
+use Rattle.std.specs.List.{list_all, list_any}
 use Rattle.std.specs.Str.{bytes_eq}
 use Rattle.md_engine.specs.declared.event.Event.{Event}
 use Rattle.md_engine.specs.declared.event.Name.TheVariants as n
 use Rattle.md_engine.specs.declared.event.Point.{Point}
-use Rattle.md_definition.specs.Ascii.{backslash, left_bracket, right_bracket}
-use Rattle.md_definition.specs.Definition.{is_label}
+use Rattle.md_definition.specs.Ascii.{backslash, left_bracket, right_bracket, space}
 use Rattle.md_definition.specs.Enclosed.{Closed, Open, Broken, enclosed, Enclosed}
 use Rattle.md_definition.specs.Label.{normal_form}
-use Rattle.md_definition.specs.Lines.{without_ending}
-use Rattle.md_definition.specs.Texts.{split_lines}
+use Rattle.md_definition.specs.Lines.{is_ending, without_ending}
+use Rattle.md_definition.specs.Rest.{is_white}
 use Rattle.md_seam.specs.declared.inline.Chunk.{Chunk}
 use Rattle.md_seam.specs.declared.inline.PartKind.{PartKind}
 use Rattle.md_seam.specs.declared.inline.PartKind.TheVariants as kind
@@ -26,6 +25,21 @@ use Rattle.reference_events.specs.declared.roles.Role.TheVariants.{Text, Opens, 
 
 -- Labels.
 
+-- a space, a tab or a byte that ends a line
+abbrev pub is_gap : ℕ → Bool
+is_gap b = is_white b || is_ending b
+
+-- A label is not blank, and has at most 999 bytes beside the endings of its lines, as that of a definition.
+abbrev pub is_label : List ℕ → Bool
+is_label text = not (list_all is_gap text) && nat_le (length (filter (λ b. not (is_ending b)) text)) 999
+
+-- a text on one line: where a line ends, a space parts words
+abbrev pub unended : ℕ → ℕ
+unended b = if is_ending b then space else b
+
+abbrev pub on_one_line : List ℕ → List ℕ
+on_one_line text = map unended text
+
 -- whether a normal form is listed
 abbrev pub is_listed : List (List ℕ) → List ℕ → Bool
 is_listed forms form = list_any (λ listed. bytes_eq listed form) forms
@@ -33,7 +47,7 @@ is_listed forms form = list_any (λ listed. bytes_eq listed form) forms
 -- whether a text is a label, and its normal form is that of a definition of the document
 abbrev pub is_defined : Document → List ℕ → Bool
 is_defined document text =
-    is_label (split_lines text) && is_listed document.definitions (normal_form (split_lines text))
+    is_label text && is_listed document.definitions (normal_form (on_one_line text ∷ []))
 
 abbrev pub defined_len : Document → Enclosed → Option ℕ
 defined_len document (Closed label behind) = if is_defined document label then Some (length label) else None

@@ -1,6 +1,7 @@
 // The events of a text part whose bytes have roles.
 
 ghost use Rattle.std.specs.Prelude.{◌≡◌, ℕ, ◌+◌, ◌∷◌, ◌++◌, IfOk, OnOk, [], length};
+ghost use Rattle.md_definition.specs.Lines.{without_ending};
 ghost use Rattle.md_seam.specs.Events.Inline.{pair_unless_empty};
 ghost use Rattle.md_seam.specs.Events.Places.{past_byte, past_text};
 ghost use Rattle.md_seam.specs.Events.Nested.{pair};
@@ -11,7 +12,6 @@ use crate::roles::Role;
 use md_engine::event::{Event, Kind, Name, Point};
 use md_engine::message::Message;
 use md_seam::inline::Chunk;
-use plain_grammars::lines::line_len;
 use plain_grammars::memory::push;
 
 /// The point behind a byte of a line.
@@ -134,6 +134,15 @@ fn push_line(
     }
     push_unless_empty(events, Name::Data, from, at)?;
     Ok(at)
+}
+
+/// How many bytes stand before the first ending of a line.
+fn line_len(text: &[u8]) -> usize
+    ensures { result ≡ length (without_ending text.now) }
+{
+    text.iter()
+        .take_while(|byte| **byte != b'\n' && **byte != b'\r')
+        .count()
 }
 
 /// Whether a label ends with the bytes that have these roles.

@@ -1,34 +1,57 @@
 // Labels of references: which text between brackets is a label that a definition of the document has.
 
 ghost use Rattle.std.specs.Prelude.{◌≡◌, IfOk, map, string_bytes};
-ghost use Rattle.md_definition.specs.Texts.{split_lines};
+ghost use Rattle.md_definition.specs.Lines.{is_ending};
 ghost use Rattle.md_seam.specs.TextPart.{document_of};
-ghost use Rattle.plain_grammars.specs.Definitions.{texts};
 ghost use Rattle.reference_events.specs.References as spec;
 
 use md_engine::message::Message;
 use md_engine::parse_state::ParseState;
-use plain_grammars::definition::{Enclosed, is_label, up_to_mark};
+use plain_grammars::definition::{Enclosed, up_to_mark};
 use plain_grammars::label::normal_form;
-use plain_grammars::lines::{behind_ending, line_len};
-use plain_grammars::memory::push;
 use std::alloc::Global;
 
-/// The lines of a text, one more than it has line endings.
+/// How many bytes a label has at most, endings of lines left out.
+const MOST: usize = 999;
+
+/// Whether a line ends with this byte.
+fn ends_line(byte: u8) -> bool
+    ensures { result ≡ is_ending byte }
+{
+    byte == b'\n' || byte == b'\r'
+}
+
+/// Whether this is a space, a tab or a byte that ends a line.
+fn is_gap(byte: u8) -> bool
+    ensures { result ≡ spec.is_gap byte }
+{
+    byte == b' ' || byte == b'\t' || ends_line(byte)
+}
+
+/// Whether a text is a label: not blank, and not too long.
+fn is_label(text: &[u8]) -> bool
+    ensures { result ≡ spec.is_label text.now }
+{
+    !text.iter().all(|byte| is_gap(*byte))
+        && text.iter().filter(|byte| !ends_line(**byte)).count() <= MOST
+}
+
+/// A byte, and a space for one that ends a line.
+fn unended(byte: u8) -> u8
+    ensures { result ≡ spec.unended byte }
+{
+    if ends_line(byte) { b' ' } else { byte }
+}
+
+/// A text on one line.
 ///
 /// An `Err` says that memory ran out.
-fn lines_of(alloc: Global, text: &[u8]) -> Result<Vec<&[u8]>, Message>
-    ensures { IfOk result (λ lines. texts lines.items ≡ split_lines text.now) }
+fn on_one_line(alloc: Global, text: &[u8]) -> Result<Vec<u8>, Message>
+    ensures { IfOk result (λ line. line.items ≡ spec.on_one_line text.now) }
 {
-    let mut lines = Vec::new(alloc);
-    let mut rest = text;
-    loop {
-        let (line, ending) = rest.split_at(line_len(rest));
-        push(&mut lines, line)?;
-        if ending.is_empty() {
-            return Ok(lines);
-        }
-        rest = behind_ending(ending);
+    match text.iter().map(|byte| unended(*byte)).collect(alloc) {
+        Ok(line) => Ok(line),
+        Err(_) => Err(Message),
     }
 }
 
@@ -44,14 +67,14 @@ fn is_listed(definitions: &[String], form: &str) -> bool
 /// Whether a text is a label, and a definition of the document has it.
 ///
 /// An `Err` says that memory ran out.
-pub fn is_defined(alloc: Global, state: &ParseState, text: &[u8]) -> Result<bool, Message>
+fn is_defined(alloc: Global, state: &ParseState, text: &[u8]) -> Result<bool, Message>
     ensures { IfOk result (λ is. is ≡ spec.is_defined (document_of state.now) text.now) }
 {
-    let lines = lines_of(alloc, text)?;
-    if !is_label(&lines) {
+    if !is_label(text) {
         return Ok(false);
     }
-    let form = normal_form(alloc, &lines)?;
+    let line = on_one_line(alloc, text)?;
+    let form = normal_form(alloc, &[line.as_slice()])?;
     Ok(is_listed(&state.definitions, &form))
 }
 
