@@ -1,6 +1,6 @@
 -- The shortcut references of a text part (CommonMark 6.3), and the events that mark them.
 use Rattle.std.specs.Prelude.{ℕ, zero, suc, ◌+◌, ◌*◌, ◌^◌, ◌<◌, ◌≤◌, Bool, true, false, ◌&&◌, ◌||◌, ◌==◌}
-use Rattle.std.specs.Prelude.{filter, nat_le, not, if◌then◌else◌, List, [], ◌∷◌, ◌++◌, length, take, drop, map, Option, Some, None, string_bytes}
+use Rattle.std.specs.Prelude.{count_by, nat_le, not, if◌then◌else◌, List, [], ◌∷◌, ◌++◌, length, take, drop, map, Option, Some, None, string_bytes}
 use Rattle.std.specs.List.{list_all, list_any}
 use Rattle.std.specs.Str.{bytes_eq}
 use Rattle.md_engine.specs.declared.event.Event.{Event}
@@ -31,7 +31,7 @@ is_gap b = is_white b || is_ending b
 
 -- A label is not blank, and has at most 999 bytes beside the endings of its lines, as that of a definition.
 abbrev pub is_label : List ℕ → Bool
-is_label text = not (list_all is_gap text) && nat_le (length (filter (λ b. not (is_ending b)) text)) 999
+is_label text = not (list_all is_gap text) && nat_le (count_by (λ b. not (is_ending b)) text) 999
 
 -- a text on one line: where a line ends, a space parts words
 abbrev pub unended : ℕ → ℕ
