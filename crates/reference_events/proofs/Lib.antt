@@ -3,3 +3,4 @@ pub mod FrontLemmas
 pub mod BalanceLemmas
 pub mod ChunkLemmas
 pub mod FramedLemmas
+pub mod WalkLemmas
