@@ -7,6 +7,9 @@ use Rattle.md_seam.specs.declared.inline.Chunk.{Chunk}
 use Rattle.md_seam.specs.Events.Inline.{chunk_text, together}
 use Rattle.md_seam.specs.Events.Places.{past_byte, past_text}
 use Rattle.reference_events.specs.References.{byte_events, chunk_events, chunks_events, line_events, part_text, text_from}
+use Rattle.md_seam.specs.TextPart.{Document}
+use Rattle.reference_events.specs.References.{role_at, roles as all_roles}
+use Rattle.reference_events.specs.declared.roles.Place.{Place}
 use Rattle.reference_events.specs.declared.roles.Role.{Role}
 
 drop-next : {A : Type 0} (xs : List A) (i : ℕ) (d : A) → i < length xs → drop i xs ≡ get_or xs i d ∷ drop (i + 1) xs
@@ -57,3 +60,9 @@ step-line es new all line roles i d from at behind next h same is added begun so
     ∙ ap (λ (p : Point). es ++ (byte_events role from at behind ++ ahead p behind)) begun
     ∙ ap (λ (q : Point). es ++ (byte_events role from at q ++ ahead (text_from role from q) q)) is
     ∙ ap (λ (l : List Event). es ++ l) (sym (line-next line roles i d from at h same)) ∙ so_far
+
+pub roles-length : (document : Document) (place : Place) (text : List ℕ) →
+    length (all_roles document place text) ≡ length text
+roles-length document place [] = refl
+roles-length document place (b ∷ bs) =
+    ap suc (roles-length document (role_at document place b bs).1 bs)

@@ -1,6 +1,7 @@
 // Labels of references: which text between brackets is a label that a definition of the document has.
 
-ghost use Rattle.std.specs.Prelude.{◌≡◌, IfOk, map, string_bytes};
+ghost use Rattle.std.specs.Prelude.{◌≡◌, IfOk, count_by, map, not, string_bytes};
+ghost use Rattle.std.specs.List.{list_all};
 ghost use Rattle.md_definition.specs.Lines.{is_ending};
 ghost use Rattle.md_seam.specs.TextPart.{document_of};
 ghost use Rattle.reference_events.specs.References as spec;
@@ -28,12 +29,25 @@ fn is_gap(byte: u8) -> bool
     byte == b' ' || byte == b'\t' || ends_line(byte)
 }
 
+/// Whether a text is made of spaces, tabs and endings of lines alone.
+fn is_blank(text: &[u8]) -> bool
+    ensures { result ≡ list_all spec.is_gap text.now }
+{
+    text.iter().all(|byte| is_gap(*byte))
+}
+
+/// How many bytes a text has, endings of lines left out.
+fn bare_len(text: &[u8]) -> usize
+    ensures { result ≡ count_by (λ b. not (is_ending b)) text.now }
+{
+    text.iter().filter(|byte| !ends_line(**byte)).count()
+}
+
 /// Whether a text is a label: not blank, and not too long.
 fn is_label(text: &[u8]) -> bool
     ensures { result ≡ spec.is_label text.now }
 {
-    !text.iter().all(|byte| is_gap(*byte))
-        && text.iter().filter(|byte| !ends_line(**byte)).count() <= MOST
+    !is_blank(text) && bare_len(text) <= MOST
 }
 
 /// A byte, and a space for one that ends a line.
@@ -59,9 +73,12 @@ fn on_one_line(alloc: Global, text: &[u8]) -> Result<Vec<u8>, Message>
 fn is_listed(definitions: &[String], form: &str) -> bool
     ensures { result ≡ spec.is_listed (map string_bytes definitions.now) form.now }
 {
-    definitions
-        .iter()
-        .any(|definition| definition.as_str() == form)
+    for definition in definitions {
+        if definition.as_str() == form {
+            return true;
+        }
+    }
+    false
 }
 
 /// Whether a text is a label, and a definition of the document has it.
