@@ -16,6 +16,8 @@ mod outlines;
 #[cfg(test)]
 mod plain_outlines;
 #[cfg(test)]
+mod references;
+#[cfg(test)]
 mod runs;
 #[cfg(test)]
 mod streams;

@@ -1,0 +1,6 @@
+pub mod LineLemmas
+pub mod FrontLemmas
+pub mod BalanceLemmas
+pub mod ChunkLemmas
+pub mod FramedLemmas
+pub mod WalkLemmas

@@ -1,0 +1,18 @@
+// The shortcut references of a text part (CommonMark 6.3), and the events that mark them.
+//
+// A reference is a label between brackets that a definition of the document has, wherever that definition stands:
+//
+//     reference ::= '[' label ']'
+//     label     ::= 1*( '\' byte | byte but '[', ']' and '\' )
+//
+// A label is not blank and has at most 999 bytes, and it may go over the lines of a text part. It is compared in its
+// normal form: so `[a B]` refers to `[A  b]: /c`. Everything else is text, brackets without a definition too.
+//
+// Events: `Link` around a reference, `LabelMarker` over each bracket, `LabelText` around the label, and `Data` and
+// `LineEnding` as the plain layer gives them.
+#![tactic(auto)]
+
+mod events;
+mod label;
+pub mod part;
+pub mod roles;
