@@ -1,8 +1,7 @@
 -- The references of a part open and close like brackets.
-use Rattle.std.proofs.Common.{◌≡◌, ℕ, zero, suc, ◌+◌, ◌<◌, Bool, true, false, cond, ◌&&◌, ◌||◌, List, [], ◌∷◌, ◌++◌}
-use Rattle.std.proofs.Common.{length, take, drop, refl, ap, sym, ◌∙◌, subst, append_assoc, arith}
+use Rattle.std.proofs.Common.{◌≡◌, ℕ, zero, suc, Bool, true, false, cond, List, [], ◌∷◌, ◌++◌}
+use Rattle.std.proofs.Common.{length, take, drop, refl, ap, sym, ◌∙◌, subst}
 use Rattle.std.specs.Prelude.{◌==◌, Option, Some, None}
-use Rattle.std.specs.List.{list_any}
 use Rattle.std.proofs.lemmas.Bool.{eqb-true}
 use Rattle.md_engine.specs.declared.event.Event.{Event}
 use Rattle.md_engine.specs.declared.event.Name.{Name}
@@ -12,13 +11,13 @@ use Rattle.md_definition.specs.Ascii.{backslash, left_bracket, right_bracket}
 use Rattle.md_definition.specs.Enclosed.{Closed, Open, Broken, Enclosed, enclosed, with_byte}
 use Rattle.md_definition.specs.Lines.{is_ending}
 use Rattle.md_seam.specs.Events.Inline.{pair_unless_empty}
-use Rattle.md_seam.specs.Events.Nested.{Balanced, Matches, exit, open_after, pair}
-use Rattle.md_seam.specs.Events.Places.{past_byte, same_place}
+use Rattle.md_seam.specs.Events.Nested.{Matches, exit, open_after}
+use Rattle.md_seam.specs.Events.Places.{past_byte}
 use Rattle.md_seam.specs.TextPart.{Document}
 use Rattle.md_seam.proofs.InlineLemmas.{balanced-pair}
 use Rattle.md_seam.proofs.NestedLemmas.{balanced-matches, balanced-open, matches-append, open_after-append}
-use Rattle.reference_events.specs.References.{byte_events, closed, defined_len, ending_events, ends_label, is_defined, is_listed}
-use Rattle.reference_events.specs.References.{bracket_role, label_len, line_events, opened, role_at, roles, text_from}
+use Rattle.reference_events.specs.References.{byte_events, closed, defined_len, ending_events, ends_label, is_defined}
+use Rattle.reference_events.specs.References.{bracket_role, label_len, line_events, opened, roles, text_from}
 use Rattle.reference_events.specs.declared.roles.Place.{Place}
 use Rattle.reference_events.specs.declared.roles.Place.TheVariants.{Outside, Taken, Inside}
 use Rattle.reference_events.specs.declared.roles.Role.{Role}

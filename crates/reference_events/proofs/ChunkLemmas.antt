@@ -1,9 +1,9 @@
 -- What holds of the events of a chunk, whatever the roles of its bytes are.
 use Rattle.std.proofs.Common.{◌≡◌, ℕ, zero, suc, ◌+◌, ◌-◌, ◌<◌, ◌≤◌, ◌⊎◌, inl, inr, Bool, true, false, cond, ◌&&◌, List}
 use Rattle.std.proofs.Common.{[], ◌∷◌, ◌++◌, length, take, drop, refl, ap, sym, ◌∙◌, subst, append_assoc, add-one, arith}
-use Rattle.std.specs.Prelude.{◌==◌, IsTrue, nat_le, nat_lt, None}
+use Rattle.std.specs.Prelude.{IsTrue, nat_le, nat_lt, None}
 use Rattle.std.specs.List.{list_all}
-use Rattle.std.proofs.lemmas.Bool.{and_parts, and_from, cases_lt, true≢false}
+use Rattle.std.proofs.lemmas.Bool.{and_from, cases_lt, true≢false}
 use Rattle.std.proofs.lemmas.Bool.Decides.{nat_tests}
 use Rattle.std.proofs.lemmas.List.{append-nil, length-take, take-append-drop}
 use Rattle.md_engine.specs.declared.event.Event.{Event}
@@ -19,9 +19,9 @@ use Rattle.md_seam.specs.declared.inline.Chunk.{Chunk}
 use Rattle.md_seam.specs.Events.Inline.{Covers, chunk_text, ends_whole, is_inline, is_line, is_one_line, line_end}
 use Rattle.md_seam.specs.Events.Inline.{line_endings, pair_unless_empty, pieces}
 use Rattle.md_seam.specs.Events.Nested.{enter, exit, pair}
-use Rattle.md_seam.specs.Events.Places.{are_placed, at_or_before, is_placed, past_byte, past_text, same_place}
+use Rattle.md_seam.specs.Events.Places.{are_placed, at_or_before, is_placed, past_byte, same_place}
 use Rattle.md_seam.specs.Substituted.{belongs}
-use Rattle.md_seam.proofs.InlineLemmas.{end-before, end-behind, end-placed, line-no_ending, past-index}
+use Rattle.md_seam.proofs.InlineLemmas.{end-before, end-placed, line-no_ending, past-index}
 use Rattle.md_seam.proofs.NestedLemmas.{at_or_before-refl}
 use Rattle.md_seam.proofs.PlacesLemmas.{Placed, all-append, apart-later, drop-next, placed-byte, placed-facts, placed-from}
 use Rattle.md_seam.proofs.PlainSteps.{Rests, One, Two, line-and-rest, range-length, rests-of, stops-at}

@@ -1,7 +1,7 @@
 -- The layer keeps the promise of every layer.
-use Rattle.std.proofs.Common.{◌≡◌, ℕ, ◌+◌, ◌<◌, ◌≤◌, Bool, true, false, cond, ◌&&◌, List, [], ◌∷◌, ◌++◌, length, take, drop}
+use Rattle.std.proofs.Common.{◌≡◌, ℕ, ◌+◌, ◌≤◌, Bool, true, false, cond, ◌&&◌, List, [], ◌∷◌, ◌++◌, length, take, drop}
 use Rattle.std.proofs.Common.{refl, ap, sym, ◌∙◌, subst, append_assoc, arith}
-use Rattle.std.specs.Prelude.{◌==◌, IsTrue, nat_lt}
+use Rattle.std.specs.Prelude.{IsTrue, nat_lt}
 use Rattle.std.specs.List.{list_all, prefix_len}
 use Rattle.std.proofs.lemmas.Bool.{and_parts}
 use Rattle.std.proofs.lemmas.Bool.Decides.{nat_tests}
@@ -15,10 +15,10 @@ use Rattle.md_seam.specs.declared.inline.Chunk.{Chunk}
 use Rattle.md_seam.specs.declared.inline.PartKind.{PartKind}
 use Rattle.md_seam.specs.declared.inline.PartKind.TheVariants as kind
 use Rattle.md_seam.specs.Events.Inline.{Fills, Framed, IsPart, KeepsFrame, Part, are_lines, chunk_placed, chunk_text, cut_at}
-use Rattle.md_seam.specs.Events.Inline.{endings_of, ends_whole, in_order, is_inline, is_line, is_none, is_one_line, line_end}
+use Rattle.md_seam.specs.Events.Inline.{endings_of, ends_whole, in_order, is_inline, is_line, is_one_line, line_end}
 use Rattle.md_seam.specs.Events.Inline.{line_endings, pair_unless_empty, together}
-use Rattle.md_seam.specs.Events.Nested.{Balanced, enter, exit, pair}
-use Rattle.md_seam.specs.Events.Places.{are_placed, at_or_before, first_point, is_placed, past_text, same_place}
+use Rattle.md_seam.specs.Events.Nested.{enter, exit, pair}
+use Rattle.md_seam.specs.Events.Places.{are_placed, at_or_before, first_point, is_placed, same_place}
 use Rattle.md_seam.specs.Substituted.{belongs}
 use Rattle.md_seam.specs.TextPart.{Document}
 use Rattle.md_seam.proofs.CutLemmas.{cut-front, cut-last}

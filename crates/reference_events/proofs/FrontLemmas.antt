@@ -1,10 +1,9 @@
 -- What comes first of the events of a line, and which pieces they have.
-use Rattle.std.proofs.Common.{◌≡◌, ℕ, ◌+◌, ◌<◌, ◌≤◌, Bool, true, false, cond, List, [], ◌∷◌, ◌++◌, refl, ap, sym, ◌∙◌}
+use Rattle.std.proofs.Common.{◌≡◌, ℕ, ◌≤◌, Bool, true, false, cond, List, [], ◌∷◌, ◌++◌, refl, ap, sym, ◌∙◌}
 use Rattle.std.proofs.Common.{subst, append_assoc, arith}
-use Rattle.std.specs.Prelude.{IsTrue}
 use Rattle.md_engine.specs.declared.event.Event.{Event}
 use Rattle.md_engine.specs.declared.event.Kind.{Kind}
-use Rattle.md_engine.specs.declared.event.Kind.TheVariants.{Enter, Exit}
+use Rattle.md_engine.specs.declared.event.Kind.TheVariants.{Enter}
 use Rattle.md_engine.specs.declared.event.Name.{Name}
 use Rattle.md_engine.specs.declared.event.Name.TheVariants as n
 use Rattle.md_engine.specs.declared.event.Point.{Point}
@@ -13,7 +12,7 @@ use Rattle.md_seam.specs.Events.Nested.{enter, exit, pair}
 use Rattle.md_seam.specs.Events.Places.{past_byte, past_text, same_place}
 use Rattle.md_seam.proofs.InlineLemmas.{same-refl, same-trans}
 use Rattle.md_seam.proofs.PlacesLemmas.{apart-later}
-use Rattle.reference_events.specs.References.{byte_events, closed, ending_events, line_events, opened}
+use Rattle.reference_events.specs.References.{closed, ending_events, line_events, opened}
 use Rattle.reference_events.specs.declared.roles.Role.{Role}
 use Rattle.reference_events.specs.declared.roles.Role.TheVariants.{Text, Opens, Last, Closes}
 

@@ -1,20 +1,19 @@
 -- What holds of the events of a line, whatever the roles of its bytes are.
-use Rattle.std.proofs.Common.{◌≡◌, ℕ, zero, suc, ◌+◌, ◌<◌, ◌≤◌, ◌⊎◌, inl, inr, Bool, true, false, cond, ◌&&◌, List}
-use Rattle.std.proofs.Common.{[], ◌∷◌, ◌++◌, length, refl, ap, sym, ◌∙◌, subst, append_assoc, arith}
+use Rattle.std.proofs.Common.{◌≡◌, ℕ, Bool, true, false, cond, ◌&&◌, List}
+use Rattle.std.proofs.Common.{[], ◌∷◌, ◌++◌, refl, ap, sym, subst}
 use Rattle.std.specs.Prelude.{IsTrue, not, None}
 use Rattle.std.specs.List.{list_all}
 use Rattle.std.proofs.lemmas.Bool.{and_parts, and_from}
-use Rattle.std.proofs.lemmas.Bool.Decides.{nat_tests}
 use Rattle.md_engine.specs.declared.event.Event.{Event}
 use Rattle.md_engine.specs.declared.event.Kind.{Kind}
 use Rattle.md_engine.specs.declared.event.Kind.TheVariants.{Enter, Exit}
 use Rattle.md_engine.specs.declared.event.Name.{Name}
 use Rattle.md_engine.specs.declared.event.Name.TheVariants as n
 use Rattle.md_engine.specs.declared.event.Point.{Point}
-use Rattle.md_seam.specs.Events.Inline.{Covers, Piece, is_line_ending, line_endings, pair_unless_empty, pieces}
+use Rattle.md_seam.specs.Events.Inline.{is_line_ending, line_endings, pair_unless_empty}
 use Rattle.md_seam.specs.Events.Nested.{Forward, enter, exit, last_point, pair}
 use Rattle.md_seam.specs.Events.Places.{at_or_before, past_byte, past_text, same_place}
-use Rattle.md_seam.proofs.InlineLemmas.{before-text, past-index, same-refl, same-trans}
+use Rattle.md_seam.proofs.InlineLemmas.{before-text}
 use Rattle.md_seam.proofs.NestedLemmas.{at_or_before-refl, at_or_before-trans, forward-append, forward-from}
 use Rattle.md_seam.proofs.NestedLemmas.{last_point-append}
 use Rattle.md_seam.proofs.PlacesLemmas.{all-append}
