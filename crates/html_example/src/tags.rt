@@ -44,12 +44,13 @@ pub(crate) fn shown_behind(name: Name) -> Option<Shown> {
 pub(crate) fn tags(name: Name) -> (&'static str, &'static str) {
     match name {
         Name::BlockQuote => ("<blockquote>\n", "</blockquote>\n"),
-        Name::ListOrdered => ("<ol", "</ol>\n"),
         Name::ListUnordered => ("<ul>\n", "</ul>\n"),
         Name::ListItem => ("<li>\n", "</li>\n"),
-        Name::GfmFootnoteDefinition => ("<section class=\"footnote\"", "</section>\n"),
         Name::Paragraph => ("<p>", "</p>\n"),
         Name::ThematicBreak => ("<hr />\n", ""),
+        // The renderer ends these tags, and that of fenced code.
+        Name::ListOrdered => ("<ol", "</ol>\n"),
+        Name::GfmFootnoteDefinition => ("<section class=\"footnote\"", "</section>\n"),
         Name::CodeIndented => ("<pre><code>", "</code></pre>\n"),
         Name::CodeFenced => ("<pre><code", "</code></pre>\n"),
         Name::CodeFencedFenceInfo => (" class=\"language-", "\""),
