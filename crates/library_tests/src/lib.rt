@@ -12,11 +12,11 @@ mod lined;
 #[cfg(test)]
 mod lists;
 #[cfg(test)]
+mod marks;
+#[cfg(test)]
 mod outlines;
 #[cfg(test)]
 mod plain_outlines;
-#[cfg(test)]
-mod references;
 #[cfg(test)]
 mod runs;
 #[cfg(test)]
