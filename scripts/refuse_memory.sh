@@ -1,8 +1,9 @@
 #!/usr/bin/env bash
-# Refuses requests for memory of the programs `blocks` and `events`, as `rt ci` or `rt run` has built them (`out`): on the
-# texts of their stored runs, and with the argument `all` on each begin of a text with a byte order mark, frontmatter, headings of
-# both kinds, quotes, a break, nested lists, a fence, HTML, definitions, in a quote and in front of an underline, a table and a
-# footnote definition.
+# Refuses requests for memory of the programs `blocks`, `events` and `references_example`, as `rt ci` or `rt run` has built them (`out`):
+# on the texts of their stored runs, and the first two with the argument `all` on each begin of a text with a byte order mark,
+# frontmatter, headings of both kinds, quotes, a break, nested lists, a fence, HTML, definitions, in a quote and in front of an
+# underline, a table and a footnote definition. The third parses its text with an inline layer, wraps it in a quote and in an item, and
+# parses both; a reference in it goes over two lines of a quote, and is defined behind.
 #
 # Each text has a run in which nothing is refused, which must end with status 0 and print what is given, or anything where nothing is;
 # and for each request of that run one in which this request is refused (`scripts/refuse.c`). Such a run must end with status 3, say so
@@ -15,7 +16,7 @@ trap 'rm -rf "$work"' EXIT
 kit=$(dirname "$(rt doc)")
 "$kit/toolchain/bin/clang" --target=x86_64-unknown-linux-gnu --sysroot="$kit/toolchain" -O2 -shared -fPIC -nostdlib -fuse-ld=lld \
     -o "$work/refuse.so" scripts/refuse.c
-python3 - "$work/refuse.so" blocks 2000 events 2000 <<'PYTHON'
+python3 - "$work/refuse.so" blocks 2000 events 2000 references_example 50 <<'PYTHON'
 import os, subprocess, sys
 
 library, *programs = sys.argv[1:]
@@ -110,7 +111,8 @@ def refused(name):
     given = {stored: open(f"{folder}/stdout", "rb").read()}
     if name == "blocks":
         given[WHOLE] = OUTLINE
-    for text in [stored, *(WHOLE[:length] for length in range(3, len(WHOLE) + 1))]:
+    begins = [] if name == "references_example" else [WHOLE[:length] for length in range(3, len(WHOLE) + 1)]
+    for text in [stored, *begins]:
         command = [f"{folder}/out/{name}", *([] if text == stored else ["all"])]
         right, _ = run(command, text, 0)
         if right != (0, given.get(text, right[1]), b"") or not right[1]:
