@@ -63,11 +63,11 @@ pub enum Nasty {
 impl Nasty {
     /// What is tried where no argument says it.
     pub const ALL: [Nasty; 3] = [
-        Nasty::Letters { most: 6 },
-        Nasty::Fragments { most: 4 },
+        Nasty::Letters { most: 5 },
+        Nasty::Fragments { most: 3 },
         Nasty::Random {
             seed: 1,
-            count: 200_000,
+            count: 50_000,
         },
     ];
 
