@@ -80,10 +80,10 @@ impl<I: Inline> Reader for TextReader<'_, '_, I> {
         alloc: Global,
         content: Content,
         chunks: &[Chunk],
-        _spare: Vec<Event>,
+        spare: Vec<Event>,
     ) -> Result<Vec<Event>, Message> {
         self.inline
-            .read(alloc, kind_of(content), chunks, self.state)
+            .read_into(alloc, kind_of(content), chunks, self.state, spare)
     }
 }
 

@@ -20,11 +20,22 @@ impl Inline for Plain {
     fn read(
         &self,
         alloc: Global,
-        _kind: PartKind,
+        kind: PartKind,
         chunks: &[Chunk],
         state: &ParseState,
     ) -> Result<Vec<Event>, Message> {
-        plain::read(alloc, chunks, state)
+        self.read_into(alloc, kind, chunks, state, Vec::new(alloc))
+    }
+
+    fn read_into(
+        &self,
+        alloc: Global,
+        _kind: PartKind,
+        chunks: &[Chunk],
+        state: &ParseState,
+        spare: Vec<Event>,
+    ) -> Result<Vec<Event>, Message> {
+        plain::read_into(alloc, chunks, state, spare)
     }
 
     ghost keeps_frame = { λ plain document. plain-keeps document.bytes };

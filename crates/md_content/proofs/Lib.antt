@@ -17,6 +17,7 @@ pub mod ContentReadsLemmas
 pub mod SettledLemmas
 pub mod LabelTexts
 pub mod LabelWalks
+pub mod FootnoteWalk
 pub mod LabelsLemmas
 pub mod ContentNames
 pub mod DefinitionLabels

@@ -1,6 +1,7 @@
 // The labels of the footnote definitions of a text, as what refers to them finds them: in normal form.
 
-ghost use Rattle.std.specs.Prelude.{◌≡◌, ◌&&◌, map, string_bytes, IfOk};
+ghost use Rattle.std.specs.Prelude.{◌≡◌, ◌&&◌, drop, map, not, string_bytes, IfOk};
+ghost use Rattle.std.specs.List.{prefix_len};
 ghost use Rattle.md_content.specs.FootnoteLabels.{footnote_labels_in, is_footnote_label};
 ghost use Rattle.md_seam.specs.Events.Nested.{is_enter, is_exit};
 ghost use Rattle.md_seam.specs.Events.Spelled.{byte_at};
@@ -8,6 +9,7 @@ ghost use Rattle.md_seam.specs.Events.Spelled.{byte_at};
 use crate::labels::{between, push_label};
 use md_engine::event::{Event, Kind, Name, Point};
 use md_engine::message::Message;
+use md_seam::walks::{Test, passing};
 use std::alloc::Global;
 
 /// Whether a label begins here.
@@ -38,6 +40,24 @@ fn byte_at(point: Point) -> Result<usize, Message>
     }
 }
 
+/// Whether an event belongs to no label.
+struct IsNoLabel;
+
+impl Test for IsNoLabel {
+    ghost passes = { λ test e. not (is_footnote_label e.name) };
+
+    fn passes(&self, event: &Event) -> bool {
+        !matches!(event.name, Name::GfmFootnoteDefinitionLabelString)
+    }
+}
+
+/// The events from the first label on.
+fn from_label(events: &[Event]) -> &[Event]
+    ensures { result.now ≡ drop (prefix_len (λ e. not (is_footnote_label e.name)) events.now) events.now }
+{
+    &events[passing(&IsNoLabel, events)..]
+}
+
 /// The normal forms of all labels of footnote definitions, in the order of the text, repeats kept. Nothing is allocated
 /// where there is none.
 ///
@@ -51,7 +71,7 @@ pub fn footnote_labels(
 {
     let mut found = Vec::new(alloc);
     let mut from = 0;
-    for event in events {
+    for event in from_label(events) {
         if begins_label(event) {
             from = byte_at(event.point)?;
         }

@@ -359,8 +359,10 @@ impl<'a> Tokenizer<'a> {
         }
     }
 
-    /// Adds an event at the point, or changes nothing.
-    fn add(&mut self, kind: Kind, name: Name, link: Option<Link>) -> Result<(), Message>
+    /// Adds an event at the point where the list may have no room for it, or changes nothing. This is rare, so it stands
+    /// apart.
+    #[inline(never)]
+    fn add_growing(&mut self, kind: Kind, name: Name, link: Option<Link>) -> Result<(), Message>
         ensures { world self.new ≡
             record (world self.old) {
               events = if is_ok result
@@ -371,6 +373,29 @@ impl<'a> Tokenizer<'a> {
     {
         if self.events.reserve(1).is_err() {
             return Err(Message);
+        }
+        let event = Event {
+            kind,
+            name,
+            point: self.point,
+            link,
+        };
+        self.events.push_reserved(event);
+        Ok(())
+    }
+
+    /// Adds an event at the point, or changes nothing.
+    fn add(&mut self, kind: Kind, name: Name, link: Option<Link>) -> Result<(), Message>
+        ensures { world self.new ≡
+            record (world self.old) {
+              events = if is_ok result
+                  then (world self.old).events
+                  ++ record { kind = kind; name = name; point = (world self.old).point; link = link } ∷ []
+                  else (world self.old).events;
+            } }
+    {
+        if self.events.len() >= self.events.capacity() {
+            return self.add_growing(kind, name, link);
         }
         let event = Event {
             kind,

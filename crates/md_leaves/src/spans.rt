@@ -124,6 +124,7 @@ struct PassesAt {
 impl Test for PassesAt {
     ghost passes = { λ test. passes test.place };
 
+    #[inline(always)]
     fn passes(&self, event: &Event) -> bool {
         passes(self.place, event)
     }

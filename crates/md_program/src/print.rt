@@ -57,15 +57,28 @@ fn push_line(text: &mut String, line: &OutlineLine) -> Result<(), AllocError>
     text.push_str("\n")
 }
 
+/// Puts two spaces a depth behind the text: at once for as few depths as most lines have.
+fn push_few(text: &mut String, depth: usize) -> Result<(), AllocError>
+    ensures { OnOk result (string_bytes text.new ≡ string_bytes text.old ++ repeat depth (codes "  ")) }
+{
+    match depth {
+        0 => Ok(()),
+        1 => text.push_str("  "),
+        2 => text.push_str("    "),
+        3 => text.push_str("      "),
+        _ => push_repeated(text, "  ", depth),
+    }
+}
+
 /// Puts two spaces a depth behind the text, those of four depths at once.
 fn push_indent(text: &mut String, depth: usize) -> Result<(), AllocError>
     ensures { OnOk result (string_bytes text.new ≡ string_bytes text.old ++ repeat depth (codes "  ")) }
 {
     if depth < 4 {
-        return push_repeated(text, "  ", depth);
+        return push_few(text, depth);
     }
     push_repeated(text, "        ", depth / 4)?;
-    push_repeated(text, "  ", depth % 4)
+    push_few(text, depth % 4)
 }
 
 /// Puts `piece` behind the text, so many times.

@@ -51,6 +51,24 @@ pub trait Inline {
             (λ events. reads self.now (document_of state.now) (record { kind = kind; chunks = chunks.now })
             events.items) };
 
+    /// The same, written into `spare` by a layer that can; what stands there means nothing. The block parser calls this,
+    /// with the list that it had for the part before, so a layer that writes there asks for no memory for most parts.
+    fn read_into(
+        &self,
+        alloc: Global,
+        kind: PartKind,
+        chunks: &[Chunk],
+        state: &ParseState,
+        _spare: Vec<Event>,
+    ) -> Result<Vec<Event>, Message>
+        requires { IsTextPart (document_of state.now) (record { kind = kind; chunks = chunks.now }) }
+        ensures { IfOk result
+            (λ events. reads self.now (document_of state.now) (record { kind = kind; chunks = chunks.now })
+            events.items) }
+    {
+        self.read(alloc, kind, chunks, state)
+    }
+
     /// What it gives keeps the promise of every layer.
     ghost keeps_frame: { (layer : Self) (document : Document) → KeepsFrame document.bytes (reads layer document) };
 }

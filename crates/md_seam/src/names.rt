@@ -8,6 +8,7 @@ ghost use Rattle.md_seam.specs.Events.Spelled.{role};
 use md_engine::event::Name;
 
 /// Whether these events are of a block: of a container, a leaf block or a paragraph.
+#[inline(always)]
 pub fn is_block(name: Name) -> bool
     ensures { result ≡ is_block (role name) }
 {

@@ -99,31 +99,37 @@ fn push(events: &mut Vec<Event>, kind: Kind, point: Point) -> Result<(), Message
     Ok(())
 }
 
-/// `Data` over a chunk.
-fn whole_chunk(alloc: Global, chunk: &Chunk) -> Result<Vec<Event>, Message>
+/// `Data` over a chunk, written into `spare`.
+fn whole_chunk(chunk: &Chunk, spare: Vec<Event>) -> Result<Vec<Event>, Message>
     ensures { IfOk result (λ events. events.items ≡ pair Name.Data chunk.now.first chunk.now.after) }
 {
-    let Ok(mut events) = Vec::with_capacity(alloc, 2) else {
-        return Err(Message);
-    };
+    let mut events = spare;
+    events.clear();
     push(&mut events, Kind::Enter, chunk.first)?;
     push(&mut events, Kind::Exit, chunk.after)?;
     Ok(events)
 }
 
-/// The events of a part, line by line. Most parts are one line without an ending, and need no tokenizer: so it stands
-/// apart from them.
+/// The events of a part, line by line, written into `spare`. Most parts are one line without an ending, and need no
+/// tokenizer: so it stands apart from them.
 #[inline(never)]
-fn read_lines(alloc: Global, chunks: &[Chunk], state: &ParseState) -> Result<Vec<Event>, Message>
+fn read_lines(
+    alloc: Global,
+    chunks: &[Chunk],
+    state: &ParseState,
+    spare: Vec<Event>,
+) -> Result<Vec<Event>, Message>
     requires chunks { AreChunks state.now.bytes.now chunks.now }
     requires lines { IsTrue (list_all (is_line state.now.bytes.now) chunks.now) }
     requires whole { IsTrue (list_all ends_whole chunks.now) }
     ensures { IfOk result (λ events. events.items ≡ together (plain_chunks state.now.bytes.now chunks.now)) }
 {
     let mut tokenizer = Tokenizer::new(alloc, chunks[0].first, state.bytes, state.options);
-    let Ok(events) = Vec::with_capacity(alloc, chunks.len().saturating_mul(MOST)) else {
+    let mut events = spare;
+    events.clear();
+    if events.reserve(chunks.len().saturating_mul(MOST)).is_err() {
         return Err(Message);
-    };
+    }
     tokenizer.set_events(events, Vec::new(alloc));
     for chunk in chunks {
         read_chunk(&mut tokenizer, chunk)?;
@@ -131,18 +137,33 @@ fn read_lines(alloc: Global, chunks: &[Chunk], state: &ParseState) -> Result<Vec
     Ok(tokenizer.events)
 }
 
-/// The events of a part that stands in these chunks: `Data` over each line, if it is not empty, and `LineEnding` over
-/// its ending.
+/// The events of a part that stands in these chunks, written into `spare`: `Data` over each line, if it is not empty,
+/// and `LineEnding` over its ending. What stands in `spare` means nothing.
 ///
 /// An `Err` says that memory ran out.
-pub fn read(alloc: Global, chunks: &[Chunk], state: &ParseState) -> Result<Vec<Event>, Message>
+pub fn read_into(
+    alloc: Global,
+    chunks: &[Chunk],
+    state: &ParseState,
+    spare: Vec<Event>,
+) -> Result<Vec<Event>, Message>
     requires chunks { AreChunks state.now.bytes.now chunks.now }
     requires lines { IsTrue (list_all (is_line state.now.bytes.now) chunks.now) }
     requires whole { IsTrue (list_all ends_whole chunks.now) }
     ensures { IfOk result (λ events. events.items ≡ together (plain_chunks state.now.bytes.now chunks.now)) }
 {
     if chunks.len() == 1 && is_without_ending(state.bytes, &chunks[0]) {
-        return whole_chunk(alloc, &chunks[0]);
+        return whole_chunk(&chunks[0], spare);
     }
-    read_lines(alloc, chunks, state)
+    read_lines(alloc, chunks, state, spare)
+}
+
+/// The same, in a list of its own.
+pub fn read(alloc: Global, chunks: &[Chunk], state: &ParseState) -> Result<Vec<Event>, Message>
+    requires chunks { AreChunks state.now.bytes.now chunks.now }
+    requires lines { IsTrue (list_all (is_line state.now.bytes.now) chunks.now) }
+    requires whole { IsTrue (list_all ends_whole chunks.now) }
+    ensures { IfOk result (λ events. events.items ≡ together (plain_chunks state.now.bytes.now chunks.now)) }
+{
+    read_into(alloc, chunks, state, Vec::new(alloc))
 }

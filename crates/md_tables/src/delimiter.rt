@@ -67,6 +67,7 @@ fn behind_white(tokenizer: &mut Tokenizer, max: usize, next: TableState) -> Stat
 }
 
 /// Takes a pipe or a colon, as a part of this name, and goes on.
+#[inline(always)]
 fn take_mark(tokenizer: &mut Tokenizer, name: Name, next: TableState) -> State
     requires { (world tokenizer.old).point.index < length (world tokenizer.old).setting.bytes }
     ensures to { result ≢ State.Error → result ≡ (marked (world tokenizer.old) name next).to }

@@ -5,5 +5,5 @@ use Rattle.md_content.proofs.footnote_labels.footnote_labels.Given as goal
 
 abbrev pub invariant-loop-event : goal.invariant-loop-event
 invariant-loop-event l =
-    map string_bytes l.found.items ++ footnote_labels_from l.fn.bytes l.from (drop l.event-index l.events) ≡
-    footnote_labels_in l.fn.bytes l.events
+    map string_bytes l.found.items ++ footnote_labels_from l.fn.bytes l.from (drop l.event-index l.event-items) ≡
+    footnote_labels_in l.fn.bytes l.fn.events

@@ -5,7 +5,7 @@ use Rattle.md_program.proofs.print.push_indent.Goals as goal
 
 pub returns : goal.returns
 returns c =
-    on_ok-map c.push_repeated-3.result
+    on_ok-map c.push_few-2.result
     (λ rest.
     let all : 4 * (c.args.depth / 4) + c.args.depth % 4 ≡ c.args.depth = omega arith in
     rest
@@ -14,4 +14,4 @@ returns c =
     (repeat (c.args.depth % 4) (codes "  "))
     ∙ ap (λ l. string_bytes c.args.text.now ++ l) (repeat_four (c.args.depth / 4) (c.args.depth % 4))
     ∙ ap (λ n. string_bytes c.args.text.now ++ repeat n (codes "  ")) all)
-    c.push_repeated-3.ensures
+    c.push_few-2.ensures

@@ -20,7 +20,7 @@ pub set_events-requires-clause-frames : goal.set_events-requires-clause-frames
 set_events-requires-clause-frames c = ap (λ (w : World). w.frames) c.new-tokenizer.ensures
 
 pub set_events-requires-clause-placed : goal.set_events-requires-clause-placed
-set_events-requires-clause-placed c = rw c.in-Ok.ensures.items (All-nil _)
+set_events-requires-clause-placed c = rw (c.reserve.ensures.items, c.clear.ensures.items) (All-nil _)
 
 pub loop-chunk-init : goal.loop-chunk-init
 loop-chunk-init c = record {
@@ -28,7 +28,7 @@ loop-chunk-init c = record {
       ∙ ap (λ (w : World). w.setting.bytes) c.new-tokenizer.ensures;
   skips = ap (λ (w : World). w.setting.skips) c.set_events.ensures
       ∙ ap (λ (w : World). w.setting.skips) c.new-tokenizer.ensures;
-  events = ap (λ (w : World). w.events) c.set_events.ensures ∙ c.in-Ok.ensures.items;
+  events = ap (λ (w : World). w.events) c.set_events.ensures ∙ c.reserve.ensures.items ∙ c.clear.ensures.items;
 }
 
 pub read_chunk-requires-clause-chunk : goal.read_chunk-requires-clause-chunk

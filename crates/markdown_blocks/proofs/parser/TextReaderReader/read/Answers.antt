@@ -23,8 +23,8 @@ placed-events bytes sized (e ∷ events) placed =
     All-cons (λ (e : Event). IsPlaced bytes e.point) e events (placed-point bytes sized e.point both.0)
     (placed-events bytes sized events both.1)
 
-pub read-requires : goal.read-requires
-read-requires g c =
+pub read_into-requires : goal.read_into-requires
+read_into-requires g c =
     let document : Document = document_of c.args.self.now.state.now in
     subst (λ (k : PartKind). IsTextPart document (record { kind = k; chunks = c.args.chunks.now }))
     (sym c.kind_of.ensures) c.requires.asked
@@ -36,9 +36,9 @@ returns-clause-placed g c =
     let is : IsTextPart document part =
     subst (λ (k : PartKind). IsTextPart document (record { kind = k; chunks = c.args.chunks.now }))
     (sym c.kind_of.ensures) c.requires.asked in
-    IfOk-weaker c.read.result _ (λ events. ArePlaced document.bytes events.items)
+    IfOk-weaker c.read_into.result _ (λ events. ArePlaced document.bytes events.items)
     (λ events reads.
     placed-events document.bytes is.are.sized events.items
     (g.met.I.Inline.keeps_frame c.args.self.now.inline.now document part events.items (text-part document part is)
     reads).placed)
-    c.read.ensures
+    c.read_into.ensures

@@ -2,7 +2,7 @@ use Rattle.md_seam.specs.Events.Inline.{ends_whole, is_line}
 use Rattle.md_seam.specs.declared.inline.Chunk.{Chunk}
 use Rattle.md_seam.proofs.PlainSteps.{all-at}
 use Rattle.md_seam.proofs.PlainWhole.{if_ok-map, whole-reads}
-use Rattle.md_seam.proofs.plain.read.Goals as goal
+use Rattle.md_seam.proofs.plain.read_into.Goals as goal
 
 -- what indexing gives past the end of a list
 abbrev unset : Chunk

@@ -1,0 +1,50 @@
+-- The labels of footnote definitions among events: in front of the first event of a label there are none.
+use Rattle.std.proofs.Common.{◌≡◌, ◌+◌, ◌&&◌, ℕ, suc, Bool, true, false, cond, List, [], ◌∷◌, drop, refl, ap, arith, ◌∙◌, sym}
+use Rattle.std.specs.Prelude.{if◌then◌else◌, not, slice_range}
+use Rattle.std.specs.List.{prefix_len}
+use Rattle.md_engine.specs.declared.event.Event.{Event}
+use Rattle.md_engine.specs.declared.event.Kind.{Kind}
+use Rattle.md_engine.specs.declared.event.Kind.TheVariants.{Enter, Exit}
+use Rattle.md_definition.specs.Label.{normal_form}
+use Rattle.md_content.specs.FootnoteLabels.{footnote_labels_from, is_footnote_label}
+use Rattle.md_seam.specs.Events.Nested.{is_enter, is_exit}
+use Rattle.md_seam.specs.Events.Spelled.{byte_at}
+
+-- an event that is no label's is passed
+label-passed : (bytes : List ℕ) (from : ℕ) (e : Event) (es : List Event) → is_footnote_label e.name ≡ false →
+    footnote_labels_from bytes from (e ∷ es) ≡ footnote_labels_from bytes from es
+label-passed bytes from e es none = go e.kind (is_footnote_label e.name) none
+  where
+    behind : List (List ℕ)
+    behind = footnote_labels_from bytes from es
+
+    go : (k : Kind) (is : Bool) → is ≡ false →
+        (if is_enter k && is then footnote_labels_from bytes (byte_at e.point) es
+        else if is_exit k && is then normal_form (slice_range bytes from e.point.index ∷ []) ∷ behind else behind)
+        ≡ behind
+    go Enter false h = refl
+    go Exit false h = refl
+    go k true h = cc
+
+-- and so are all in front of the first that is
+pub footnotes-passed : (bytes : List ℕ) (from : ℕ) (es : List Event) →
+    footnote_labels_from bytes from (drop (prefix_len (λ (e : Event). not (is_footnote_label e.name)) es) es)
+    ≡ footnote_labels_from bytes from es
+footnotes-passed bytes from [] = refl
+footnotes-passed bytes from (e ∷ es) = by (is_footnote_label e.name) refl (footnotes-passed bytes from es)
+  where
+    run : ℕ
+    run = prefix_len (λ (e : Event). not (is_footnote_label e.name)) es
+
+    by : (x : Bool) → is_footnote_label e.name ≡ x →
+        footnote_labels_from bytes from (drop run es) ≡ footnote_labels_from bytes from es →
+        footnote_labels_from bytes from (drop (cond (not (is_footnote_label e.name)) (1 + run) 0) (e ∷ es))
+        ≡ footnote_labels_from bytes from (e ∷ es)
+    by false none behind =
+        let more : 1 + run ≡ suc run = omega arith in
+        ap (λ x. footnote_labels_from bytes from (drop (cond (not x) (1 + run) 0) (e ∷ es))) none
+        ∙ ap (λ n. footnote_labels_from bytes from (drop n (e ∷ es))) more
+        ∙ behind
+        ∙ sym (label-passed bytes from e es none)
+    by true begins behind =
+        ap (λ x. footnote_labels_from bytes from (drop (cond (not x) (1 + run) 0) (e ∷ es))) begins
