@@ -20,5 +20,4 @@ pub mod TableForm
 pub mod TableUnread
 pub mod TableParts
 pub mod TableFacts
-pub mod TableBecomes
 pub mod TableLaws

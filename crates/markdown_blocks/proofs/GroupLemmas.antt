@@ -3,9 +3,8 @@ use Rattle.md_engine.specs.declared.tokenizer.held_leaf.HeldLeaf.{HeldLeaf}
 use Rattle.std.proofs.Common.{◌≡◌, ◌≢◌, ℕ, ◌<◌, ◌≤◌, Bool, true, false, cond, ◌&&◌, List, [], ◌∷◌, ◌++◌, length, drop}
 use Rattle.markdown_blocks.specs.BlockList.{lines_unread}
 use Rattle.markdown_blocks.specs.Rows.{Headed, Span, Turned}
-use Rattle.std.proofs.Common.{slice_range, refl, ap, sym, ◌∙◌, subst, append_assoc, append-nil, arith, length-append}
-use Rattle.std.specs.Prelude.{◌==◌, Option, Some, None}
-use Rattle.std.specs.List.{list_all}
+use Rattle.std.proofs.Common.{slice_range, refl, ap, sym, ◌∙◌, subst, append_assoc, arith, length-append}
+use Rattle.std.specs.Prelude.{Option, Some, None}
 use Rattle.std.proofs.lemmas.Bool.{and_from, eq-eqb}
 use Rattle.std.proofs.lemmas.Bool.Decides.{nat_tests}
 use Rattle.md_engine.specs.declared.configuration.ParseOptions.{ParseOptions}
@@ -18,10 +17,7 @@ use Rattle.md_engine.specs.declared.event.Name.TheVariants as n
 use Rattle.md_engine.specs.declared.event.Point.{Point}
 use Rattle.md_content.specs.Chunks.{content_link}
 use Rattle.md_content.specs.Paragraph.{text_link}
-use Rattle.md_seam.specs.declared.inline.Chunk.{Chunk}
-use Rattle.md_seam.specs.declared.inline.PartKind.TheVariants.{Text}
-use Rattle.md_seam.specs.Events.Inline.{are_lines, is_none, is_one_line, line_end, pair_unless_empty, plain_chunk}
-use Rattle.md_seam.specs.Events.Inline.{plain_events}
+use Rattle.md_seam.specs.Events.Inline.{are_lines, is_none, is_one_line, line_end}
 use Rattle.md_definition.specs.Lines.{without_ending}
 use Rattle.md_seam.specs.Events.Nested.{around, enter, enter_link, exit, pair}
 use Rattle.md_seam.specs.Events.Places.{past_text, same_place}
@@ -34,7 +30,7 @@ use Rattle.markdown_blocks.specs.Registry.{trials}
 use Rattle.markdown_blocks.specs.Rows.{BlankRow, Group, LeafRow, Lines, Row, RowKind, Single, TextRow}
 use Rattle.markdown_blocks.specs.Rows.{behind_row, chunks_of, ending_events, ending_of}
 use Rattle.markdown_blocks.specs.Rows.{groups, kind_of, last_row}
-use Rattle.markdown_blocks.specs.Rows.{line_kind, read_lines, row_events}
+use Rattle.markdown_blocks.specs.Rows.{line_kind, row_events}
 use Rattle.markdown_blocks.specs.Rows.{headed_row, row_line, rows_events, tail_events}
 use Rattle.markdown_blocks.specs.Fronted.{cut_tab}
 use Rattle.markdown_blocks.specs.Unread.{headed_lines, joined_groups, linked, linked_lines}
@@ -140,15 +136,6 @@ chunks-lines options bytes row (next ∷ rows) h =
     h.0 row h.3 h.1 h.5)
     ∙ one-next h.0 h.5.ending h.1.no_ending ends)
     (chunks-lines options bytes next rows h.7)
-
--- none of them ends within a tab
-pub chunks-whole : (options : ParseOptions) (bytes : List ℕ) (row : Row) (rows : List Row) →
-    AreLines options bytes row rows → list_all (λ (chunk : Chunk). chunk.after.vs == 0) (chunks_of row rows) ≡ true
-chunks-whole options bytes row [] h = and_from (row.end.vs == 0) true (eq-eqb row.end.vs 0 h.1.end_whole) refl
-chunks-whole options bytes row (next ∷ rows) h =
-    and_from ((behind_row row).vs == 0) (list_all (λ (chunk : Chunk). chunk.after.vs == 0) (chunks_of next rows))
-    (eq-eqb (behind_row row).vs 0 (ap (λ (p : Point). p.vs) (behind-is row h.3 h.4) ∙ h.5.whole))
-    (chunks-whole options bytes next rows h.7)
 
 -- Reading.
 
@@ -498,28 +485,7 @@ content-read options bytes open_before still p lines rows shut are quiet wants r
     groups-content options bytes wants reads w other unique (groups rows)
     (groups-are options bytes open_before still p lines rows shut are quiet) [] unread s
 
--- The lines of a text, cut at the ends of its lines.
-
--- what the plain layer gives for a line belongs to its chunk
-pub plain-belongs : (p e q : Point) → p.index < q.index → e.index < q.index →
-    AllBelong q.index (pair_unless_empty n.Data p e ++ pair_unless_empty n.LineEnding e q)
-plain-belongs p e q h k = go (same_place p e) (same_place e q)
-  where
-    ending : (y : Bool) → AllBelong q.index (cond y [] (pair n.LineEnding e q))
-    ending true = tt
-    ending false = (begins-before n.LineEnding e q.index k, (ends-before n.LineEnding q q.index (omega arith), tt))
-
-    go : (x y : Bool) → AllBelong q.index (cond x [] (pair n.Data p e) ++ cond y [] (pair n.LineEnding e q))
-    go true y = ending y
-    go false y = (begins-before n.Data p q.index h, (ends-before n.Data e q.index (omega arith), ending y))
-
--- and what it gives for the next one does not
-pub plain-next : (p e : Point) (ys zs : List Event) (end : ℕ) → p.index < e.index → end ≤ p.index →
-    NextBelongs end ((pair_unless_empty n.Data p e ++ ys) ++ zs)
-plain-next p e ys zs end h k =
-    let apart : same_place p e ≡ false = grind (arith, nat_tests) in
-    subst (λ (x : Bool). NextBelongs end ((cond x [] (pair n.Data p e) ++ ys) ++ zs)) (sym apart)
-    (begins-behind n.Data p end k)
+-- The ends of lines.
 
 -- the plain layer finds the end of a line, without its ending and with it
 pub line_end-alone : (options : ParseOptions) (bytes line : List ℕ) (row : Row) → IsRow options bytes line row →
@@ -535,48 +501,3 @@ line_end-ended options bytes line row q is ending =
     ap (λ (l : List ℕ). past_text (without_ending l) row.first) (line-text options bytes line row q is ending)
     ∙ ap (λ (l : List ℕ). past_text l row.first) (without-one line ending.ending is.no_ending)
     ∙ sym is.end
-
-line-ended : (options : ParseOptions) (bytes line : List ℕ) (row : Row) (q : Point) → IsRow options bytes line row →
-    row.after ≡ Some q → IsEnding bytes row.end q →
-    line_end bytes (record { first = row.first; after = behind_row row }) ≡ row.end
-line-ended options bytes line row q is after ending =
-    ap (λ (q : Point). line_end bytes (record { first = row.first; after = q })) (behind-is row q after)
-    ∙ line_end-ended options bytes line row q is ending
-
--- the first line of a text is not empty, so its text begins where it does
-plain-first : (options : ParseOptions) (bytes : List ℕ) (row : Row) (rows : List Row) (end : ℕ) →
-    AreLines options bytes row rows → end ≤ row.first.index →
-    NextBelongs end (plain_events bytes (record { kind = Text; chunks = chunks_of row rows }))
-plain-first options bytes row [] end h k =
-    let chunk : Chunk = record { first = row.first; after = row.end } in
-    let ends = ap (λ (p : Point). p.index) (line_end-alone options bytes h.0 row h.1) in
-    let grows = line-grows options bytes h.0 row h.1 h.2 in
-    plain-next row.first (line_end bytes chunk) (pair_unless_empty n.LineEnding (line_end bytes chunk) row.end) [] end
-    (omega arith) k
-plain-first options bytes row (next ∷ rows) end h k =
-    let chunk : Chunk = record { first = row.first; after = behind_row row } in
-    let ends = ap (λ (p : Point). p.index) (line-ended options bytes h.0 row h.3 h.1 h.4 h.5) in
-    let grows = line-grows options bytes h.0 row h.1 h.2 in
-    plain-next row.first (line_end bytes chunk) (pair_unless_empty n.LineEnding (line_end bytes chunk) (behind_row row))
-    (plain_events bytes (record { kind = Text; chunks = chunks_of next rows })) end (omega arith) k
-
--- the lines of a text
-pub text-cut : (options : ParseOptions) (bytes : List ℕ) (row : Row) (rows : List Row) →
-    AreLines options bytes row rows →
-    CutAt row rows (plain_events bytes (record { kind = Text; chunks = chunks_of row rows }))
-    (read_lines bytes row rows)
-text-cut options bytes row [] h = sym (append-nil (plain_chunk bytes (record { first = row.first; after = row.end })))
-text-cut options bytes row (next ∷ rows) h =
-    let chunk : Chunk = record { first = row.first; after = behind_row row } in
-    let apart = are-apart options bytes row next rows h in
-    let ends = ap (λ (p : Point). p.index) (line-ended options bytes h.0 row h.3 h.1 h.4 h.5) in (
-      plain_chunk bytes chunk,
-      plain_events bytes (record { kind = Text; chunks = chunks_of next rows }),
-      read_lines bytes next rows,
-      refl,
-      plain-belongs row.first (line_end bytes chunk) (behind_row row) (omega (arith, apart.line, apart.ending))
-          (omega (arith, apart.ending)),
-      plain-first options bytes next rows (behind_row row).index h.7 apart.front,
-      append_assoc (plain_chunk bytes chunk) next.front (read_lines bytes next rows),
-      text-cut options bytes next rows h.7,
-    )

@@ -27,7 +27,6 @@ use Rattle.markdown_blocks.proofs.PartsStand.{Stands}
 use Rattle.markdown_blocks.proofs.PieceFacts.{CutsFirst, Stood}
 use Rattle.markdown_blocks.proofs.PiecesLemmas.{Tiled}
 use Rattle.markdown_blocks.proofs.PlainFacts.{ArePlain}
-pub use Rattle.markdown_blocks.proofs.ReadAs.{ReadsString, ReadsText}
 use Rattle.markdown_blocks.proofs.SpanLemmas.{Nested_in}
 
 -- a rest of a line, as it stands in a text: its bytes, a tab that a prefix has cut among them, and where it begins and

@@ -4,7 +4,6 @@ use Rattle.markdown_blocks.specs.HeldLeaf.{kind_of_leaf, left_by, may_go_on, tak
 use Rattle.std.specs.Prelude.{◌&&◌, ◌||◌, Some}
 use Rattle.md_engine.specs.declared.configuration.ParseOptions.{ParseOptions}
 use Rattle.md_engine.specs.declared.event.Content.{Content}
-use Rattle.md_engine.specs.declared.event.Content.TheVariants as content
 use Rattle.md_engine.specs.declared.event.Event.{Event}
 use Rattle.md_engine.specs.declared.event.Point.{Point}
 use Rattle.md_engine.specs.declared.tokenizer.Line.{Line}
@@ -24,12 +23,10 @@ use Rattle.markdown_blocks.specs.Fronted.{rest_line}
 use Rattle.markdown_blocks.specs.LineLeaf.{LineLeaf}
 use Rattle.markdown_blocks.specs.Registry.{is_own, resolved}
 use Rattle.markdown_blocks.proofs.OutsideFacts.{AreOutside, NoEnds}
-use Rattle.markdown_blocks.proofs.LeafFacts.{LeafFacts, LineAt, ReadsText}
+use Rattle.markdown_blocks.proofs.LeafFacts.{LeafFacts, LineAt}
 use Rattle.markdown_blocks.proofs.SpannedFacts.{AreUnspanned}
 use Rattle.markdown_blocks.proofs.UnturnedFacts.{AreUnturned}
 use Rattle.markdown_blocks.specs.HeldLeaf.{has_lines}
-use Rattle.markdown_blocks.proofs.SubstitutedLemmas.{Becomes}
-use Rattle.md_seam.specs.Substituted.{Readings}
 use Rattle.markdown_blocks.proofs.ContentFacts.{NoContent, WantsContent}
 
 -- what its trial leaves open: one that always ends on its line leaves that to flow, and all as it was
@@ -134,8 +131,3 @@ pub record LeafLaws (l : LineLeaf) : Type 1 where
       l.starts options on r ≡ true →
       LineAt bytes r (rest_line r) p q →
       LeafFacts bytes (Some (l.block r)) true p q (l.unread (rest_line r) p) (l.done bytes (rest_line r) p)
-  pub becomes : l.ends ≡ true → (options : ParseOptions) (on : HeldLeaf) (bytes : List ℕ) (r : Rest) (p q : Point) →
-      l.starts options on r ≡ true →
-      LineAt bytes r (rest_line r) p q →
-      (wants : Content → Bool) (reads : Readings) → wants content.Text ≡ true → ReadsText bytes reads →
-      Becomes wants reads (l.unread (rest_line r) p) (l.done bytes (rest_line r) p)

@@ -546,8 +546,6 @@ further-span first l laws none = record {
   block = λ options bytes row rows is are. Break;
   facts = λ options bytes row rows is begins are. absurd (none options row.on is.rest is.starts begins);
   shuts = λ options bytes row rows is begins are bs. absurd (none options row.on is.rest is.starts begins);
-  becomes = λ options bytes row rows is begins are wants reads text string texts strings.
-      absurd (none options row.on is.rest is.starts begins);
 }
 
 fence-begins : (options : ParseOptions) (on : HeldLeaf) (r : Rest) → fence_further.starts options on r ≡ true →

@@ -4,25 +4,21 @@ use Rattle.std.proofs.Common.{refl, sym, ap, ap₂, ◌∙◌, subst, subst₂}
 use Rattle.std.proofs.lemmas.Bool.Decides.{nat_tests}
 use Rattle.std.specs.Prelude.{◌&&◌, ◌||◌, ◌==◌, Option, Some, None, not}
 use Rattle.md_engine.specs.declared.configuration.ParseOptions.{ParseOptions}
-use Rattle.md_engine.specs.declared.event.Content.{Content}
-use Rattle.md_engine.specs.declared.event.Content.TheVariants as content
 use Rattle.md_engine.specs.declared.event.Event.{Event}
 use Rattle.md_definition.specs.Rest.{Rest, is_blank}
 use Rattle.md_definition.specs.Tree.{Block}
-use Rattle.md_seam.specs.Substituted.{Readings}
 use Rattle.markdown_blocks.specs.Fronted.{rest_line}
 use Rattle.markdown_blocks.specs.Registry.{LeafName, insider, leaf}
-use Rattle.markdown_blocks.specs.Rows.{BlankRow, LeafRow, Row, RowKind, TextRow, blank_line, leaf_done, leaf_unread}
+use Rattle.markdown_blocks.specs.Rows.{BlankRow, LeafRow, Row, RowKind, TextRow, leaf_done, leaf_unread}
 use Rattle.markdown_blocks.specs.Rows.{is_blank_by, is_blank_row, is_empty_row, line_behind, row_line, stays_blank}
-use Rattle.markdown_blocks.proofs.BlankLine.{blank-facts, blank-unlinked}
+use Rattle.markdown_blocks.proofs.BlankLine.{blank-facts}
 use Rattle.markdown_blocks.proofs.KindLemmas.{kind-blank, kind-filled, kind-starts}
 use Rattle.markdown_blocks.proofs.Registry.{insider-open}
 use Rattle.markdown_blocks.proofs.RestRows.{line-blank}
-use Rattle.markdown_blocks.proofs.LeafFacts.{LeafFacts, LineAt, ReadsText}
+use Rattle.markdown_blocks.proofs.LeafFacts.{LeafFacts, LineAt}
 use Rattle.markdown_blocks.proofs.Registry.{laws}
 use Rattle.markdown_blocks.proofs.RowFacts.{IsRow, line-at}
 use Rattle.markdown_blocks.proofs.SpanLaws.{IsLineOf}
-use Rattle.markdown_blocks.proofs.SubstitutedLemmas.{Becomes, becomes-same, no_links-unwanted}
 
 -- the block that a line of this kind shows; text is shown with the lines around it
 abbrev pub block_of : RowKind → Rest → Option Block
@@ -110,32 +106,6 @@ pub row-leaf : (options : ParseOptions) (bytes line : List ℕ) (row : Row) → 
     row.kind ≢ TextRow → EndsOnLine row.kind → IsLeaf bytes row
 row-leaf options bytes line row is other ends =
     (block_of row.kind is.rest, not (is_blank_row row), row-facts options bytes line row is other ends)
-
--- its text parts are read in the places of their chunks
-pub row-becomes : (options : ParseOptions) (bytes line : List ℕ) (row : Row) → IsRow options bytes line row →
-    row.kind ≢ TextRow → EndsOnLine row.kind →
-    (wants : Content → Bool) (reads : Readings) → wants content.Text ≡ true → ReadsText bytes reads →
-    Becomes wants reads (leaf_unread bytes row.kind row) (leaf_done bytes row.kind row)
-row-becomes options bytes line row is other ends wants reads text read = go row.kind refl
-  where
-    By : RowKind → Type 0
-    By kind = Becomes wants reads (leaf_unread bytes kind row) (leaf_done bytes kind row)
-
-    go : (kind : RowKind) → row.kind ≡ kind → By row.kind
-    go BlankRow e =
-        subst By (sym e)
-        (subst (λ (es : List Event). Becomes wants reads es es) (sym (is.blank e))
-        (becomes-same wants reads (blank_line line row.first)
-        (no_links-unwanted wants (blank_line line row.first) (blank-unlinked line row.first))))
-    go (LeafRow l) e =
-        let starts : (leaf l).starts options row.on is.rest ≡ true =
-        kind-starts options row.on is.rest l (sym is.kind ∙ e) in
-        subst By (sym e)
-        (subst (λ (own : List ℕ). Becomes wants reads ((leaf l).unread own row.first)
-        ((leaf l).done bytes own row.first)) (sym (row-text options bytes line row is))
-        ((laws l).becomes (ends l e) options row.on bytes is.rest row.first row.end starts
-        (leaf-at options bytes line row is) wants reads text read))
-    go TextRow e = absurd (other e)
 
 -- a line of a leaf is one of this leaf
 abbrev pub row-as : (options : ParseOptions) (bytes line : List ℕ) (row : Row) → IsRow options bytes line row →

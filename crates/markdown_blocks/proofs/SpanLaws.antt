@@ -1,11 +1,9 @@
 -- The laws of a leaf of several lines: what the frame asks of its lines, once they are joined.
 --
 -- One value of `LineLeaf` takes its first line, and one its further lines; both may be the same.
-use Rattle.std.proofs.Common.{◌≡◌, ◌⊎◌, ℕ, ◌+◌, Bool, true, false, List, [], ◌∷◌, ◌++◌, length, map}
+use Rattle.std.proofs.Common.{◌≡◌, ◌⊎◌, ℕ, ◌+◌, true, false, List, [], ◌∷◌, ◌++◌, length, map}
 use Rattle.std.specs.Prelude.{◌&&◌, ◌||◌, ◌==◌, nat_lt, not, if◌then◌else◌, Some}
 use Rattle.md_engine.specs.declared.configuration.ParseOptions.{ParseOptions}
-use Rattle.md_engine.specs.declared.event.Content.{Content}
-use Rattle.md_engine.specs.declared.event.Content.TheVariants as content
 use Rattle.md_engine.specs.declared.event.Event.{Event}
 use Rattle.md_engine.specs.declared.event.Point.{Point}
 use Rattle.md_definition.specs.Leaves.{Came}
@@ -16,16 +14,14 @@ use Rattle.md_definition.specs.Tree.{Block, Blocks}
 use Rattle.md_leaves.specs.Spanned.{renamed}
 use Rattle.md_leaves.specs.declared.spans.Place.TheVariants.{Between}
 use Rattle.md_leaves.proofs.SpannedLines.{IsBegin, IsEnd, IsFurther, NoBlocks, NoLines}
-use Rattle.md_seam.specs.Substituted.{Readings}
 use Rattle.markdown_blocks.specs.Fronted.{rest_line}
 use Rattle.markdown_blocks.specs.HeldLeaf.{left_by}
 use Rattle.markdown_blocks.specs.LineLeaf.{LineLeaf}
 use Rattle.markdown_blocks.specs.Rows.{Row, is_blank_row, is_empty_row, last_row, span_by, span_done}
 use Rattle.markdown_blocks.proofs.FrontFacts.{LinePrefix}
-use Rattle.markdown_blocks.proofs.LeafFacts.{LeafFacts, LineAt, ReadsText, ReadsString}
+use Rattle.markdown_blocks.proofs.LeafFacts.{LeafFacts, LineAt}
 use Rattle.markdown_blocks.proofs.RowFacts.{IsEnding}
 use Rattle.markdown_blocks.proofs.SpannedFacts.{AreUnspanned}
-use Rattle.markdown_blocks.proofs.SubstitutedLemmas.{Becomes}
 
 -- Lines.
 
@@ -106,9 +102,3 @@ pub record SpanLaws (first further : LineLeaf) : Type 1 where
       (are : AreBehind options bytes further row rows) → (bs : Blocks) →
       shut options (came bs (come_behind options bytes further row rows are (first.comes options NoLeaf is.rest))) ≡
       then_block bs (block options bytes row rows is are)
-  -- Their text parts are read in the places of their chunks.
-  pub becomes : (options : ParseOptions) (bytes : List ℕ) (row : Row) (rows : List Row) →
-      IsLineOf options bytes first row → first.further row.on ≡ false → AreBehind options bytes further row rows →
-      (wants : Content → Bool) (reads : Readings) → wants content.Text ≡ true → wants content.String ≡ true →
-      ReadsText bytes reads → ReadsString bytes reads →
-      Becomes wants reads (span_by (λ (r : Row). r.inside) row rows) (span_done bytes row rows)

@@ -14,7 +14,7 @@ use Rattle.md_engine.specs.declared.event.Link.{Link}
 use Rattle.md_engine.specs.declared.event.Name.{Name}
 use Rattle.md_engine.specs.declared.event.Point.{Point}
 use Rattle.md_seam.specs.declared.inline.Chunk.{Chunk}
-use Rattle.md_seam.specs.Events.Nested.{around, enter, enter_link, exit}
+use Rattle.md_seam.specs.Events.Nested.{enter_link, exit}
 use Rattle.md_seam.specs.Substituted.{Readings, belongs, Substituted, chunk_of, chunks_behind, share, wanted, wanted_at}
 use Rattle.md_seam.specs.Events.Prefix.{is_prefix}
 use Rattle.md_seam.proofs.SubstitutedLemmas.{SubstitutedBy}
@@ -105,34 +105,6 @@ keeps-each P wants reads read left chunks (e ∷ f ∷ es) out h k s =
 abbrev pub Rest : (Content → Bool) → Readings → List Event → List Event → List Event → Type 0
 Rest wants reads left ys out =
     (rest over : List Event) × (is : out ≡ left ++ rest) × Substituted wants reads over 0 ys rest
-
--- What is read of a part of one chunk stands in its place.
-pub place : (wants : Content → Bool) (reads : Readings) (left : List Event) (name : Name) (link : Link) (chunk : Chunk)
-    (ys out : List Event) →
-    wants link.content ≡ true → chunks_behind wants ys ≡ [] →
-    Substituted wants reads left 0 (enter_link name chunk.first link ∷ exit name chunk.after ∷ ys) out →
-    (answer : List Event) × (read : reads link.content (chunk ∷ []) answer) × Rest wants reads answer ys out
-place wants reads left name link chunk ys out w none s = go (chunks_behind wants ys) none
-    (subst (SubstitutedBy wants reads left 0 (enter_link name chunk.first link) (exit name chunk.after) ys out)
-    (ap (λ (x : Bool). cond x (Some link.content) None) w) s)
-  where
-    go : (behind : List Chunk) → behind ≡ [] →
-        (answer rest : List Event) × (read : reads link.content (chunk ∷ behind) answer)
-        × (is : out ≡ take (share (length behind) answer chunk.after.index) answer ++ rest)
-        × Substituted wants reads (drop (share (length behind) answer chunk.after.index) answer)
-        (length behind) ys rest →
-        (answer : List Event) × (read : reads link.content (chunk ∷ []) answer) × Rest wants reads answer ys out
-    go [] e one = (
-      one.0,
-      one.2,
-      (
-        one.1,
-        drop (length one.0) one.0,
-        one.3 ∙ ap (λ (l : List Event). l ++ one.1) (take_all (length one.0) one.0 (omega arith)),
-        one.4,
-      ),
-    )
-    go (next ∷ behind) e one = cc
 
 -- Parts of lines with prefixes between them.
 
@@ -329,96 +301,8 @@ places wants reads left name link row rows ys done out w none fits cuts s =
     (λ (k : ℕ).
     Substituted wants reads (drop (share k answer (line_after row rows).index) answer) k rest here.1) size here.4)
 
--- Events that become others, whatever stands behind them.
-abbrev pub Becomes : (Content → Bool) → Readings → List Event → List Event → Type 0
-Becomes wants reads xs zs =
-    (left ys out : List Event) → Substituted wants reads left 0 (xs ++ ys) out → Rest wants reads zs ys out
-
-pub becomes-same : (wants : Content → Bool) (reads : Readings) (xs : List Event) → Unwanted wants xs →
-    Becomes wants reads xs xs
-becomes-same wants reads xs h left ys out s =
-    let one : (rest : List Event) × (is : out ≡ xs ++ rest) ×
-    Substituted wants reads left 0 ys rest = passes wants reads left 0 xs ys out h s in
-    (one.0, left, one.1, one.2)
-
-pub becomes-append : (wants : Content → Bool) (reads : Readings) (xs zs more done : List Event) →
-    Becomes wants reads xs zs → Becomes wants reads more done → Becomes wants reads (xs ++ more) (zs ++ done)
-becomes-append wants reads xs zs more done h k left ys out s =
-    let one : Rest wants reads zs (more ++ ys) out = h left (more ++ ys) out
-    (subst (λ (l : List Event). Substituted wants reads left 0 l out) (append_assoc xs more ys) s) in
-    let two : Rest wants reads done ys one.0 = k one.1 ys one.0 one.3 in
-    (two.0, two.1, one.2 ∙ ap (λ (l : List Event). zs ++ l) two.2 ∙ sym (append_assoc zs done two.0), two.3)
-
--- what stands around them stays
-pub becomes-around : (wants : Content → Bool) (reads : Readings) (name : Name) (p q : Point) (xs zs : List Event) →
-    Becomes wants reads xs zs → Becomes wants reads (around name p q xs) (around name p q zs)
-becomes-around wants reads name p q xs zs h =
-    becomes-append wants reads (enter name p ∷ []) (enter name p ∷ []) (xs ++ exit name q ∷ []) (zs ++ exit name q ∷ [])
-    (becomes-same wants reads (enter name p ∷ []) (refl, tt))
-    (becomes-append wants reads xs zs (exit name q ∷ []) (exit name q ∷ []) h
-    (becomes-same wants reads (exit name q ∷ []) (refl, tt)))
-
 -- behind the end of a block no more of its part stands
 pub behind-exit : (wants : Content → Bool) (name : Name) (p : Point) (es : List Event) → is_prefix name ≡ false →
     chunks_behind wants (exit name p ∷ es) ≡ []
 behind-exit wants name p [] h = refl
 behind-exit wants name p (e ∷ es) h = ap (λ (x : Bool). cond x (chunks_behind wants (e ∷ es)) []) h
-
-part-joins : (e f : Event) (given answer rest more begun out : List Event) → out ≡ e ∷ begun → begun ≡ answer ++ rest →
-    answer ≡ given → rest ≡ f ∷ more → out ≡ (e ∷ given ++ f ∷ []) ++ more
-part-joins e f given answer rest more begun out begins is unique ends =
-    begins
-    ∙ ap (λ (l : List Event). e ∷ l)
-    (is ∙ ap (λ (l : List Event). l ++ rest) unique ∙ ap (λ (l : List Event). given ++ l) ends
-    ∙ sym (append_assoc given (f ∷ []) more))
-
--- a part of one chunk that is all of a block becomes what the reader gives for it
-pub part-becomes : (wants : Content → Bool) (reads : Readings) (outer name : Name) (link : Link) (p q : Point)
-    (chunk : Chunk) (given : List Event) →
-    wants link.content ≡ true → is_prefix outer ≡ false →
-    ((answer : List Event) → reads link.content (chunk ∷ []) answer → answer ≡ given) →
-    Becomes wants reads (around outer p q (enter_link name chunk.first link ∷ exit name chunk.after ∷ []))
-    (around outer p q given)
-part-becomes wants reads outer name link p q chunk given w apart unique left ys out s =
-    let begun : (rest : List Event) × (is : out ≡ enter outer p ∷ rest) ×
-    Substituted wants reads left 0
-    (enter_link name chunk.first link ∷ exit name chunk.after ∷ exit outer q ∷ ys) rest =
-    passes wants reads left 0 (enter outer p ∷ [])
-    (enter_link name chunk.first link ∷ exit name chunk.after ∷ exit outer q ∷ ys) out (refl, tt) s in
-    let one : (answer : List Event) × (read : reads link.content (chunk ∷ []) answer) ×
-    Rest wants reads answer (exit outer q ∷ ys) begun.0 =
-    place wants reads left name link chunk (exit outer q ∷ ys) begun.0 w (behind-exit wants outer q ys apart) begun.2 in
-    let rest : Rest wants reads one.0 (exit outer q ∷ ys) begun.0 = one.2 in
-    let two : (more : List Event) × (is : rest.0 ≡ exit outer q ∷ more) ×
-    Substituted wants reads rest.1 0 ys more = passes wants reads rest.1 0 (exit outer q ∷ []) ys rest.0
-    (refl, tt) rest.3 in (
-      two.0,
-      rest.1,
-      part-joins (enter outer p) (exit outer q) given one.0 rest.0 two.0 begun.0 out begun.1 rest.2
-          (unique one.0 one.1) two.1,
-      two.2,
-    )
-
--- and so does a part of lines
-pub lines-becomes : (wants : Content → Bool) (reads : Readings) (outer name : Name) (link : Link) (p q : Point)
-    (row : Row) (rows : List Row) (given : List Event) →
-    wants link.content ≡ true → is_prefix outer ≡ false → EachPrefixed rows →
-    ((answer : List Event) → reads link.content (chunks_of row rows) answer → CutAt row rows answer given) →
-    Becomes wants reads (around outer p q (linked_lines name link row rows)) (around outer p q given)
-lines-becomes wants reads outer name link p q row rows given w apart fits cuts left ys out s =
-    let inside : List Event = linked_lines name link row rows in
-    let begun : (rest : List Event) × (is : out ≡ enter outer p ∷ rest) ×
-    Substituted wants reads left 0 (inside ++ exit outer q ∷ ys) rest =
-    passes wants reads left 0 (enter outer p ∷ []) (inside ++ exit outer q ∷ ys) out (refl, tt)
-    (subst (λ (l : List Event). Substituted wants reads left 0 (enter outer p ∷ l) out)
-    (append_assoc inside (exit outer q ∷ []) ys) s) in
-    let rest : Rest wants reads given (exit outer q ∷ ys) begun.0 = places wants reads left name link row rows
-    (exit outer q ∷ ys) given begun.0 w (behind-exit wants outer q ys apart) fits cuts begun.2 in
-    let two : (more : List Event) × (is : rest.0 ≡ exit outer q ∷ more) ×
-    Substituted wants reads rest.1 0 ys more = passes wants reads rest.1 0 (exit outer q ∷ []) ys rest.0
-    (refl, tt) rest.3 in (
-      two.0,
-      rest.1,
-      part-joins (enter outer p) (exit outer q) given given rest.0 two.0 begun.0 out begun.1 rest.2 refl two.1,
-      two.2,
-    )

@@ -1,7 +1,6 @@
 -- The lines of a text that are joined and read later: what is known of their events.
 pub mod Order
 pub mod Words
-pub mod Becomes
 pub mod Endings
 pub mod Parts
 pub mod Parted

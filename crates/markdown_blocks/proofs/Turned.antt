@@ -1,5 +1,4 @@
 -- The room of a text that an underline turns into a heading.
-pub mod Becomes
 pub mod Cut
 pub mod CutReads
 pub mod Events

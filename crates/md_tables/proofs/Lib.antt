@@ -36,6 +36,6 @@ pub mod DelimiterRuns
 pub mod DelimiterWalk
 pub mod DelimiterRead
 pub mod TableRows
-pub mod RowBecomes
+pub mod CellData
 pub mod PartsWalk
 pub mod Unset

@@ -37,7 +37,6 @@ code-laws = record {
   set = λ ends options on r p es starts. cc;
   unspanned = λ ends options on r p starts. absurd (cc);
   facts = λ ends options on bytes r p q starts is. absurd (cc);
-  becomes = λ ends options on bytes r p q starts is wants reads w rt. absurd (cc);
 }
 
 -- a line may go on open code
@@ -68,5 +67,4 @@ code_further-laws = record {
   set = λ ends options on r p es starts. cc;
   unspanned = λ ends options on r p starts. absurd (cc);
   facts = λ ends options on bytes r p q starts is. absurd (cc);
-  becomes = λ ends options on bytes r p q starts is wants reads w rt. absurd (cc);
 }

@@ -1,5 +1,5 @@
 -- Lines of indented code, joined: a first line, and rows behind it that stand in the code.
-use Rattle.std.proofs.Common.{◌≡◌, ℕ, true, List, [], ◌∷◌, ◌++◌, refl, sym, ◌∙◌, ap, subst}
+use Rattle.std.proofs.Common.{◌≡◌, ℕ, true, List, [], ◌∷◌, ◌++◌, refl, ◌∙◌, ap}
 use Rattle.std.specs.Prelude.{Some}
 use Rattle.md_engine.specs.declared.configuration.ParseOptions.{ParseOptions}
 use Rattle.md_engine.specs.declared.event.Event.{Event}
@@ -13,22 +13,20 @@ use Rattle.md_seam.specs.Events.Spelled.{CodeLeaf, OfCode, OpenLeaf, fresh}
 use Rattle.md_seam.proofs.EndingsLemmas.{AreOthers, Stays, in_leaf, leads-append, others-lead}
 use Rattle.markdown_blocks.specs.Fronted.{rest_line}
 use Rattle.markdown_blocks.specs.Leaf.CodeIndented.{code_leaf}
-use Rattle.markdown_blocks.specs.Rows.{Row, but_end, end_of, is_framed, last_row}
+use Rattle.markdown_blocks.specs.Rows.{Row, but_end, is_framed, last_row}
 use Rattle.markdown_blocks.proofs.CodeIndented.Cells.{IsCodeRest, code-parts, code-rest}
 use Rattle.markdown_blocks.proofs.CodeIndented.Facts.{code_site, first-facts, first_parts}
 use Rattle.markdown_blocks.proofs.CodeIndented.Grammar.{behind_line, code_begun}
 use Rattle.markdown_blocks.proofs.CodeIndented.Parts.{code-is}
 use Rattle.markdown_blocks.proofs.CodeIndented.Rows.{AreInCode, as_line, begins, ends, lines_behind}
-use Rattle.markdown_blocks.proofs.CodeIndented.Walk.{last-end, lines-fill, lines-further, rest-unlinked}
-use Rattle.markdown_blocks.proofs.EachEvent.{each-append}
+use Rattle.markdown_blocks.proofs.CodeIndented.Walk.{lines-fill, lines-further}
 use Rattle.markdown_blocks.proofs.Span.Whole.{stays-same}
 use Rattle.markdown_blocks.proofs.Span.Rest.{row_unread}
 use Rattle.markdown_blocks.proofs.FenceSpan.Sites.{is_told_of}
 use Rattle.markdown_blocks.proofs.LeafFacts.{LeafFacts}
 use Rattle.markdown_blocks.proofs.LostLine.Places.{FurtherAt, further-at}
-use Rattle.markdown_blocks.proofs.PartFacts.{IsUnlinked, NoLinks}
 use Rattle.markdown_blocks.proofs.Span.Bare.{paired-is}
-use Rattle.markdown_blocks.proofs.Span.Cuts.{but_end-is, end-is}
+use Rattle.markdown_blocks.proofs.Span.Cuts.{but_end-is}
 use Rattle.markdown_blocks.proofs.Span.Framed.{framed_by, framed_rest}
 use Rattle.markdown_blocks.proofs.Span.Lead.{lead-none}
 use Rattle.markdown_blocks.proofs.Span.Leaf.{IsLeafName}
@@ -137,19 +135,3 @@ lines-facts options bytes row rows is are =
         stays-same (es ++ framed_rest as_line row rows) stays true
         (leads-append (in_leaf true) (in_leaf true) (in_leaf true) es (framed_rest as_line row rows)
         (others-lead (in_leaf true) es refl others) (lines-fill bytes is.rest row rows are true (λ dark. refl)))
-
--- Nothing is read of it later: it has no text parts.
-pub lines-unlinked : (options : ParseOptions) (bytes : List ℕ) (row : Row) (rows : List Row) →
-    (is : IsLineOf options bytes code_leaf row) → AreInCode bytes is.rest row rows →
-    NoLinks (framed_by as_line row rows)
-lines-unlinked options bytes row rows is are =
-    each-append IsUnlinked (but_end (as_line row) ++ framed_rest as_line row rows) (end_of (as_line (last_row row rows)))
-    (each-append IsUnlinked (but_end (as_line row)) (framed_rest as_line row rows)
-    (subst NoLinks (sym (first-begins options bytes row is)) (refl, (refl, (refl, (refl, (refl, tt))))))
-    (rest-unlinked bytes is.rest row rows are))
-    (subst NoLinks
-    (sym
-    (last-end bytes is.rest row rows are
-    (ap end_of (first-is options bytes row is)
-    ∙ end-is (enter n.CodeIndented row.first ∷ first_parts is.rest row.first row.end)
-    (exit n.CodeIndented row.end)))) (refl, tt))

@@ -4,7 +4,7 @@
 -- for a further line: with a begin and an end, which go when the lines are joined. Behind the last line of code it is
 -- whitespace.
 use Rattle.std.proofs.Common.{◌≡◌, ℕ, ◌<◌, Bool, true, false, cond, ◌||◌, not, List, [], ◌∷◌}
-use Rattle.std.proofs.Common.{◌++◌, length, drop, map, refl, sym, ◌∙◌, ap, subst₂, subst, arith}
+use Rattle.std.proofs.Common.{◌++◌, length, drop, map, refl, sym, ◌∙◌, ap, subst₂, arith}
 use Rattle.std.specs.Prelude.{◌==◌, ◌&&◌, None, Some}
 use Rattle.std.proofs.lemmas.Bool.Decides.{nat_tests}
 use Rattle.md_engine.specs.declared.configuration.ParseOptions.{ParseOptions}
@@ -27,11 +27,9 @@ use Rattle.markdown_blocks.proofs.FrontFacts.{LinePrefix}
 use Rattle.markdown_blocks.proofs.FrontPlaces.{fronts-grow}
 use Rattle.markdown_blocks.proofs.LeafFacts.{LeafFacts}
 use Rattle.markdown_blocks.proofs.LineTexts.{some-text, text-behind}
-use Rattle.markdown_blocks.proofs.LostLine.Names.{lost-inside}
-use Rattle.markdown_blocks.proofs.LostLine.Parts.{inside-lines, inside-unlinked}
+use Rattle.markdown_blocks.proofs.LostLine.Parts.{inside-lines}
 use Rattle.markdown_blocks.proofs.LostLine.Places.{FurtherAt, further-at, further-rest}
 use Rattle.markdown_blocks.proofs.LostLine.Shown.{left-clear}
-use Rattle.markdown_blocks.proofs.PartFacts.{NoLinks}
 use Rattle.markdown_blocks.proofs.RowFacts.{IsEnding}
 use Rattle.markdown_blocks.proofs.Span.Bare.{paired}
 use Rattle.markdown_blocks.proofs.Span.Behind.{IsOutside}
@@ -149,9 +147,6 @@ row-outside bytes row is blank = record {
   facts =
       subst₂ (λ (full : Bool) (es : List Event). LeafFacts bytes None full row.first row.end es es)
       (sym (ap not (is.ending ∙ blank))) (sym same) (behind-facts bytes r row.first row.end blank is.at);
-  unlinked =
-      subst NoLinks (sym same)
-      (inside-unlinked (blank_behind r row.first row.end) (lost-inside n.SpaceOrTab 4 r row.first row.end refl));
 }
   where
     r : Rest

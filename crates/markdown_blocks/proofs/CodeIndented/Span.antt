@@ -20,21 +20,18 @@ use Rattle.markdown_blocks.proofs.CodeIndented.Cells.{code-rest}
 use Rattle.markdown_blocks.proofs.CodeIndented.Parts.{code-inside, code-is}
 use Rattle.markdown_blocks.proofs.CodeIndented.Rows.{InCode, as_line, begins, ends, last-in, line_in, lines_behind}
 use Rattle.markdown_blocks.proofs.CodeIndented.Rows.{row-in, text-some}
-use Rattle.markdown_blocks.proofs.CodeIndented.Lines.{first-framed, lines-facts, lines-unlinked}
+use Rattle.markdown_blocks.proofs.CodeIndented.Lines.{first-framed, lines-facts}
 use Rattle.markdown_blocks.proofs.CodeIndented.Split.{AreSplit, rows-split, split-shuts}
-use Rattle.markdown_blocks.proofs.EachEvent.{each-append}
 use Rattle.markdown_blocks.proofs.Span.Rest.{row_unread}
 use Rattle.markdown_blocks.proofs.FillFacts.{filled-read}
 use Rattle.markdown_blocks.proofs.LeafFacts.{LeafFacts}
 use Rattle.markdown_blocks.proofs.LostLine.Parts.{inside-lines}
 use Rattle.markdown_blocks.proofs.LostLine.Places.{further-at}
-use Rattle.markdown_blocks.proofs.PartFacts.{IsUnlinked, NoLinks}
 use Rattle.markdown_blocks.proofs.Span.Bare.{inner, outer, outer-last, span-split}
-use Rattle.markdown_blocks.proofs.Span.Behind.{behind-unlinked, rows-behind}
+use Rattle.markdown_blocks.proofs.Span.Behind.{rows-behind}
 use Rattle.markdown_blocks.proofs.Span.Framed.{framed_by, line-spanned}
 use Rattle.markdown_blocks.proofs.SpanLaws.{AreBehind, IsBare, IsLineOf, IsNone, IsSpanned, SpanLaws}
 use Rattle.markdown_blocks.proofs.SpannedFacts.{AreUnspanned}
-use Rattle.markdown_blocks.proofs.SubstitutedLemmas.{Becomes, becomes-same, no_links-unwanted}
 
 -- Each line of code is a block by itself at first, from this begin to its end.
 
@@ -161,17 +158,6 @@ all-facts options bytes row rows is are =
 
 -- Nothing of them is read later, so they are read as they are.
 
-all-unlinked : (options : ParseOptions) (bytes : List ℕ) (row : Row) (rows : List Row) →
-    IsLineOf options bytes code_leaf row →
-    AreBehind options bytes code_further row rows → NoLinks (span_by row_unread row rows)
-all-unlinked options bytes row rows is are =
-    let split = all-split options bytes row rows is are in
-    let behind = span_behind row_unread (last_row row (ins rows)) (outs rows) in
-    subst NoLinks (sym (all-joined options bytes row rows is))
-    (each-append IsUnlinked (framed_by as_line row (ins rows)) behind
-    (lines-unlinked options bytes row (ins rows) is split.within)
-    (behind-unlinked bytes row_unread (last_row row (ins rows)) (outs rows) split.outside))
-
 all-read : (options : ParseOptions) (bytes : List ℕ) (row : Row) (rows : List Row) →
     (is : IsLineOf options bytes code_leaf row) →
     AreBehind options bytes code_further row rows → span_by row_unread row rows ≡ span_done bytes row rows
@@ -195,10 +181,4 @@ code-span = record {
   shuts = λ options bytes row rows is first are bs.
       split-shuts options bytes is.rest row rows (ins rows) (outs rows) are
       (all-split options bytes row rows is are) bs;
-  becomes = λ options bytes row rows is first are wants reads text string texts strings.
-      subst (λ (es : List Event). Becomes wants reads (span_by row_unread row rows) es)
-      (all-read options bytes row rows is are)
-      (becomes-same wants reads (span_by row_unread row rows)
-      (no_links-unwanted wants (span_by row_unread row rows)
-      (all-unlinked options bytes row rows is are)));
 }

@@ -20,26 +20,23 @@ use Rattle.md_seam.proofs.EndingsLemmas.{Leads, in_leaf, leads-append}
 use Rattle.markdown_blocks.specs.Fronted.{rest_line}
 use Rattle.markdown_blocks.specs.Leaf.CodeIndented.{code_parts}
 use Rattle.markdown_blocks.specs.LineColumns.{past_columns}
-use Rattle.markdown_blocks.specs.Rows.{Row, but_ends, end_of, ending_events, last_row}
+use Rattle.markdown_blocks.specs.Rows.{Row, but_ends, ending_events}
 use Rattle.markdown_blocks.proofs.CodeIndented.Cells.{over-some}
 use Rattle.markdown_blocks.proofs.CodeIndented.Facts.{code_site, line-facts, parts-placed}
 use Rattle.markdown_blocks.proofs.CodeIndented.Grammar.{in_line, line-ending, line-ends, line-takes, line_left}
 use Rattle.markdown_blocks.proofs.CodeIndented.Parts.{code-inside}
 use Rattle.markdown_blocks.proofs.CodeIndented.Rows.{AreInCode, InCode, as-line, as_line, goes-on, line_in, lines_behind}
 use Rattle.markdown_blocks.proofs.ContainerNames.{TakesPrefixes}
-use Rattle.markdown_blocks.proofs.EachEvent.{each-append}
 use Rattle.markdown_blocks.proofs.Span.Rest.{others-fill}
 use Rattle.markdown_blocks.proofs.FenceSpan.Sites.{ended-goes, is_told_of, line-leaves, line-on, line_site}
 use Rattle.markdown_blocks.proofs.FrontLemmas.{fronts-balanced}
-use Rattle.markdown_blocks.proofs.FrontNames.{fronts-unlinked}
 use Rattle.markdown_blocks.proofs.FrontPlaces.{fronts-grow}
 use Rattle.markdown_blocks.proofs.FrontStands.{fronts-others}
-use Rattle.markdown_blocks.proofs.LostLine.Parts.{inside-others, inside-unlinked}
+use Rattle.markdown_blocks.proofs.LostLine.Parts.{inside-others}
 use Rattle.markdown_blocks.proofs.LostLine.Places.{FurtherAt, further-rest}
 use Rattle.markdown_blocks.proofs.LostLine.Shown.{left-clear}
-use Rattle.markdown_blocks.proofs.PartFacts.{IsUnlinked, NoLinks}
 use Rattle.markdown_blocks.proofs.PrefixFacts.{is_bare}
-use Rattle.markdown_blocks.proofs.Span.Cuts.{but_ends-is, end-is, ending-is}
+use Rattle.markdown_blocks.proofs.Span.Cuts.{but_ends-is, ending-is}
 use Rattle.markdown_blocks.proofs.Span.Framed.{framed_rest}
 use Rattle.markdown_blocks.proofs.Span.Inside.{InsideFacts, behind_ending}
 use Rattle.markdown_blocks.proofs.Span.Lines.{AreFurther, SpanLine, ends-by}
@@ -206,33 +203,3 @@ lines-fill bytes r row (next ∷ rows) are full is =
     any : (x : Bool) → (x || true) ≡ true
     any true = refl
     any false = refl
-
--- Nothing is read of them later.
-
-pub rest-unlinked : (bytes : List ℕ) (r : Rest) (row : Row) (rows : List Row) → AreInCode bytes r row rows →
-    NoLinks (framed_rest as_line row rows)
-rest-unlinked bytes r row [] are = tt
-rest-unlinked bytes r row (next ∷ rows) are =
-    let s = are.4.rest in
-    let ended = ending_events n.LineEnding row in
-    let parts = code_parts s next.first next.end in
-    each-append IsUnlinked (ended ++ next.front ++ but_ends (as_line next)) (framed_rest as_line next rows)
-    (each-append IsUnlinked (ended ++ next.front) (but_ends (as_line next))
-    (each-append IsUnlinked ended next.front
-    (subst NoLinks (sym (ending-is n.LineEnding row are.0 are.1)) (refl, (refl, tt)))
-    (fronts-unlinked bytes are.0 next.first next.front are.3))
-    (subst NoLinks (sym (in-parts bytes next are.4))
-    (inside-unlinked parts (code-inside s next.first next.end)))) (rest-unlinked bytes s next rows are.5)
-
--- The last of them.
-
-pub last-end : (bytes : List ℕ) (r : Rest) (row : Row) (rows : List Row) → AreInCode bytes r row rows →
-    end_of (as_line row) ≡ exit n.CodeIndented row.end ∷ [] →
-    end_of (as_line (last_row row rows)) ≡ exit n.CodeIndented (last_row row rows).end ∷ []
-last-end bytes r row [] are e = e
-last-end bytes r row (next ∷ rows) are e =
-    let s = are.4.rest in
-    last-end bytes s next rows are.5
-    (ap end_of (as-line bytes next are.4)
-    ∙ end-is (enter_link n.CodeIndented next.first further_link ∷ code_parts s next.first next.end)
-    (exit n.CodeIndented next.end))

@@ -7,7 +7,6 @@ use Rattle.markdown_blocks.proofs.Defined.Form.{Form, IsFilled, IsForm, IsStrand
 use Rattle.markdown_blocks.proofs.Defined.Form.{OneLine, Strand, Titled, form_block, form_done, form_unread}
 use Rattle.markdown_blocks.proofs.Defined.Known.Leaf.{done-by, facts-by}
 use Rattle.markdown_blocks.proofs.Defined.Known.Plain.{form-plain}
-pub use Rattle.markdown_blocks.proofs.Defined.Known.Read.{defined-becomes}
 use Rattle.markdown_blocks.proofs.Defined.Known.Texts.{FormStrings, TextString, TitleString, form-texts}
 use Rattle.markdown_blocks.proofs.Defined.Strings.Facts.{AreFilled, FurtherFilled}
 use Rattle.markdown_blocks.proofs.Defined.Strings.Whole.{label-facts, target-facts, title-facts}

@@ -1,5 +1,4 @@
 -- What is known of the parts of a definition, and of all of it.
-pub mod Becomes
 pub mod Enclosed
 pub mod Gap
 pub mod Inside
@@ -10,7 +9,6 @@ pub mod Marks
 pub mod Parts
 pub mod Passes
 pub mod Plain
-pub mod Read
 pub mod Target
 pub mod Texts
 pub mod Title

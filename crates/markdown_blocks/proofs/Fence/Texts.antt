@@ -1,11 +1,8 @@
 -- Info and meta of a fence: parts of one line each, and what is read of them stands in their places.
-use Rattle.std.proofs.Common.{◌≡◌, ℕ, Bool, true, false, ◌&&◌, List, [], ◌∷◌, refl, ap, ◌∙◌, arith}
+use Rattle.std.proofs.Common.{◌≡◌, ℕ, true, ◌&&◌, List, [], ◌∷◌, refl, ap, ◌∙◌, arith}
 use Rattle.std.specs.Prelude.{◌==◌, Some, None}
-use Rattle.std.specs.List.{list_all}
-use Rattle.std.proofs.lemmas.Bool.{and_from, eq-eqb}
+use Rattle.std.proofs.lemmas.Bool.{and_from}
 use Rattle.md_engine.specs.declared.configuration.ParseOptions.{ParseOptions}
-use Rattle.md_engine.specs.declared.event.Content.{Content}
-use Rattle.md_engine.specs.declared.event.Content.TheVariants as content
 use Rattle.md_engine.specs.declared.event.Name.{Name}
 use Rattle.md_engine.specs.declared.event.Name.TheVariants as n
 use Rattle.md_engine.specs.declared.event.Point.{Point}
@@ -14,12 +11,10 @@ use Rattle.md_definition.specs.Texts.{first_byte, split_lines}
 use Rattle.md_lines.specs.Fence.{block_name, fence_name, sequence_name, string_link}
 use Rattle.md_seam.specs.declared.inline.Chunk.{Chunk}
 use Rattle.md_seam.specs.declared.inline.PartKind.TheVariants.{String}
-use Rattle.md_seam.specs.Events.Inline.{are_lines, in_order, is_one_line, plain_chunks, plain_events, together}
+use Rattle.md_seam.specs.Events.Inline.{are_lines, in_order, is_one_line, plain_chunks, together}
 use Rattle.md_seam.specs.Events.Nested.{around, pair}
 use Rattle.md_seam.specs.Events.Places.{at_or_before, past_text, same_place}
-use Rattle.md_seam.specs.Events.Prefix.{is_prefix}
 use Rattle.md_seam.specs.Events.Tiles.{part_kind}
-use Rattle.md_seam.specs.Substituted.{Readings}
 use Rattle.md_seam.proofs.InlineLemmas.{before-text, plain-fills, same-refl}
 use Rattle.md_seam.proofs.NestedLemmas.{at_or_before-refl}
 use Rattle.markdown_blocks.specs.Leaf.Fence.{fence_around, fence_line, fence_parts, linked, past_white, read_inner}
@@ -30,12 +25,9 @@ use Rattle.markdown_blocks.proofs.Fence.Laid.{Laid, line-walk}
 use Rattle.markdown_blocks.proofs.Fence.Walk.{Anywhere, At, Walks, is_text_name}
 use Rattle.markdown_blocks.proofs.FillFacts.{Fill, fill-append, fill-around, fill-part, fill-same, linked-filled}
 use Rattle.markdown_blocks.proofs.LineTexts.{one-last}
-use Rattle.markdown_blocks.proofs.LeafFacts.{ReadsString}
 use Rattle.markdown_blocks.proofs.PartsStand.{Stands, inside-linked, stands-append, stands-outside}
 use Rattle.markdown_blocks.proofs.PartsStand.{stands-part}
 use Rattle.markdown_blocks.proofs.PieceFacts.{over-front}
-use Rattle.markdown_blocks.proofs.SubstitutedLemmas.{Becomes, becomes-append, becomes-same}
-use Rattle.markdown_blocks.proofs.SubstitutedLemmas.{part-becomes}
 
 -- Names.
 
@@ -44,12 +36,6 @@ text-kind n.CodeFencedFenceInfo e = refl
 text-kind n.CodeFencedFenceMeta e = refl
 text-kind n.MathFlowFenceMeta e = refl
 text-kind _ e = cc
-
-text-apart : (name : Name) → is_text_name name ≡ true → is_prefix name ≡ false
-text-apart n.CodeFencedFenceInfo e = refl
-text-apart n.CodeFencedFenceMeta e = refl
-text-apart n.MathFlowFenceMeta e = refl
-text-apart _ e = cc
 
 block-kind : (m : ℕ) → part_kind (block_name m) ≡ None
 block-kind m = by-math (λ x. part_kind x ≡ None) (m == 36) n.MathFlow n.CodeFenced refl refl
@@ -72,14 +58,6 @@ one-line bytes b bs rest p at =
     (ap (λ (l : List ℕ). is_one_line (split_lines l) (same_place q q)) over.slice
     ∙ one-last (b ∷ bs) (omega arith) at.none (same_place q q) (same-refl q))
     refl
-
--- that ends between two bytes
-pub one-whole : (bytes : List ℕ) (b : ℕ) (bs rest : List ℕ) (p : Point) → At bytes (b ∷ bs) p rest →
-    list_all (λ (chunk : Chunk). chunk.after.vs == 0) (record { first = p; after = past_text (b ∷ bs) p } ∷ []) ≡ true
-one-whole bytes b bs rest p at =
-    let q = past_text (b ∷ bs) p in
-    let over = over-front bytes p q (b ∷ bs) rest at.stands (omega arith) refl in
-    and_from (q.vs == 0) true (eq-eqb q.vs 0 over.whole) refl
 
 -- Its parts are whole.
 
@@ -142,26 +120,3 @@ fence-filled options bytes line rest p is =
     (around (fence_name m) q e (fence_parts read m text q)) (block-kind m)
     (fill-around bytes (fence_name m) q e (fence_parts linked m text q) (fence_parts read m text q) (fence-kind m)
     walked.parts))
-
--- Whoever reads them as the plain layer does gives these events.
-
-pub walks-become : (bytes : List ℕ) (wants : Content → Bool) (reads : Readings) → wants content.String ≡ true →
-    ReadsString bytes reads →
-    Walks bytes linked (read_inner bytes) Anywhere (λ p q es ds. Becomes wants reads es ds)
-walks-become bytes wants reads w rs = record {
-  behind_white = λ b bs rest p is blank. tt;
-  before_white = λ b rest p is white. tt;
-  behind_marks = λ m b bs rest p is over. tt;
-  none = λ p. becomes-same wants reads [] tt;
-  append = λ p q r xs ys zs ws mid h k. becomes-append wants reads xs zs ys ws h k;
-  white = λ b bs rest p mid end is cut blank.
-      becomes-same wants reads (pair n.SpaceOrTab p (past_text (b ∷ bs) p)) (refl, (refl, tt));
-  marks = λ m b bs rest p mid end at over.
-      becomes-same wants reads (pair (sequence_name m) p (past_text (b ∷ bs) p)) (refl, (refl, tt));
-  text = λ name b bs rest p is mid end at.
-      let q = past_text (b ∷ bs) p in
-      let chunk : Chunk = record { first = p; after = q } in
-      part-becomes wants reads name n.Data string_link p q chunk
-      (plain_events bytes (record { kind = String; chunks = chunk ∷ [] })) w (text-apart name is)
-      (λ answer h. rs (chunk ∷ []) answer h q (one-line bytes b bs rest p at) (one-whole bytes b bs rest p at));
-}

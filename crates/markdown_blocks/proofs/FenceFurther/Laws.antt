@@ -46,5 +46,4 @@ fence_further-laws = record {
   set = λ ends options on r p es starts. cc;
   unspanned = λ ends options on r p starts. absurd (cc);
   facts = λ ends options on bytes r p q starts at. absurd (cc);
-  becomes = λ ends options on bytes r p q starts at wants reads text read. absurd (cc);
 }

@@ -13,7 +13,6 @@ use Rattle.markdown_blocks.specs.Leaf.FenceFurther.{further_parts}
 use Rattle.markdown_blocks.proofs.FenceFurther.Names.{parts-inside}
 use Rattle.markdown_blocks.proofs.FillFacts.{Fill}
 use Rattle.markdown_blocks.proofs.LostLine.Parts as part
-use Rattle.markdown_blocks.proofs.PartFacts.{NoLinks}
 use Rattle.markdown_blocks.proofs.PartsStand.{Stands}
 
 -- they are parts of a leaf
@@ -31,13 +30,7 @@ pub further-others : (options : ParseOptions) (on : HeldLeaf) (r : Rest) (p q : 
     AreOthers (further_parts options on r p q)
 further-others options on r p q = part.inside-others (further_parts options on r p q) (parts-inside options on r p q)
 
--- No text is linked among them,
-pub further-unlinked : (options : ParseOptions) (on : HeldLeaf) (r : Rest) (p q : Point) →
-    NoLinks (further_parts options on r p q)
-further-unlinked options on r p q =
-    part.inside-unlinked (further_parts options on r p q) (parts-inside options on r p q)
-
--- so nothing is read of them later.
+-- No text is linked among them, so nothing is read of them later.
 pub further-stands : (bytes : List ℕ) (options : ParseOptions) (on : HeldLeaf) (r : Rest) (p q : Point) →
     Stands bytes (further_parts options on r p q)
 further-stands bytes options on r p q =

@@ -5,8 +5,6 @@ use Rattle.std.proofs.Common.{◌||◌, not, suc, subst, arith}
 use Rattle.std.specs.Prelude.{◌==◌, Option, Some, None}
 use Rattle.std.proofs.lemmas.Bool.Decides.{nat_tests}
 use Rattle.md_engine.specs.declared.configuration.ParseOptions.{ParseOptions}
-use Rattle.md_engine.specs.declared.event.Content.{Content}
-use Rattle.md_engine.specs.declared.event.Content.TheVariants as content
 use Rattle.md_engine.specs.declared.event.Event.{Event}
 use Rattle.md_engine.specs.declared.event.Name.{Name}
 use Rattle.md_engine.specs.declared.event.Name.TheVariants as n
@@ -26,7 +24,6 @@ use Rattle.md_seam.proofs.EndingsLemmas.{AreOthers, stays-others}
 use Rattle.md_seam.proofs.GrammarLemmas.{Leads, leads-around}
 use Rattle.md_outline.specs.LinesStand.{AtEnding, begun_site}
 use Rattle.md_outline.specs.Roles.{is_told, is_unlisted}
-use Rattle.md_seam.specs.Substituted.{Readings}
 use Rattle.markdown_blocks.specs.Leaf.Fence.{Inner, fence_parts, linked, past_white, read_inner}
 use Rattle.markdown_blocks.proofs.BetweenFacts.{AreBetween, around-between}
 use Rattle.markdown_blocks.proofs.Fence.Between as place
@@ -45,8 +42,6 @@ use Rattle.markdown_blocks.proofs.FenceSpan.Open.{AreMarks, begin_of, kind_of, l
 use Rattle.markdown_blocks.proofs.FenceSpan.Plain.{walks-known}
 use Rattle.markdown_blocks.proofs.FenceSpan.Sites.{first-passes}
 use Rattle.markdown_blocks.proofs.FillFacts.{Fill, fill-around}
-use Rattle.markdown_blocks.proofs.LeafFacts.{ReadsString}
-use Rattle.markdown_blocks.proofs.SubstitutedLemmas.{Becomes, becomes-around}
 use Rattle.markdown_blocks.proofs.PartedFacts.{Sits, Still, around-sits, clear}
 use Rattle.markdown_blocks.proofs.PartsStand.{Stands, stands-around}
 use Rattle.markdown_blocks.proofs.PieceFacts.{stood-around}
@@ -233,7 +228,7 @@ first-facts options bytes line rest p columns is = record {
     untold : (x : Point) → (not (is_told (role (fence_name (first_byte (trim_start line))))) || clear bytes x) ≡ true
     untold x = ap (λ (b : Bool). not b || clear bytes x) (fence-untold (first_byte (trim_start line)))
 
--- No ending stands there, and no begin or end of a leaf,
+-- No ending stands there, and no begin or end of a leaf.
 pub first-others : (options : ParseOptions) (bytes line rest : List ℕ) (p e : Point) → Laid options bytes line p rest →
     AreOthers (first_inside linked line p e) × AreOthers (first_inside (read_inner bytes) line p e)
 first-others options bytes line rest p e is =
@@ -246,15 +241,3 @@ first-others options bytes line rest p e is =
       kept.others-around (fence_name m) q e (fence_parts linked m (trim_start line) q) other walked.parts.0,
       kept.others-around (fence_name m) q e (fence_parts (read_inner bytes) m (trim_start line) q) other walked.parts.1,
     )
-
--- and whoever reads its strings as the plain layer does gives what is read there.
-pub first-becomes : (options : ParseOptions) (bytes line rest : List ℕ) (p e : Point) → Laid options bytes line p rest →
-    (wants : Content → Bool) (reads : Readings) → wants content.String ≡ true → ReadsString bytes reads →
-    Becomes wants reads (first_inside linked line p e) (first_inside (read_inner bytes) line p e)
-first-becomes options bytes line rest p e is wants reads w rs =
-    let m = first_byte (trim_start line) in
-    let q = past_white line p in
-    let walked = line-walk options bytes linked (read_inner bytes) Anywhere (λ p q es ds. Becomes wants reads es ds)
-    (texts.walks-become bytes wants reads w rs) line rest p is tt tt in
-    becomes-around wants reads (fence_name m) q e (fence_parts linked m (trim_start line) q)
-    (fence_parts (read_inner bytes) m (trim_start line) q) walked.parts

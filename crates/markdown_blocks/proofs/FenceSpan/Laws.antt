@@ -1,11 +1,9 @@
 -- The laws of fenced code and math with all their lines, joined.
-use Rattle.std.proofs.Common.{◌≡◌, ℕ, Bool, true, false, cond, not, List, [], ◌∷◌, ◌++◌, drop, refl, sym, ◌∙◌}
+use Rattle.std.proofs.Common.{◌≡◌, ℕ, Bool, true, false, cond, not, List, [], ◌∷◌, drop, refl, sym, ◌∙◌}
 use Rattle.std.proofs.Common.{inl, subst}
 use Rattle.std.proofs.Common.{append_assoc}
 use Rattle.std.specs.Prelude.{Some}
 use Rattle.md_engine.specs.declared.configuration.ParseOptions.{ParseOptions}
-use Rattle.md_engine.specs.declared.event.Content.{Content}
-use Rattle.md_engine.specs.declared.event.Content.TheVariants as content
 use Rattle.md_engine.specs.declared.event.Event.{Event}
 use Rattle.md_engine.specs.declared.event.Name.{Name}
 use Rattle.md_engine.specs.declared.event.Name.TheVariants as n
@@ -23,37 +21,34 @@ use Rattle.md_outline.specs.LinesStand.{AtEnding, begun_site}
 use Rattle.md_seam.specs.Events.Grammar.{Expression, plain_text}
 use Rattle.md_seam.specs.Events.Nested.{enter, enter_link, exit, pair}
 use Rattle.md_seam.specs.Events.Spelled.{OpenLeaf, Opens, Role, fresh, role}
-use Rattle.md_seam.specs.Substituted.{Readings}
 use Rattle.md_seam.proofs.EndingsLemmas.{AreOthers}
 use Rattle.md_seam.proofs.SpelledLemmas.{Roles}
 use Rattle.markdown_blocks.specs.Fronted.{rest_line}
 use Rattle.markdown_blocks.specs.Leaf.Fence.{fence_leaf, linked, opening_at, past_white, read_inner, white_part}
 use Rattle.markdown_blocks.specs.Leaf.FenceFurther.{fence_further, further_parts}
-use Rattle.markdown_blocks.specs.Rows.{Row, but_end, last_row, span_by, span_done}
+use Rattle.markdown_blocks.specs.Rows.{Row, last_row, span_by, span_done}
 use Rattle.markdown_blocks.proofs.Fence.Kept as kept
 use Rattle.markdown_blocks.proofs.FenceFurther.Grammar.{behind-line-ends, behind_line}
 use Rattle.markdown_blocks.proofs.FenceFurther.Joined.{block-lines, further-begins, further-ends, further-is}
 use Rattle.markdown_blocks.proofs.FenceFurther.Parts.{further-lines}
 use Rattle.markdown_blocks.proofs.FenceFurther.Places.{further-at}
-use Rattle.markdown_blocks.proofs.FenceSpan.First.{first-becomes, first-others, first_inside, marks_of}
+use Rattle.markdown_blocks.proofs.FenceSpan.First.{first-others, first_inside, marks_of}
 use Rattle.markdown_blocks.proofs.FenceSpan.Open.{fence-begin, fence-lined, fence-name, kind_of, leaf_of}
 use Rattle.markdown_blocks.proofs.FenceSpan.Opening.{begin-is, done-is, line-ends, line-fence, line-full, line-held}
 use Rattle.markdown_blocks.proofs.FenceSpan.Opening.{line-inside, line-laid, line-lead, line-marks, name_of}
 use Rattle.markdown_blocks.proofs.FenceSpan.Opening.{opening-same}
 use Rattle.markdown_blocks.proofs.FenceSpan.Opening.{opening_of, text_of, unread-is}
 use Rattle.markdown_blocks.proofs.Span.Rest.{HasRest, block_by, came-shut, row_done, row_unread}
-use Rattle.markdown_blocks.proofs.Span.Whole.{rest-becomes, rest-facts}
+use Rattle.markdown_blocks.proofs.Span.Whole.{rest-facts}
 use Rattle.markdown_blocks.proofs.FenceSpan.Walk.{rest-open}
 use Rattle.markdown_blocks.proofs.FillFacts.{filled-read}
-use Rattle.markdown_blocks.proofs.LeafFacts.{LeafFacts, ReadsString}
-use Rattle.markdown_blocks.proofs.PartFacts.{NoLinks}
+use Rattle.markdown_blocks.proofs.LeafFacts.{LeafFacts}
 use Rattle.markdown_blocks.proofs.Span.Framed.{framed_by}
 use Rattle.markdown_blocks.proofs.Span.Inside.{InsideFacts}
 use Rattle.markdown_blocks.proofs.Span.Leaf.{IsLeafName}
 use Rattle.markdown_blocks.proofs.Span.Lines.{SpanFirst}
 use Rattle.markdown_blocks.proofs.SpanLaws.{AreBehind, IsLineOf, IsNone, IsSpanned, SpanLaws, come_behind}
 use Rattle.markdown_blocks.proofs.SpannedFacts.{AreUnspanned}
-use Rattle.markdown_blocks.proofs.SubstitutedLemmas.{Becomes, becomes-append, becomes-same, no_links-unwanted}
 
 -- Each line by itself.
 
@@ -218,49 +213,6 @@ done-read options bytes row rows is are =
     (filled-read bytes (span_by row_unread row rows) (framed_by (row_done bytes) row rows)
     (span-of options bytes row rows is are).filled)
 
--- Whoever reads strings as the plain layer does gives that.
-span-becomes : (options : ParseOptions) (bytes : List ℕ) (row : Row) (rows : List Row) →
-    IsLineOf options bytes fence_leaf row → AreBehind options bytes fence_further row rows →
-    (wants : Content → Bool) (reads : Readings) → wants content.String ≡ true → ReadsString bytes reads →
-    Becomes wants reads (span_by row_unread row rows) (framed_by (row_done bytes) row rows)
-span-becomes options bytes row rows is are wants reads w rs =
-    rest-becomes bytes (name_of is.rest) (behind_line plain_text (first_byte (text_of is.rest)))
-    (leaf_of (opening_of is.rest) (marks_of (text_of is.rest)) [] false)
-    (AtEnding (kind_of (first_byte (text_of is.rest)))) row rows
-    (come_behind options bytes fence_further row rows are (Opened (OpenFence (opening_at is.rest) [])))
-    (line-ends options bytes row is) (rest-of options bytes row rows is are) wants reads begins
-  where
-    name : Name
-    name = name_of is.rest
-
-    at : Point
-    at = past_white (rest_line is.rest) row.first
-
-    front : List Event
-    front = white_part (rest_line is.rest) row.first
-
-    us : List Event
-    us = first_inside linked (rest_line is.rest) row.first row.end
-
-    es : List Event
-    es = first_inside (read_inner bytes) (rest_line is.rest) row.first row.end
-
-    same : (xs : List Event) → NoLinks xs → Becomes wants reads xs xs
-    same xs h = becomes-same wants reads xs (no_links-unwanted wants xs h)
-
-    begins : Becomes wants reads (but_end row.inside) (but_end (row_done bytes row))
-    begins =
-        subst (λ (xs : List Event). Becomes wants reads xs (but_end (row_done bytes row)))
-        (sym (begin-is name at row.end front row.inside us (unread-is options bytes row is)))
-        (subst (λ (xs : List Event). Becomes wants reads (front ++ enter name at ∷ us) xs)
-        (sym (begin-is name at row.end front (row_done bytes row) es (done-is options bytes row is)))
-        (becomes-append wants reads front front (enter name at ∷ us) (enter name at ∷ es)
-        (same front (line-lead options bytes row is).unlinked)
-        (becomes-append wants reads (enter name at ∷ []) (enter name at ∷ []) us es
-        (same (enter name at ∷ []) (refl, tt))
-        (first-becomes options bytes (rest_line is.rest) (drop row.end.index bytes) row.first row.end
-        (line-laid options bytes row is) wants reads w rs))))
-
 -- The laws.
 pub fence-span : SpanLaws fence_leaf fence_further
 fence-span = record {
@@ -279,8 +231,4 @@ fence-span = record {
       came-shut options bs
       (come_behind options bytes fence_further row rows are (Opened (OpenFence (opening_at is.rest) [])))
       (rest-of options bytes row rows is are).came;
-  becomes = λ options bytes row rows is first are wants reads text string texts strings.
-      subst (λ (es : List Event). Becomes wants reads (span_by row_unread row rows) es)
-      (done-read options bytes row rows is are)
-      (span-becomes options bytes row rows is are wants reads string strings);
 }

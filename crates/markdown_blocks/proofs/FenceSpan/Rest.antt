@@ -16,7 +16,7 @@ use Rattle.markdown_blocks.specs.Rows.{Row, is_empty_row}
 use Rattle.markdown_blocks.proofs.FenceFurther.Definition.{held_of}
 use Rattle.markdown_blocks.proofs.FenceFurther.Inside.{further-placed}
 use Rattle.markdown_blocks.proofs.FenceFurther.Joined.{further-is}
-use Rattle.markdown_blocks.proofs.FenceFurther.Parts.{further-others, further-unlinked}
+use Rattle.markdown_blocks.proofs.FenceFurther.Parts.{further-others}
 use Rattle.markdown_blocks.proofs.FenceFurther.Places.{FurtherAt, further-at, further-rest}
 use Rattle.markdown_blocks.proofs.FenceFurther.Shown.{left-clear}
 use Rattle.markdown_blocks.proofs.FenceSpan.Further.{bare-same}
@@ -43,7 +43,6 @@ further-line options bytes o x left from leaf start site row is on e facts = rec
   clear = left-clear bytes (drop row.end.index bytes) is.rest row.first (further-rest bytes is.rest row.first row.end at);
   others = further-others options (held_of o) is.rest row.first row.end;
   balanced = (further-placed options bytes (held_of o) is.rest row.first row.end e at).nested.0;
-  unlinked = further-unlinked options (held_of o) is.rest row.first row.end;
   bare = bare;
   empty = is.empty;
   facts = facts;

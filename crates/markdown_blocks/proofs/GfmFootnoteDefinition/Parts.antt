@@ -85,9 +85,7 @@ label-reads bytes label link p q es is =
     (Part n.GfmFootnoteDefinitionLabelString first end
     (record {
       kind = refl;
-      apart = refl;
       line = label-line bytes label link p q es is;
-      whole = (label-over bytes label link p q es is).whole;
       onward = before-text label first;
     }))
 

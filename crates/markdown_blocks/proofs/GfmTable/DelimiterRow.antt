@@ -21,14 +21,12 @@ use Rattle.md_tables.specs.DelimiterCells.{delimiter_events, value_part}
 use Rattle.md_tables.proofs.DelimiterRead.{delimiter-quiet, delimiter-read}
 use Rattle.markdown_blocks.proofs.BetweenFacts.{around-between}
 use Rattle.markdown_blocks.proofs.ChunkFacts.{starts-tiled}
-use Rattle.markdown_blocks.proofs.EachEvent.{each-append}
 use Rattle.markdown_blocks.proofs.Fence.Kept.{others-around}
 use Rattle.markdown_blocks.proofs.FillFacts.{fill-around}
 use Rattle.markdown_blocks.proofs.GfmTable.RowAt.{RowAt, row-later, row-whole}
 use Rattle.markdown_blocks.proofs.GfmTable.RowCells.{row-facts}
 use Rattle.markdown_blocks.proofs.GfmTable.RowParts.{RowFacts}
 use Rattle.markdown_blocks.proofs.GfmTable.RowWords.{row-word}
-use Rattle.markdown_blocks.proofs.PartFacts.{IsUnlinked, NoLinks}
 use Rattle.markdown_blocks.proofs.PartedFacts.{Sits, passes}
 use Rattle.markdown_blocks.proofs.PartsStand.{stands-around}
 use Rattle.markdown_blocks.proofs.PieceFacts.{Starts, stood-around}
@@ -137,16 +135,8 @@ delimiter-inside bytes line rest p q x rows at are end =
         delimiter-read bytes s rows line rest p at.stands (row-whole line p at.cut at.some) opened
         ∙ ap (λ (t : Option OpenText). record s { leaf = Some to; text = t }) (sym none)
 
--- no ending stands in it, no begin or end of a leaf, and nothing that is read later
+-- no ending stands in it, and no begin or end of a leaf
 pub delimiter-others : (bytes line rest : List ℕ) (p q : Point) → RowAt bytes line rest p → AreDelimiters line →
     AreOthers (around n.GfmTableDelimiterRow p q (delimiter_events line p))
 delimiter-others bytes line rest p q at are =
     others-around n.GfmTableDelimiterRow p q (delimiter_events line p) refl (inner-facts bytes line rest p at are).others
-
-pub delimiter-unlinked : (bytes line rest : List ℕ) (p q : Point) → RowAt bytes line rest p → AreDelimiters line →
-    NoLinks (around n.GfmTableDelimiterRow p q (delimiter_events line p))
-delimiter-unlinked bytes line rest p q at are = (
-  refl,
-  each-append IsUnlinked (delimiter_events line p) (exit n.GfmTableDelimiterRow q ∷ [])
-      (inner-facts bytes line rest p at are).unlinked (refl, tt),
-)

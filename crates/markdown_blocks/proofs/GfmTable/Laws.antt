@@ -31,5 +31,4 @@ table-laws = record {
   set = λ ends options on r p es starts. cc;
   unspanned = λ ends options on r p starts. absurd (cc);
   facts = λ ends options on bytes r p q starts is. absurd (cc);
-  becomes = λ ends options on bytes r p q starts is wants reads w rt. absurd (cc);
 }

@@ -1,45 +1,30 @@
 -- A row of a table: what is known of its events, as they are read and once its texts are.
-use Rattle.std.proofs.Common.{◌≡◌, ℕ, Bool, true, List, [], ◌∷◌, ◌++◌, refl, sym, ap, ◌∙◌, subst}
+use Rattle.std.proofs.Common.{◌≡◌, ℕ, List, [], ◌∷◌, ◌++◌, refl, sym, ap, ◌∙◌, subst}
 use Rattle.std.specs.Prelude.{Option, Some}
-use Rattle.md_engine.specs.declared.event.Content.{Content}
-use Rattle.md_engine.specs.declared.event.Content.TheVariants as content
 use Rattle.md_engine.specs.declared.event.Event.{Event}
 use Rattle.md_engine.specs.declared.event.Name.TheVariants as n
 use Rattle.md_engine.specs.declared.event.Point.{Point}
 use Rattle.md_definition.specs.Rest.{trim_start}
 use Rattle.md_definition.specs.Table.{row_cells}
-use Rattle.md_definition.proofs.TextsLemmas.{NoEnding}
 use Rattle.md_outline.specs.LinesStand.{InTable}
 use Rattle.md_outline.specs.TableSpots.{AtHead, BehindRow, BodyRow, HeadRow, Row, Spot, behind_row}
 use Rattle.md_outline.proofs.TablesPass.{PassesIn, passes-body_row, passes-head}
-use Rattle.md_seam.specs.declared.inline.Chunk.{Chunk}
-use Rattle.md_seam.specs.declared.inline.PartKind.TheVariants.{Text}
 use Rattle.md_seam.specs.Events.Grammar.{Expression, behind, plain_text, unread_text}
-use Rattle.md_seam.specs.Events.Inline.{plain_events}
 use Rattle.md_seam.specs.Events.Nested.{around}
 use Rattle.md_seam.specs.Events.Places.{past_text}
 use Rattle.md_seam.specs.Events.Spelled.{OpenLeaf, TableLeaf, Text as OpenText}
-use Rattle.md_seam.specs.Substituted.{Readings}
 use Rattle.md_seam.proofs.EndingsLemmas.{AreOthers, stays-others}
 use Rattle.md_seam.proofs.GrammarLemmas.{leads-around}
-use Rattle.md_tables.specs.Row.{text_link}
 use Rattle.md_tables.specs.RowCells.{Cells, Divides, Ends, Shut, line_cells, read_text, row_events, text_part}
 use Rattle.md_tables.specs.RowCells as cells
-use Rattle.md_tables.proofs.RowBecomes.{AreUnlinked, row-becomes}
-use Rattle.md_tables.proofs.RowBytes.{Stands}
 use Rattle.md_tables.proofs.RowRead.{row-read}
-use Rattle.markdown_blocks.proofs.Fence.Texts.{one-line, one-whole}
 use Rattle.markdown_blocks.proofs.Fence.Walk.{At}
 use Rattle.markdown_blocks.proofs.GfmTable.RowAt.{RowAt, row-later, row-whole}
 use Rattle.markdown_blocks.proofs.GfmTable.RowCells.{EachFits, IsCellKind, row-facts}
 use Rattle.markdown_blocks.proofs.GfmTable.RowParts.{RowFacts, row-around, row-none, row-text}
 use Rattle.markdown_blocks.proofs.GfmTable.RowSites.{row-passes}
 use Rattle.markdown_blocks.proofs.GfmTable.RowWords.{cell-name, read-says, row-word, text-word, unread-says}
-use Rattle.markdown_blocks.proofs.LeafFacts.{ReadsText}
-use Rattle.markdown_blocks.proofs.PartFacts.{NoLinks}
 use Rattle.markdown_blocks.proofs.Span.Inside.{InsideFacts, ReadsLeaf}
-use Rattle.markdown_blocks.proofs.SubstitutedLemmas.{Becomes, becomes-append, becomes-around, becomes-same}
-use Rattle.markdown_blocks.proofs.SubstitutedLemmas.{no_links-unwanted, part-becomes}
 
 -- where in a table its head row may begin, and where a further row
 abbrev pub front_of : Row → Spot
@@ -163,34 +148,3 @@ row-others bytes line rest p q at end =
     AreOthers (around n.GfmTableRow p e (row_events cells.unread_text line p)) ×
     AreOthers (around n.GfmTableRow p e (row_events (read_text bytes) line p))) (sym end)
     (facts.unread_others, facts.others)
-
--- Whoever reads texts as the plain layer does gives what is read in its cells.
-pub row-reads : (bytes line rest : List ℕ) (p q : Point) → RowAt bytes line rest p → (wants : Content → Bool)
-    (reads : Readings) → wants content.Text ≡ true → ReadsText bytes reads →
-    Becomes wants reads (around n.GfmTableRow p q (row_events cells.unread_text line p))
-    (around n.GfmTableRow p q (row_events (read_text bytes) line p))
-row-reads bytes line rest p q at wants reads w rt =
-    becomes-around wants reads n.GfmTableRow p q (row_events cells.unread_text line p)
-    (row_events (read_text bytes) line p)
-    (row-becomes bytes (Becomes wants reads)
-    (record {
-      same = λ es h. becomes-same wants reads es (no_links-unwanted wants es (links es h));
-      append = becomes-append wants reads;
-      text = text;
-    }) line rest p at.stands at.none (row-whole line p at.cut at.some))
-  where
-    links : (es : List Event) → AreUnlinked es → NoLinks es
-    links [] h = tt
-    links (e ∷ es) h = (h.0, links es h.1)
-
-    text : (b : ℕ) (bs : List ℕ) (p : Point) → Stands bytes p (b ∷ bs) → NoEnding (b ∷ bs) →
-        Becomes wants reads (text_part cells.unread_text (b ∷ bs) p) (text_part (read_text bytes) (b ∷ bs) p)
-    text b bs p is none =
-        let q = past_text (b ∷ bs) p in
-        let chunk : Chunk = record { first = p; after = q } in
-        let at : At bytes (b ∷ bs) p
-        is.behind = record { stands = is.text; none = none; whole = is.whole } in
-        part-becomes wants reads n.GfmTableCellText n.Data text_link p q chunk
-        (plain_events bytes (record { kind = Text; chunks = chunk ∷ [] })) w refl
-        (λ answer h.
-        rt (chunk ∷ []) answer h q (one-line bytes b bs is.behind p at) (one-whole bytes b bs is.behind p at))

@@ -29,11 +29,10 @@ use Rattle.md_seam.proofs.NestedLemmas.{at_or_before-refl, balanced-none}
 use Rattle.md_seam.proofs.SpelledLemmas.{Quiet, Roles, roles-append}
 use Rattle.md_tables.specs.Row.{text_link}
 use Rattle.md_tables.specs.RowCells.{pipe_part, read_text, text_part, unread_text, white_part}
-use Rattle.md_tables.proofs.RowBecomes.{data-read}
+use Rattle.md_tables.proofs.CellData.{data-read}
 use Rattle.markdown_blocks.specs.Unread as chunks
 use Rattle.markdown_blocks.proofs.BetweenFacts.{AreBetween, around-between, between-append, between-pair}
 use Rattle.markdown_blocks.proofs.ChunkFacts.{Chunked, starts-tiled}
-use Rattle.markdown_blocks.proofs.EachEvent.{each-append}
 use Rattle.markdown_blocks.proofs.Fence.Kept.{others-around}
 use Rattle.markdown_blocks.proofs.Fence.Pieces.{text-chunked}
 use Rattle.markdown_blocks.proofs.Fence.Texts.{one-line}
@@ -41,7 +40,6 @@ use Rattle.markdown_blocks.proofs.Fence.Walk.{At}
 use Rattle.markdown_blocks.proofs.FenceFurther.Shown.{whole-clear}
 use Rattle.markdown_blocks.proofs.FillFacts.{Fill, fill-append, fill-around, fill-part, fill-same, linked-filled}
 use Rattle.markdown_blocks.proofs.PartedFacts.{Sits, Still, around-sits, clear, quiet-still, sits-append, sits-still}
-use Rattle.markdown_blocks.proofs.PartFacts.{IsUnlinked, NoLinks}
 use Rattle.markdown_blocks.proofs.PartsStand.{Stands, inside-linked, stands-append, stands-around, stands-outside}
 use Rattle.markdown_blocks.proofs.PartsStand.{stands-part}
 use Rattle.markdown_blocks.proofs.PieceFacts.{CutsFirst, Over, Stood, begins-cut, begins-whole, chunk_span, over-front}
@@ -71,8 +69,6 @@ pub record RowFacts (bytes : List ℕ) (p q : Point) (unread done : List Event) 
   -- their text parts are whole, and are read in the places of their chunks
   pub parts : Stands bytes unread
   pub filled : Fill bytes unread done
-  -- of those nothing is read later
-  pub unlinked : NoLinks done
   -- they part no text, and an outline knows their names
   pub parted : Sits bytes done
   pub known : AreKnown bytes done
@@ -100,7 +96,6 @@ row-none bytes p = record {
   roles = tt;
   parts = stands-outside bytes [] tt tt;
   filled = fill-same bytes [] tt tt;
-  unlinked = tt;
   parted = sits-still bytes [] tt;
   known = known-none bytes;
   between = λ first last. refl;
@@ -121,7 +116,6 @@ row-append bytes p q r us es vs fs middle h k = record {
   roles = roles-append IsPart es fs h.roles k.roles;
   parts = stands-append bytes us vs h.parts k.parts;
   filled = fill-append bytes us es vs fs h.filled k.filled;
-  unlinked = each-append IsUnlinked es fs h.unlinked k.unlinked;
   parted = sits-append bytes es fs h.parted k.parted;
   known = known-append bytes es fs h.known k.known;
   between =
@@ -159,7 +153,6 @@ row-piece bytes name p q is order stands = record {
   roles = (is.part, (is.part, tt));
   parts = stands-outside bytes (pair name p q) (is.no_part, (is.no_part, tt)) (refl, (refl, tt));
   filled = fill-same bytes (pair name p q) (refl, (refl, tt)) (is.no_part, (is.no_part, tt));
-  unlinked = (refl, (refl, tt));
   parted =
       sits-still bytes (pair name p q) (quiet-still (role name) is.quiet, (quiet-still (role name) is.quiet, tt));
   known = (plain-quiet bytes (pair name p q) (is.quiet, (is.quiet, tt))).known;
@@ -213,7 +206,6 @@ row-around bytes name p q us es is some h = record {
   roles = (is.part, roles-append IsPart es (exit name q ∷ []) h.roles (is.part, tt));
   parts = stands-around bytes name p q us is.no_part h.parts;
   filled = fill-around bytes name p q us es is.no_part h.filled;
-  unlinked = (refl, each-append IsUnlinked es (exit name q ∷ []) h.unlinked (refl, tt));
   parted = around-sits bytes name p q es is.still h.parted;
   known = known-around bytes name p q es is.known (untold p) (untold q) h.known;
   between = λ first last. around-between bytes name p q es first last (h.between first last);
@@ -248,8 +240,6 @@ row-text bytes b bs rest p at = record {
       fill-part bytes n.GfmTableCellText Text p q (chunk ∷ []) us (together (plain_chunks bytes (chunk ∷ []))) refl
       (inside-linked bytes Text text_link (chunk ∷ []) refl) (plain-fills bytes p (chunk ∷ []) in_place)
       (linked-filled bytes text_link (chunk ∷ []));
-  unlinked =
-      by_piece (λ (xs : List Event). NoLinks (around n.GfmTableCellText p q xs)) (refl, (refl, (refl, (refl, tt))));
   parted = by_piece (λ (xs : List Event). Sits bytes (around n.GfmTableCellText p q xs)) (λ ys h. h);
   known =
       by_piece (λ (xs : List Event). AreKnown bytes (around n.GfmTableCellText p q xs))

@@ -15,7 +15,7 @@ use Rattle.md_seam.specs.Events.Places.{past_byte, past_text}
 use Rattle.md_seam.proofs.SpelledLemmas.{Quiet, Roles, roles-append}
 use Rattle.md_tables.specs.RowCells.{Cells, Divides, Ends, Shut, cell_inside, cells_events, first_pipe, line_cells, past_pipe}
 use Rattle.md_tables.specs.RowCells.{pipe_part, read_text, row_events, text_part, white_back, white_front, white_part}
-use Rattle.md_tables.proofs.RowBecomes.{data-read}
+use Rattle.md_tables.proofs.CellData.{data-read}
 use Rattle.md_tables.proofs.RowBytes.{cell-whole, cells_bytes, line-bytes, pipe_bytes}
 use Rattle.md_tables.proofs.RowRead.{pipe-quiet, white-quiet}
 use Rattle.markdown_blocks.proofs.Fence.Walk.{At}

@@ -94,6 +94,4 @@ table-span = record {
   block = λ options bytes row rows is are. Break;
   facts = λ options bytes row rows is begins are. absurd (table-begins options row.on is.rest is.starts begins);
   shuts = λ options bytes row rows is begins are bs. absurd (table-begins options row.on is.rest is.starts begins);
-  becomes = λ options bytes row rows is begins are wants reads text string texts strings.
-      absurd (table-begins options row.on is.rest is.starts begins);
 }

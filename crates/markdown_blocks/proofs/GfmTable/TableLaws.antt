@@ -6,8 +6,6 @@ use Rattle.std.specs.Prelude.{nat_lt, Some}
 use Rattle.std.proofs.lemmas.Bool.{and_parts}
 use Rattle.std.proofs.lemmas.Bool.Decides.{nat_tests}
 use Rattle.md_engine.specs.declared.configuration.ParseOptions.{ParseOptions}
-use Rattle.md_engine.specs.declared.event.Content.{Content}
-use Rattle.md_engine.specs.declared.event.Content.TheVariants as content
 use Rattle.md_engine.specs.declared.tokenizer.held_leaf.HeldLeaf.{HeldLeaf}
 use Rattle.md_engine.specs.declared.tokenizer.held_leaf.HeldLeaf.TheVariants as held_leaf
 use Rattle.md_engine.specs.declared.tokenizer.held_leaf.OpenText.{OpenText}
@@ -20,7 +18,6 @@ use Rattle.md_definition.specs.Step.{came}
 use Rattle.md_definition.specs.Table.{delimiter_columns, pieces, row_cells}
 use Rattle.md_definition.specs.Tree.{Block, Blocks, Table}
 use Rattle.md_rich.proofs.HtmlTags.{trim-none}
-use Rattle.md_seam.specs.Substituted.{Readings}
 use Rattle.md_seam.proofs.RestLines.{trim-white}
 use Rattle.md_tables.specs.GfmTable.{may_head}
 use Rattle.md_tables.specs.GfmTableLine.{are_columns, table_line}
@@ -29,15 +26,13 @@ use Rattle.markdown_blocks.specs.Leaf.GfmTable.{table_leaf}
 use Rattle.markdown_blocks.specs.Rows.{Row, headed_done, headed_unread, last_row, row_line}
 use Rattle.markdown_blocks.proofs.FrontPlaces.{fronts-grow}
 use Rattle.markdown_blocks.proofs.GfmTable.Cells.{head-some}
-use Rattle.markdown_blocks.proofs.GfmTable.TableBecomes.{table-reads}
 use Rattle.markdown_blocks.proofs.GfmTable.TableFacts.{table-leaf}
 use Rattle.markdown_blocks.proofs.GfmTable.TableForm.{AreBodyRows, IsFilledLine, IsTable, rows_cells, table_block}
 use Rattle.markdown_blocks.proofs.GfmTable.TableUnread.{line-dark}
-use Rattle.markdown_blocks.proofs.LeafFacts.{LeafFacts, ReadsText}
+use Rattle.markdown_blocks.proofs.LeafFacts.{LeafFacts}
 use Rattle.markdown_blocks.proofs.LostLine.Places.{further-at, line-over}
 use Rattle.markdown_blocks.proofs.RestFacts.{rest-trim}
 use Rattle.markdown_blocks.proofs.SpanLaws.{AreBehind, IsLineOf, come_behind}
-use Rattle.markdown_blocks.proofs.SubstitutedLemmas.{Becomes}
 
 -- Its lines.
 
@@ -230,12 +225,3 @@ table-facts options bytes row next rows text is are filled met =
     LeafFacts bytes (Some block) true row.first (last_row next rows).end (headed_unread bytes row next rows)
     (headed_done bytes row next rows)) (same-block options bytes row next rows is are filled)
     (table-leaf bytes row next rows (table-of options bytes row next rows text is are filled met))
-
-pub table-becomes : (options : ParseOptions) (bytes : List ℕ) (row next : Row) (rows : List Row) (text : OpenText) →
-    IsFilledLine bytes row → (are : AreBehind options bytes table_leaf row (next ∷ rows)) →
-    AreFilled options bytes row (next ∷ rows) are → next.on ≡ held_leaf.Text text → (wants : Content → Bool)
-    (reads : Readings) → wants content.Text ≡ true → ReadsText bytes reads →
-    Becomes wants reads (headed_unread bytes row next rows) (headed_done bytes row next rows)
-table-becomes options bytes row next rows text is are filled met wants reads w texts =
-    table-reads wants reads bytes row next rows w texts
-    (table-of options bytes row next rows text is are filled met)

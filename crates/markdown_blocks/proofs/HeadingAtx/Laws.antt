@@ -25,7 +25,7 @@ use Rattle.markdown_blocks.proofs.HeadingAtx.Pieces.{read-stood, unread-stood}
 use Rattle.markdown_blocks.proofs.HeadingAtx.Plain.{heading-plain}
 use Rattle.markdown_blocks.proofs.HeadingAtx.Spelled.{heading-reads}
 use Rattle.markdown_blocks.proofs.HeadingAtx.Stands.{read-parts, unread-parts}
-use Rattle.markdown_blocks.proofs.HeadingAtx.Texts.{fill-title, heading-resolved, stands-title, title-becomes}
+use Rattle.markdown_blocks.proofs.HeadingAtx.Texts.{fill-title, heading-resolved, stands-title}
 use Rattle.markdown_blocks.proofs.HeadingAtx.Tiled.{heading-tiled}
 use Rattle.markdown_blocks.proofs.HeadingAtx.Trial.{trial-looked, trial-refused, trial-shrinks, trial-took}
 use Rattle.markdown_blocks.proofs.HeadingAtx.Names.{heading-unspanned, heading-unturned}
@@ -37,7 +37,6 @@ use Rattle.markdown_blocks.proofs.PartsStand.{stands-around}
 use Rattle.markdown_blocks.proofs.PiecesLemmas.{Tiled}
 use Rattle.markdown_blocks.proofs.RestFacts.{rest-trim}
 use Rattle.markdown_blocks.proofs.SpanLemmas.{Nested_in}
-use Rattle.markdown_blocks.proofs.SubstitutedLemmas.{becomes-around}
 use Rattle.markdown_blocks.proofs.HeadingAtx.Outside.{heading-own}
 
 -- the line of a heading begins with its markers, behind whitespace
@@ -121,8 +120,4 @@ heading-laws = record {
   unturned = λ ends options on r p starts. heading-unturned (rest_line r) p;
   unspanned = λ ends options on r p starts. heading-unspanned (rest_line r) p;
   facts = λ ends options on. heading-facts options;
-  becomes = λ ends options on bytes r p q starts is wants reads w rt.
-      becomes-around wants reads n.HeadingAtx p (past_text (rest_line r) p) (unread_title (title_of (rest_line r) p))
-      (read_title bytes (title_of (rest_line r) p))
-      (title-becomes bytes r (rest_line r) p q is wants reads w rt);
 }

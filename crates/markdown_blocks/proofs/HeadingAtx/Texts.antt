@@ -1,13 +1,10 @@
 -- The text of a heading: the resolver sets it as one chunk, and what is read of it stands in its place.
 use Rattle.std.proofs.Common.{◌≡◌, ℕ, ◌+◌, Bool, true, false, cond, List, [], ◌∷◌, ◌++◌, length, drop, take, refl}
-use Rattle.std.proofs.Common.{arith, ◌&&◌, ◌==◌, ◌<◌, sym, subst, ◌||◌, append_assoc, append-nil, ◌∙◌, ap}
+use Rattle.std.proofs.Common.{arith, ◌&&◌, ◌==◌, sym, subst, ◌||◌, append_assoc, append-nil, ◌∙◌, ap}
 use Rattle.std.specs.Prelude.{◌==◌, IsTrue, Some, None}
-use Rattle.std.specs.List.{AllPass, list_all}
-use Rattle.std.proofs.lemmas.Bool.{and_from, eq-eqb}
+use Rattle.std.specs.List.{AllPass}
+use Rattle.std.proofs.lemmas.Bool.{and_from}
 use Rattle.std.proofs.lemmas.Bool.Decides.{nat_tests}
-use Rattle.std.proofs.lemmas.List.{length-take-le}
-use Rattle.md_engine.specs.declared.event.Content.{Content}
-use Rattle.md_engine.specs.declared.event.Content.TheVariants as content
 use Rattle.md_engine.specs.declared.event.Event.{Event}
 use Rattle.md_engine.specs.declared.event.Name.TheVariants as n
 use Rattle.md_engine.specs.declared.event.Point.{Point}
@@ -16,15 +13,14 @@ use Rattle.md_leaves.specs.HeadingRule as heading
 use Rattle.md_leaves.specs.HeadingText.{Before, headings_resolved, linked_text, resolved}
 use Rattle.md_leaves.specs.HeadingTitle.{Title, chunk_unless_empty, front_len, line_runs, text_of, title_of}
 use Rattle.md_leaves.specs.HeadingTitle.{unread_title}
-use Rattle.md_leaves.proofs.TitleLemmas.{behind-marks, front-marks, is_mark, title-fits, title-resolved}
+use Rattle.md_leaves.proofs.TitleLemmas.{behind-marks, front-marks, is_mark, title-resolved}
 use Rattle.md_leaves.proofs.TitleRuns.{pass-first, pass-rest}
 use Rattle.md_seam.specs.declared.inline.Chunk.{Chunk}
 use Rattle.md_seam.specs.declared.inline.PartKind.TheVariants.{Text}
-use Rattle.md_seam.specs.Events.Inline.{in_order, plain_chunks, plain_events, together}
+use Rattle.md_seam.specs.Events.Inline.{in_order, plain_chunks, together}
 use Rattle.md_seam.specs.Events.Nested.{around, enter, exit}
 use Rattle.md_seam.specs.Events.Places.{at_or_before, past_byte, past_text}
 use Rattle.md_definition.specs.Rest.{Rest, is_white, trim_start}
-use Rattle.md_seam.specs.Substituted.{Readings}
 use Rattle.md_seam.proofs.InlineLemmas.{plain-fills, same-refl}
 use Rattle.md_seam.proofs.NestedLemmas.{at_or_before-refl}
 use Rattle.markdown_blocks.proofs.EachEvent.{each-append}
@@ -33,12 +29,9 @@ use Rattle.markdown_blocks.specs.Unread.{linked}
 use Rattle.markdown_blocks.proofs.FillFacts.{Fill, fill-append, fill-part, fill-same, linked-filled}
 use Rattle.markdown_blocks.proofs.HeadingAtx.Places.{text-order, text_begin, text_end, title-lines}
 use Rattle.markdown_blocks.proofs.HeadingAtx.Runs.{runs-each}
-use Rattle.markdown_blocks.proofs.LeafFacts.{LineAt, ReadsText}
-use Rattle.markdown_blocks.proofs.LineTexts.{past-whole}
+use Rattle.markdown_blocks.proofs.LeafFacts.{LineAt}
 use Rattle.markdown_blocks.proofs.PartFacts.{NoLinks, NoParts, IsNoPart}
 use Rattle.markdown_blocks.proofs.PartsStand.{Stands, inside-linked, stands-append, stands-outside, stands-part}
-use Rattle.markdown_blocks.proofs.SubstitutedLemmas.{Becomes, becomes-append, becomes-same, no_links-unwanted}
-use Rattle.markdown_blocks.proofs.SubstitutedLemmas.{part-becomes}
 
 -- It is set.
 
@@ -198,51 +191,3 @@ fill-title bytes line p =
     (fill-text bytes (length (text_of line)) (text_begin line p) (text_end line p) (text-order line p)))
     (fill-same bytes title.back (back-unlinked line p)
     (runs-no_parts heading.Apart (drop (front_len line + length (text_of line)) line) (text_end line p)))
-
--- Whoever reads it as the plain layer does gives these events.
-
--- the text of a heading, if there is one
-text-becomes : (bytes : List ℕ) (r : Rest) (line : List ℕ) (p q : Point) → LineAt bytes r line p q →
-    (wants : Content → Bool) (reads : Readings) → wants content.Text ≡ true → ReadsText bytes reads →
-    Becomes wants reads (linked_text (title_of line p).text) (read_text bytes (title_of line p).text)
-text-becomes bytes r line p q is wants reads w rt = go (length (text_of line) == 0) refl
-  where
-    begin : Point
-    begin = text_begin line p
-
-    end : Point
-    end = text_end line p
-
-    chunk : Chunk
-    chunk = record { first = begin; after = end }
-
-    size : length (take (front_len line + length (text_of line)) line) ≡ front_len line + length (text_of line)
-    size = length-take-le (front_len line + length (text_of line)) line (title-fits line)
-
-    whole : 0 < length (text_of line) → list_all (λ (chunk : Chunk). chunk.after.vs == 0) (chunk ∷ []) ≡ true
-    whole some =
-        and_from (end.vs == 0) true
-        (eq-eqb end.vs 0
-        (past-whole (take (front_len line + length (text_of line)) line) p (omega (arith, size, some)))) refl
-
-    go : (x : Bool) → (length (text_of line) == 0) ≡ x →
-        Becomes wants reads (linked_text (cond x None (Some chunk))) (read_text bytes (cond x None (Some chunk)))
-    go true e = becomes-same wants reads [] tt
-    go false e =
-        let some : 0 < length (text_of line) = grind (arith, nat_tests) in
-        part-becomes wants reads n.HeadingAtxText n.Data heading_link begin end chunk
-        (plain_events bytes (record { kind = Text; chunks = chunk ∷ [] })) w refl
-        (λ answer h. rt (chunk ∷ []) answer h end (title-lines bytes r line p q is some) (whole some))
-
--- what stands in a heading
-pub title-becomes : (bytes : List ℕ) (r : Rest) (line : List ℕ) (p q : Point) → LineAt bytes r line p q →
-    (wants : Content → Bool) (reads : Readings) → wants content.Text ≡ true → ReadsText bytes reads →
-    Becomes wants reads (unread_title (title_of line p)) (read_title bytes (title_of line p))
-title-becomes bytes r line p q is wants reads w rt =
-    let title : Title = title_of line p in
-    becomes-append wants reads (title.front ++ linked_text title.text)
-    (title.front ++ read_text bytes title.text) title.back title.back
-    (becomes-append wants reads title.front title.front (linked_text title.text) (read_text bytes title.text)
-    (becomes-same wants reads title.front (no_links-unwanted wants title.front (front-unlinked line p)))
-    (text-becomes bytes r line p q is wants reads w rt))
-    (becomes-same wants reads title.back (no_links-unwanted wants title.back (back-unlinked line p)))

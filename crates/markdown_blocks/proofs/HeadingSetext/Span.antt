@@ -62,6 +62,4 @@ setext-span = record {
   block = λ options bytes row rows is are. Break;
   facts = λ options bytes row rows is begins are. absurd (setext-begins options row.on is.rest is.starts begins);
   shuts = λ options bytes row rows is begins are bs. absurd (setext-begins options row.on is.rest is.starts begins);
-  becomes = λ options bytes row rows is begins are wants reads text string texts strings.
-      absurd (setext-begins options row.on is.rest is.starts begins);
 }

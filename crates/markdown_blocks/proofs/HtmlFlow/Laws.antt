@@ -34,7 +34,6 @@ html-laws = record {
   set = λ ends options on r p es starts. cc;
   unspanned = λ ends options on r p starts. absurd (cc);
   facts = λ ends options on bytes r p q starts is. absurd (cc);
-  becomes = λ ends options on bytes r p q starts is wants reads w rt. absurd (cc);
 }
 
 -- and of a further line: it goes on the HTML that it meets.
@@ -60,5 +59,4 @@ html_further-laws = record {
   set = λ ends options on r p es starts. cc;
   unspanned = λ ends options on r p starts. absurd (cc);
   facts = λ ends options on bytes r p q starts is. absurd (cc);
-  becomes = λ ends options on bytes r p q starts is wants reads w rt. absurd (cc);
 }

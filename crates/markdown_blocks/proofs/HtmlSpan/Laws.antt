@@ -1,8 +1,7 @@
 -- The laws of HTML with all its lines, joined.
-use Rattle.std.proofs.Common.{◌≡◌, inl, ℕ, Bool, not, List, [], ◌∷◌, ◌++◌, refl, sym, ◌∙◌, ap, subst}
+use Rattle.std.proofs.Common.{◌≡◌, inl, ℕ, not, List, [], ◌∷◌, ◌++◌, refl, sym, ◌∙◌, ap, subst}
 use Rattle.std.specs.Prelude.{Option, Some}
 use Rattle.md_engine.specs.declared.configuration.ParseOptions.{ParseOptions}
-use Rattle.md_engine.specs.declared.event.Content.{Content}
 use Rattle.md_engine.specs.declared.event.Event.{Event}
 use Rattle.md_engine.specs.declared.event.Name.TheVariants as n
 use Rattle.md_engine.specs.declared.event.Point.{Point}
@@ -15,7 +14,6 @@ use Rattle.md_outline.specs.LinesStand.{begun_site}
 use Rattle.md_rich.specs.HtmlLine.{left_by}
 use Rattle.md_seam.specs.Events.Nested.{enter, enter_link, exit}
 use Rattle.md_seam.specs.Events.Spelled.{HtmlLeaf, OfHtml, fresh}
-use Rattle.md_seam.specs.Substituted.{Readings}
 use Rattle.markdown_blocks.specs.Fronted.{rest_line}
 use Rattle.markdown_blocks.specs.Leaf.HtmlFlow.{begins_as, html_further, html_leaf, kind_begun}
 use Rattle.markdown_blocks.specs.Rows.{Row, but_end, last_row, span_by, span_done}
@@ -29,17 +27,15 @@ use Rattle.markdown_blocks.proofs.HtmlSpan.Walk.{rest-line}
 use Rattle.markdown_blocks.proofs.LeafFacts.{LeafFacts}
 use Rattle.markdown_blocks.proofs.LostLine.Parts.{inside-lines, inside-others}
 use Rattle.markdown_blocks.proofs.LostLine.Places.{further-at}
-use Rattle.markdown_blocks.proofs.PartFacts.{NoLinks}
 use Rattle.markdown_blocks.proofs.PieceFacts.{Starts}
 use Rattle.markdown_blocks.proofs.Span.Cuts.{but_end-is}
 use Rattle.markdown_blocks.proofs.Span.Framed.{framed_by, line-spanned}
 use Rattle.markdown_blocks.proofs.Span.Lead.{lead-none}
 use Rattle.markdown_blocks.proofs.Span.Lines.{EndsLeaf, SpanFirst, ends-by}
 use Rattle.markdown_blocks.proofs.Span.Rest.{HasRest, block_by, came-shut, row_done, row_unread}
-use Rattle.markdown_blocks.proofs.Span.Whole.{rest-becomes, rest-facts}
+use Rattle.markdown_blocks.proofs.Span.Whole.{rest-facts}
 use Rattle.markdown_blocks.proofs.SpanLaws.{AreBehind, IsLineOf, IsNone, IsSpanned, SpanLaws, come_behind}
 use Rattle.markdown_blocks.proofs.SpannedFacts.{AreUnspanned}
-use Rattle.markdown_blocks.proofs.SubstitutedLemmas.{Becomes, becomes-same, no_links-unwanted}
 
 -- Each line by itself.
 
@@ -143,21 +139,6 @@ all-read options bytes row rows is are =
     (filled-read bytes (span_by row_unread row rows) (framed_by (row_done bytes) row rows)
     (all-facts options bytes row rows is are).filled)
 
--- Nothing of the first is read later.
-first-becomes : (options : ParseOptions) (bytes : List ℕ) (row : Row) → IsLineOf options bytes html_leaf row →
-    (wants : Content → Bool) (reads : Readings) →
-    Becomes wants reads (but_end row.inside) (but_end (row_done bytes row))
-first-becomes options bytes row is wants reads =
-    subst (λ (es : List Event). Becomes wants reads (but_end row.inside) (but_end es))
-    (sym (first-done options bytes row is))
-    (becomes-same wants reads (but_end row.inside)
-    (no_links-unwanted wants (but_end row.inside)
-    (subst NoLinks
-    (sym
-    (first-begins options bytes row is
-    ∙ ap (λ (es : List Event). enter n.HtmlFlow row.first ∷ es) (first-parts options bytes row is)))
-    (refl, (refl, (refl, tt))))))
-
 -- The laws.
 pub html-span : SpanLaws html_leaf html_further
 html-span = record {
@@ -172,10 +153,4 @@ html-span = record {
       (all-facts options bytes row rows is are);
   shuts = λ options bytes row rows is first are bs.
       came-shut options bs (all_came options bytes row rows is are) (rest-of options bytes row rows is are).came;
-  becomes = λ options bytes row rows is first are wants reads text string texts strings.
-      subst (λ (es : List Event). Becomes wants reads (span_by row_unread row rows) es)
-      (all-read options bytes row rows is are)
-      (rest-becomes bytes n.HtmlFlow behind_first (HtmlLeaf (line_of is.rest ∷ [])) (html_site is.rest) row rows
-      (all_came options bytes row rows is are) (first-ends options bytes row is)
-      (rest-of options bytes row rows is are) wants reads (first-becomes options bytes row is wants reads));
 }

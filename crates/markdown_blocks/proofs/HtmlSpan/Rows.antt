@@ -30,7 +30,7 @@ use Rattle.markdown_blocks.specs.Rows.{Row}
 use Rattle.markdown_blocks.proofs.FillFacts.{fill-same, filled-read}
 use Rattle.markdown_blocks.proofs.HtmlSpan.Lines.{html-inside, html_data, html_parts}
 use Rattle.markdown_blocks.proofs.LostLine.Facts.{line-placed}
-use Rattle.markdown_blocks.proofs.LostLine.Parts.{inside-others, inside-unlinked}
+use Rattle.markdown_blocks.proofs.LostLine.Parts.{inside-others}
 use Rattle.markdown_blocks.proofs.LostLine.Places.{FurtherAt, further-at, further-rest}
 use Rattle.markdown_blocks.proofs.LostLine.Shown.{left-clear}
 use Rattle.markdown_blocks.proofs.PrefixFacts.{is_bare}
@@ -155,7 +155,6 @@ further-line options bytes x left from leaf start site row is facts = record {
       (further-rest bytes is.rest row.first row.end at);
   others = inside-others parts (html-inside is.rest row.first row.end);
   balanced = (line-placed bytes n.HtmlFlowData 0 is.rest row.first row.end html_data at).nested.0;
-  unlinked = inside-unlinked parts (html-inside is.rest row.first row.end);
   bare = html-bare bytes is.rest row.first row.end at;
   empty = is.empty;
   facts = facts;

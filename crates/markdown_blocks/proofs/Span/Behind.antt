@@ -1,7 +1,7 @@
 -- A line that shows no block, behind a leaf: what is known of both together.
 --
 -- Between them stand the ending of the leaf, and prefixes of the containers that go on.
-use Rattle.std.proofs.Common.{◌≡◌, ℕ, Bool, true, List, [], ◌∷◌, ◌++◌, map, refl, sym, ◌∙◌, ap, subst, subst₂}
+use Rattle.std.proofs.Common.{◌≡◌, ℕ, Bool, true, List, [], ◌∷◌, ◌++◌, map, refl, sym, ◌∙◌, ap, subst₂}
 use Rattle.std.proofs.Common.{append-nil, append_assoc}
 use Rattle.std.specs.Prelude.{None, not, Option, Some}
 use Rattle.md_engine.specs.declared.event.Event.{Event}
@@ -20,7 +20,7 @@ use Rattle.md_seam.proofs.EndingsLemmas.{others-lead}
 use Rattle.md_seam.proofs.GrammarLemmas as grammar
 use Rattle.md_seam.proofs.SpelledLemmas.{Between, Roles, read-between, read-from, roles-append}
 use Rattle.markdown_blocks.specs.LineFlags.{ending_name}
-use Rattle.markdown_blocks.specs.Rows.{Row, ending_events, is_blank_row, last_row, span_behind}
+use Rattle.markdown_blocks.specs.Rows.{Row, is_blank_row, last_row, span_behind}
 use Rattle.markdown_blocks.proofs.BetweenFacts.{AreBetween, between-append, between-pair, ending-before, ending-behind}
 use Rattle.markdown_blocks.proofs.EachEvent.{each-append}
 use Rattle.markdown_blocks.proofs.EndingFacts.{ended-roles, ending-leads, ending-nested, ending-no_parts, ending-stood}
@@ -206,8 +206,6 @@ pub record IsOutside (bytes : List ℕ) (f : Row → List Event) (row : Row) : T
   pub facts :
       LeafFacts bytes None (not (is_blank_row row)) row.first row.end (map (renamed Outside) (f row))
       (map (renamed Outside) (f row))
-  -- nothing of it is read later
-  pub unlinked : NoLinks (map (renamed Outside) (f row))
 
 -- such lines behind one, behind prefixes of the containers alone
 abbrev pub AreOutside : List ℕ → (Row → List Event) → Row → List Row → Type 0
@@ -249,18 +247,3 @@ rows-behind bytes block f p row (next ∷ rows) us ds whole h are =
         append_assoc es (gap ++ line) (span_behind f next rows)
         ∙ ap (λ (l : List Event). es ++ (l ++ next.front ++ line ++ span_behind f next rows))
         (sym (ending-is (ending_name (is_blank_row row)) row are.0 are.1))
-
--- Nothing of them is read later.
-pub behind-unlinked : (bytes : List ℕ) (f : Row → List Event) (row : Row) (rows : List Row) →
-    AreOutside bytes f row rows → NoLinks (span_behind f row rows)
-behind-unlinked bytes f row [] are = tt
-behind-unlinked bytes f row (next ∷ rows) are =
-    let ended = ending_events (ending_name (is_blank_row row)) row in
-    let line = map (renamed Outside) (f next) in
-    each-append IsUnlinked (ended ++ next.front ++ line) (span_behind f next rows)
-    (each-append IsUnlinked (ended ++ next.front) line
-    (each-append IsUnlinked ended next.front
-    (subst NoLinks (sym (ending-is (ending_name (is_blank_row row)) row are.0 are.1))
-    (ending-unlinked (is_blank_row row) row.end are.0))
-    (fronts-unlinked bytes are.0 next.first next.front are.3)) are.4.unlinked)
-    (behind-unlinked bytes f next rows are.5)

@@ -31,14 +31,11 @@ use Rattle.md_seam.specs.Events.Tiles.{plain_read}
 use Rattle.md_seam.proofs.EndingsLemmas.{AreOthers, Leads, in_leaf, is_other, leads-append, others-lead}
 use Rattle.markdown_blocks.specs.Rows.{Row, but_ends, ending_events, is_empty_row, is_framed, last_row}
 use Rattle.markdown_blocks.proofs.ContainerNames.{TakesPrefixes}
-use Rattle.markdown_blocks.proofs.EachEvent.{each-append}
 use Rattle.markdown_blocks.proofs.FrontFacts.{LinePrefix}
 use Rattle.markdown_blocks.proofs.FrontLemmas.{fronts-balanced}
-use Rattle.markdown_blocks.proofs.FrontNames.{fronts-unlinked}
 use Rattle.markdown_blocks.proofs.FrontPlaces.{fronts-columns}
 use Rattle.markdown_blocks.proofs.FrontStands.{fronts-others}
 use Rattle.markdown_blocks.proofs.PartedFacts.{clear}
-use Rattle.markdown_blocks.proofs.PartFacts.{IsUnlinked, NoLinks}
 use Rattle.markdown_blocks.proofs.PrefixFacts.{is_bare}
 use Rattle.markdown_blocks.proofs.RowFacts.{IsEnding}
 use Rattle.markdown_blocks.proofs.Span.Cuts.{but_ends-is, ending-is}
@@ -120,7 +117,6 @@ pub record FurtherLine (bytes : List ℕ) (name : Name) (x left : Expression) (f
     pub clear : clear bytes row.first ≡ true
     pub others : AreOthers parts
     pub balanced : Balanced parts
-    pub unlinked : NoLinks parts
     -- nothing stands in it just where it ends where it began; its ending is then that of a blank line, where no prefix
     -- stands in front
     pub bare : is_bare parts ≡ is_empty_row row
@@ -139,8 +135,7 @@ pub record HasRest (bytes : List ℕ) (name : Name) (left : Expression) (leaf : 
   pub block : block_of to ≡ block_by c
   -- whether something stands on the last line, as its endings say
   pub fills : (full : Bool) → Leads (in_leaf full) (in_leaf (full_behind full rows)) (framed_rest row_unread row rows)
-  -- nothing is read of them later
-  pub unlinked : NoLinks (framed_rest row_unread row rows)
+  -- nothing is read of them
   pub same : framed_rest (row_done bytes) row rows ≡ framed_rest row_unread row rows
 
 -- none
@@ -155,7 +150,6 @@ rest-none bytes name left leaf site row c ends leave is block = record {
   came = is;
   block = block;
   fills = λ full ys. refl;
-  unlinked = tt;
   same = refl;
 }
 
@@ -193,12 +187,6 @@ rest-more bytes name left x after leaf to site end row next rows c q at ending f
       (subst
       (λ (full : Bool). Leads (in_leaf full) (in_leaf (full_behind (not next.empty) rows))
       (framed_rest row_unread next rows)) (sym filled) (rest.fills (not next.empty)));
-  unlinked =
-      each-append IsUnlinked (ended ++ next.front ++ but_ends next.inside) (framed_rest row_unread next rows)
-      (each-append IsUnlinked (ended ++ next.front) (but_ends next.inside)
-      (each-append IsUnlinked ended next.front
-      (subst NoLinks (sym (ending-is n.LineEnding row q at)) (refl, (refl, tt)))
-      (fronts-unlinked bytes q next.first next.front front)) (subst NoLinks (sym parts) line.unlinked)) rest.unlinked;
   same =
       ap₂ (λ (es fs : List Event). ended ++ next.front ++ but_ends es ++ fs) done rest.same;
 }

@@ -1,28 +1,23 @@
 -- A leaf whose lines all have a begin and an end: its first line and its further lines, joined.
 use Rattle.std.proofs.Common.{◌≡◌, ℕ, Bool, true, false, not, List, [], ◌∷◌, ◌++◌, refl, sym, ◌∙◌, subst, subst₂}
 use Rattle.std.specs.Prelude.{Some}
-use Rattle.md_engine.specs.declared.event.Content.{Content}
 use Rattle.md_engine.specs.declared.event.Event.{Event}
 use Rattle.md_engine.specs.declared.event.Name.{Name}
 use Rattle.md_engine.specs.declared.event.Name.TheVariants as n
 use Rattle.md_definition.specs.Leaves.{Came}
 use Rattle.md_definition.specs.Tree.{Block}
-use Rattle.md_outline.specs.LinesStand.{HasLines, Site, begun_site}
+use Rattle.md_outline.specs.LinesStand.{HasLines, begun_site}
 use Rattle.md_seam.specs.Events.Endings.{endings_stand_from}
-use Rattle.md_seam.specs.Events.Grammar.{Expression}
 use Rattle.md_seam.specs.Events.Nested.{enter, exit}
 use Rattle.md_seam.specs.Events.Places.{first_point}
-use Rattle.md_seam.specs.Events.Spelled.{LeafKind, OpenLeaf, fresh}
-use Rattle.md_seam.specs.Substituted.{Readings}
+use Rattle.md_seam.specs.Events.Spelled.{LeafKind, fresh}
 use Rattle.md_seam.proofs.EndingsLemmas.{AreOthers, Leads, Stays, in_leaf, leads-append, others-lead}
-use Rattle.markdown_blocks.specs.Rows.{Row, but_end, end_of, last_row, span_by}
+use Rattle.markdown_blocks.specs.Rows.{Row, last_row, span_by}
 use Rattle.markdown_blocks.proofs.LeafFacts.{LeafFacts}
-use Rattle.markdown_blocks.proofs.PartFacts.{NoLinks}
 use Rattle.markdown_blocks.proofs.Span.Framed.{framed_by, framed_rest, span-framed}
 use Rattle.markdown_blocks.proofs.Span.Leaf.{IsLeafName}
-use Rattle.markdown_blocks.proofs.Span.Lines.{EndsLeaf, SpanFirst, last-ends, span-facts, span-inside}
+use Rattle.markdown_blocks.proofs.Span.Lines.{SpanFirst, span-facts, span-inside}
 use Rattle.markdown_blocks.proofs.Span.Rest.{HasRest, block_by, full-last, full_behind, row_done, row_unread}
-use Rattle.markdown_blocks.proofs.SubstitutedLemmas.{Becomes, becomes-append, becomes-same, no_links-unwanted}
 
 -- Where events lead that stay in a leaf is told by them alone.
 pub stays-same : (es : List Event) (h : Stays es) (full : Bool) → Leads (in_leaf true) (in_leaf full) es →
@@ -79,31 +74,3 @@ rest-facts bytes name kind row rows c named lined first rest unread_others other
         subst (λ (x : Bool). Leads (in_leaf true) (in_leaf x) (xs ++ ys)) (full-last true row rows (sym some))
         (leads-append (in_leaf true) (in_leaf true) (in_leaf (full_behind true rows)) xs ys
         (others-lead (in_leaf true) xs refl h) (k true))
-
--- Whoever reads text parts as the plain layer does gives what is read of the lines, if so does the first.
-pub rest-becomes : (bytes : List ℕ) (name : Name) (left : Expression) (leaf : OpenLeaf) (site : Site) (row : Row)
-    (rows : List Row) (c : Came) →
-    EndsLeaf row_unread (row_done bytes) name row → HasRest bytes name left leaf site row rows c →
-    (wants : Content → Bool) (reads : Readings) →
-    Becomes wants reads (but_end row.inside) (but_end (row_done bytes row)) →
-    Becomes wants reads (span_by row_unread row rows) (framed_by (row_done bytes) row rows)
-rest-becomes bytes name left leaf site row rows c first_ends rest wants reads begins =
-    subst (λ (joined : List Event). Becomes wants reads joined (framed_by (row_done bytes) row rows))
-    (sym (span-framed row_unread row rows rest.framed))
-    (becomes-append wants reads (but_end row.inside ++ framed_rest row_unread row rows)
-    (but_end (row_done bytes row) ++ framed_rest (row_done bytes) row rows) (end_of (last_row row rows).inside)
-    (end_of (row_done bytes (last_row row rows)))
-    (becomes-append wants reads (but_end row.inside) (but_end (row_done bytes row)) (framed_rest row_unread row rows)
-    (framed_rest (row_done bytes) row rows) begins
-    (subst (λ (es : List Event). Becomes wants reads (framed_rest row_unread row rows) es) (sym rest.same)
-    (same (framed_rest row_unread row rows) rest.unlinked)))
-    (subst (λ (xs : List Event). Becomes wants reads xs (end_of (row_done bytes (last_row row rows))))
-    (sym ends.unread_end)
-    (subst (λ (xs : List Event). Becomes wants reads (exit name (last_row row rows).end ∷ []) xs) (sym ends.end)
-    (same (exit name (last_row row rows).end ∷ []) (refl, tt)))))
-  where
-    same : (xs : List Event) → NoLinks xs → Becomes wants reads xs xs
-    same xs h = becomes-same wants reads xs (no_links-unwanted wants xs h)
-
-    ends : EndsLeaf row_unread (row_done bytes) name (last_row row rows)
-    ends = last-ends bytes row_unread (row_done bytes) name left leaf rest.to site row rows first_ends rest.further

@@ -96,11 +96,6 @@ pub break-unspanned : (line : List ℕ) (p : Point) → AreUnspanned (break_line
 break-unspanned line p =
     break-holds IsUnspanned (λ q. refl, λ q. refl) (λ q. refl, λ q. refl) (λ q. refl, λ q. refl) line p
 
--- nothing is read of it later
-pub break-unlinked : (line : List ℕ) (p : Point) → NoLinks (break_line line p)
-break-unlinked line p =
-    break-holds IsUnlinked (λ q. refl, λ q. refl) (λ q. refl, λ q. refl) (λ q. refl, λ q. refl) line p
-
 -- What it is over.
 
 -- a marker of breaks

@@ -6,8 +6,7 @@ use Rattle.std.specs.Prelude.{◌&&◌, not}
 use Rattle.markdown_blocks.specs.Fronted.{rest_line}
 use Rattle.markdown_blocks.specs.Leaf.ThematicBreak.{break_leaf}
 use Rattle.markdown_blocks.proofs.LeafLaws.{LeafLaws}
-use Rattle.markdown_blocks.proofs.SubstitutedLemmas.{becomes-same, no_links-unwanted}
-use Rattle.markdown_blocks.proofs.ThematicBreak.Facts.{break-facts, break-set, break-unlinked, break-unspanned}
+use Rattle.markdown_blocks.proofs.ThematicBreak.Facts.{break-facts, break-set, break-unspanned}
 use Rattle.markdown_blocks.proofs.ThematicBreak.Kinds.{break-fits}
 use Rattle.markdown_blocks.proofs.ThematicBreak.Runs.{break-adds, break-no_content, break-own}
 use Rattle.markdown_blocks.proofs.ThematicBreak.Trial.{break-looked, break-refused, break-shrinks, break-took}
@@ -48,7 +47,4 @@ break-laws = record {
   unspanned = λ ends options on r p starts. break-unspanned (rest_line r) p;
   set = λ ends options on r p es starts. break-set (rest_line r) p es;
   facts = λ ends options on bytes r p q starts. break-facts options bytes r p q (ruled options on r starts);
-  becomes = λ ends options on bytes r p q starts at wants reads text read.
-      becomes-same wants reads (break_leaf.unread (rest_line r) p)
-      (no_links-unwanted wants (break_leaf.unread (rest_line r) p) (break-unlinked (rest_line r) p));
 }

@@ -30,7 +30,6 @@ use Rattle.markdown_blocks.proofs.PlainFacts.{known-around}
 use Rattle.markdown_blocks.proofs.Span.Inside.{InsideFacts, inside-append}
 use Rattle.markdown_blocks.proofs.SpanLemmas.{around-nested}
 use Rattle.markdown_blocks.proofs.Text.Facts.{end-clear, kept-of, lines-read}
-pub use Rattle.markdown_blocks.proofs.Turned.Becomes.{turned-becomes}
 use Rattle.markdown_blocks.proofs.Turned.Events.{gap_events, heading_left, inside_events, line_left, so_far}
 use Rattle.markdown_blocks.proofs.Turned.Events.{text_events, turned-is, under_left}
 use Rattle.markdown_blocks.proofs.Turned.Gap.{gap-inside}

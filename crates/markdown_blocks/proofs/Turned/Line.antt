@@ -26,7 +26,6 @@ use Rattle.markdown_blocks.proofs.HeadingSetext.Line.{underline-plain, underline
 use Rattle.markdown_blocks.proofs.HeadingSetext.Line.{underline-stood, underline-tiled, underline-unlinked}
 use Rattle.markdown_blocks.proofs.HeadingSetext.Line.{underline-word, underline_marks, underline_parts}
 use Rattle.markdown_blocks.proofs.PartedFacts.{clear}
-use Rattle.markdown_blocks.proofs.PartFacts.{NoLinks}
 use Rattle.markdown_blocks.proofs.PartsStand.{stands-outside}
 use Rattle.markdown_blocks.proofs.PiecesLemmas.{Tiled}
 use Rattle.markdown_blocks.proofs.RestFacts.{rest-trim}
@@ -44,8 +43,6 @@ pub record LineInside (bytes : List ℕ) (p q : Point) (r : Rest) (es : List Eve
       InsideFacts bytes p q line_left Nothing (so_far [] lines) (so_far markers lines) BehindTitle BehindUnderline es es
   -- something stands on their line
   pub fills : Filling es
-  -- nothing of them is read later
-  pub unlinked : NoLinks es
 
 -- where it begins no tab of a character is cut
 pub line-clear : (options : ParseOptions) (bytes : List ℕ) (under : Row) → IsLineOf options bytes setext_leaf under →
@@ -70,7 +67,6 @@ line-inside options bytes under is = record {
       InsideFacts bytes p q line_left Nothing (so_far [] lines) (so_far marks lines) BehindTitle BehindUnderline es es)
       (sym is.inside) (facts lines);
   fills = subst Filling (sym is.inside) (line-fills line p);
-  unlinked = subst NoLinks (sym is.inside) (underline-unlinked line p);
 }
   where
     line : List ℕ

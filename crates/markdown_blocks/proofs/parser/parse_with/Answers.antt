@@ -1,14 +1,15 @@
 use Rattle.std.proofs.Common.{◌≡◌, ◌^◌, ◌<◌, ℕ, List, length, ◌∙◌, ap, refl, sym, subst, arith}
 use Rattle.std.specs.Str.{IsUtf8}
-use Rattle.md_engine.specs.Found.{Found, found_in}
+use Rattle.md_engine.specs.Found.{found_in}
 use Rattle.md_engine.specs.World.{Setting, World, world}
 use Rattle.md_engine.specs.declared.event.Event.{Event}
-use Rattle.md_engine.specs.declared.event.Point.{Point}
 use Rattle.md_engine.specs.declared.parse_state.ParseState.{ParseState}
 use Rattle.md_seam.specs.TextPart.{document_of}
 use Rattle.markdown_blocks.specs.Footnotes.{footnotes_listed}
 use Rattle.markdown_blocks.specs.Parsed.{IsRead}
 use Rattle.markdown_blocks.proofs.ReadsWith.{IsAhead, parts-asked, reads-with}
+use Rattle.markdown_blocks.proofs.parser.parse_with.Given.{Over}
+use Rattle.markdown_blocks.proofs.parser.parse_with.Goals.{After-deref-2}
 use Rattle.markdown_blocks.proofs.parser.parse_with.Goals as goal
 
 pub read_front-requires : goal.read_front-requires
@@ -28,27 +29,29 @@ subtokenize-requires-clause-placed g c =
     c.as_bytes-bytes.result.now = ap (λ (x : Setting). x.bytes) c.in_ok-tokenizer.ensures.setting in
     rw events_are (rw same at c.in_ok-tokenizer.tokenizer.sound.right)
 
-pub subtokenize-requires-clause-asked : goal.subtokenize-requires-clause-asked
-subtokenize-requires-clause-asked g c =
+-- the state that the layer is told
+abbrev state_of : (g : Over) → After-deref-2 g → ParseState
+state_of g c = record {
+  options = c.args.options;
+  bytes = c.as_bytes-bytes.result;
+  definitions = c.in_ok-tokenizer.found.definitions;
+  gfm_footnote_definitions = c.in_ok-footnotes.footnotes;
+}
+
+-- what is known before it reads a part
+is-ahead : (g : Over) (c : After-deref-2 g) →
+    IsAhead (state_of g c) c.in_ok-front.front.point (found_in c.in_ok-tokenizer.found)
+    (world c.in_ok-tokenizer.tokenizer) c.in_ok-front.front.events.items c.deref-2.result.now
+is-ahead g c =
     let bytes : List ℕ = c.as_bytes-bytes.result.now in
-    let state : ParseState = record {
-      options = c.args.options;
-      bytes = c.as_bytes-bytes.result;
-      definitions = c.in_ok-tokenizer.found.definitions;
-      gfm_footnote_definitions = c.in_ok-footnotes.footnotes;
-    } in
-    let start : Point = c.in_ok-front.front.point in
-    let found : Found = found_in c.in_ok-tokenizer.found in
-    let new : World = world c.in_ok-tokenizer.tokenizer in
-    let mark : List Event = c.in_ok-front.front.events.items in
     let items : List Event = c.deref-2.result.now in
-    let items_are : items ≡ new.events =
+    let items_are : items ≡ (world c.in_ok-tokenizer.tokenizer).events =
     c.deref-2.ensures.value ∙ ap (λ (w : World). w.events) c.take_spare-spare.ensures.same in
     let same : c.in_ok-tokenizer.tokenizer.bytes.now ≡ bytes =
     ap (λ (x : Setting). x.bytes) c.in_ok-tokenizer.ensures.setting in
     let text : bytes ≡ c.args.value.now = c.as_bytes-bytes.ensures.value in
     let small : length c.args.value.now < 2 ^ 61 = omega (arith, c.requires.size) in
-    let ahead : IsAhead state start found new mark items = record {
+    record {
       built = c.requires.built;
       utf8 = subst IsUtf8 (sym text) c.utf8.value;
       small = subst (λ (l : List ℕ). length l < 2 ^ 61) (sym text) small;
@@ -62,47 +65,22 @@ subtokenize-requires-clause-asked g c =
       footnotes =
           c.in_ok-footnotes.ensures
           ∙ ap (footnotes_listed c.args.options.now bytes) (c.deref.ensures.value ∙ sym items_are);
-    } in
-    parts-asked state start found new mark items ahead
+    }
+
+pub subtokenize-requires-clause-asked : goal.subtokenize-requires-clause-asked
+subtokenize-requires-clause-asked g c =
+    parts-asked (state_of g c) c.in_ok-front.front.point (found_in c.in_ok-tokenizer.found)
+    (world c.in_ok-tokenizer.tokenizer) c.in_ok-front.front.events.items c.deref-2.result.now (is-ahead g c)
 
 pub returns : goal.returns
 returns g c =
-    let bytes : List ℕ = c.as_bytes-bytes.result.now in
-    let state : ParseState = record {
-      options = c.args.options;
-      bytes = c.as_bytes-bytes.result;
-      definitions = c.in_ok-tokenizer.found.definitions;
-      gfm_footnote_definitions = c.in_ok-footnotes.footnotes;
-    } in
-    let start : Point = c.in_ok-front.front.point in
-    let found : Found = found_in c.in_ok-tokenizer.found in
-    let new : World = world c.in_ok-tokenizer.tokenizer in
-    let mark : List Event = c.in_ok-front.front.events.items in
-    let items : List Event = c.deref-2.result.now in
-    let items_are : items ≡ new.events =
-    c.deref-2.ensures.value ∙ ap (λ (w : World). w.events) c.take_spare-spare.ensures.same in
-    let same : c.in_ok-tokenizer.tokenizer.bytes.now ≡ bytes =
-    ap (λ (x : Setting). x.bytes) c.in_ok-tokenizer.ensures.setting in
-    let text : bytes ≡ c.args.value.now = c.as_bytes-bytes.ensures.value in
-    let small : length c.args.value.now < 2 ^ 61 = omega (arith, c.requires.size) in
-    let ahead : IsAhead state start found new mark items = record {
-      built = c.requires.built;
-      utf8 = subst IsUtf8 (sym text) c.utf8.value;
-      small = subst (λ (l : List ℕ). length l < 2 ^ 61) (sym text) small;
-      starts = c.in_ok-front.ensures.point;
-      marks = c.in_ok-front.ensures.events;
-      flow = c.in_ok-tokenizer.ensures;
-      items_are = items_are;
-      mark_placed = rw c.in_ok-front.ensures.bytes_are at c.in_ok-front.front.sound.right;
-      items_placed = rw items_are (rw same at c.in_ok-tokenizer.tokenizer.sound.right);
-      definitions = refl;
-      footnotes =
-          c.in_ok-footnotes.ensures
-          ∙ ap (footnotes_listed c.args.options.now bytes) (c.deref.ensures.value ∙ sym items_are);
-    } in
+    let before : After-deref-2 g = (goal.at.returns g c).After-deref-2 in
+    let state : ParseState = state_of g before in
     subst
     (λ (l : List ℕ).
-    IsRead (g.I.Inline.reads c.args.inline.now) l c.args.options.now c.in_ok-events.events.items state) text
-    (reads-with state start found new mark items ahead (g.I.Inline.reads c.args.inline.now)
+    IsRead (g.I.Inline.reads c.args.inline.now) l c.args.options.now c.in_ok-events.events.items state)
+    c.as_bytes-bytes.ensures.value
+    (reads-with state c.in_ok-front.front.point (found_in c.in_ok-tokenizer.found) (world c.in_ok-tokenizer.tokenizer)
+    c.in_ok-front.front.events.items c.deref-2.result.now (is-ahead g before) (g.I.Inline.reads c.args.inline.now)
     (g.met.I.Inline.keeps_frame c.args.inline.now (document_of state)) c.in_ok-body.body.items
     c.in_ok-events.events.items c.in_ok-body.ensures.substituted c.in_ok-events.ensures)
