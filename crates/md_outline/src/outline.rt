@@ -432,6 +432,7 @@ impl<'a> Reading<'a> {
 /// The outline of what `parse` has read: the lines of the tree that the events spell out.
 ///
 /// An `Err` says that memory ran out; then nothing is handed out.
+#[inline(never)]
 pub fn outline<'a>(
     alloc: Global,
     events: &[Event],

@@ -36,6 +36,7 @@ fn push_all(text: &mut String, outlined: &Outlined) -> Result<(), AllocError>
     push_labels(text, "footnotes ", outlined.footnotes.as_slice())
 }
 
+#[inline(never)]
 fn push_lines(text: &mut String, lines: &[OutlineLine]) -> Result<(), AllocError>
     ensures { OnOk result
         (string_bytes text.new ≡ string_bytes text.old ++ flat_map printed_line (map entry_of lines.now)) }
@@ -58,6 +59,7 @@ fn push_line(text: &mut String, line: &OutlineLine) -> Result<(), AllocError>
 }
 
 /// Puts two spaces a depth behind the text: at once for as few depths as most lines have.
+#[inline(always)]
 fn push_few(text: &mut String, depth: usize) -> Result<(), AllocError>
     ensures { OnOk result (string_bytes text.new ≡ string_bytes text.old ++ repeat depth (codes "  ")) }
 {

@@ -247,6 +247,7 @@ impl Found {
 }
 
 /// The events with what `reader` finds in the places of the parts that it reads, written into `spare`.
+#[inline(never)]
 pub fn subtokenize<R: Reader>(
     alloc: Global,
     reader: &R,

@@ -1,10 +1,13 @@
 -- The walk that gives tables their heads, bodies and cells.
-use Rattle.std.specs.Prelude.{Bool, true, false, ◌&&◌, List, ◌++◌}
+use Rattle.std.specs.Prelude.{◌≡◌, ◌<◌, ℕ, Bool, true, false, ◌&&◌, List, ◌++◌}
 use Rattle.md_engine.specs.declared.event.Event.{Event}
 use Rattle.md_engine.specs.declared.event.Name.{Name}
 use Rattle.md_engine.specs.declared.event.Name.TheVariants as n
 use Rattle.md_seam.specs.Events.Nested.{is_enter, is_exit}
 use Rattle.md_tables.specs.Tabled.{tabled_from}
+use Rattle.md_tables.specs.declared.cells.RowKind.{RowKind}
+use Rattle.md_tables.specs.declared.cells.Stage.{Stage}
+use Rattle.md_tables.specs.declared.cells.Stage.TheVariants.{Within}
 use Rattle.md_tables.specs.declared.tables.Section.{Section}
 use Rattle.md_tables.specs.declared.tables.Section.TheVariants.{Between, Outside}
 use Rattle.md_tables.specs.declared.tables.Walk.{Walk}
@@ -12,6 +15,11 @@ use Rattle.md_tables.specs.declared.tables.Walk.{Walk}
 -- what it gives in all, with these events left
 abbrev pub in_all : Walk → List Event → List Event
 in_all w rest = w.rows.given.items ++ tabled_from w.section w.rows.stage rest
+
+-- a part, of so many events, after which the walk is in a cell again
+pub record IsWithin (kind : RowKind) (many : ℕ) (stage : Stage) : Type 0 where
+  pub some : 0 < many
+  pub is : stage ≡ Within kind
 
 abbrev pub in_table : Section → Bool
 in_table Outside = false

@@ -204,6 +204,7 @@ fn until_chunk(events: &[Event]) -> usize
 }
 
 /// The events with each head in the place of its chunk, written into `spare`, which is empty.
+#[inline(never)]
 pub fn put_heads(
     alloc: Global,
     bytes: &[u8],

@@ -1,7 +1,7 @@
 // Parts of a table that are passed at once: their begin, and their end right behind it.
 
 ghost use Rattle.std.specs.Prelude.{◌≡◌, ◌≤◌, ◌∷◌, IfOk, drop, length, true};
-ghost use Rattle.md_tables.specs.Goes.{ends_text_row, in_all, in_table, is_between, is_ending, is_pair};
+ghost use Rattle.md_tables.specs.Goes.{IsWithin, ends_text_row, in_all, in_table, is_between, is_ending, is_pair};
 ghost use Rattle.md_tables.specs.Cells.{is_divider, is_inner, is_white};
 ghost use Rattle.md_tables.specs.declared.cells.Stage.TheVariants.{Behind, Front, Inner, Outside, Within};
 
@@ -76,7 +76,8 @@ fn is_between(section: Section) -> bool
 }
 
 impl Walk {
-    /// Goes on in a cell, in front of what it holds, with a piece of that: the whole of it, or its begin.
+    /// Goes on in a cell, in front of what it holds, with a piece of that: the whole of it, or its begin. Says how many
+    /// events that are, and whether the walk stays there.
     #[inline(always)]
     fn piece_within(
         &mut self,
@@ -84,27 +85,29 @@ impl Walk {
         begin: &Event,
         end: &Event,
         behind: &[Event],
-    ) -> Result<usize, Message>
+    ) -> Result<(usize, bool), Message>
         requires section { in_table self.old.section ≡ true }
         requires stage { self.old.rows.stage ≡ Within kind }
         requires piece { is_pair (is_inner kind) begin.now end.now ≡ true }
         ensures section { self.new.section ≡ self.old.section }
-        ensures within { IfOk result (λ many. many ≤ 2) }
-        ensures in_all { IfOk result (λ many.
-            in_all self.new (drop many (begin.now ∷ end.now ∷ behind.now))
+        ensures stays { IfOk result (λ part. part.1 ≡ true → IsWithin kind part.0 self.new.rows.stage) }
+        ensures within { IfOk result (λ part. part.0 ≤ 2) }
+        ensures in_all { IfOk result (λ part.
+            in_all self.new (drop part.0 (begin.now ∷ end.now ∷ behind.now))
             ≡ in_all self.old (begin.now ∷ end.now ∷ behind.now)) }
     {
         let name = inner_name(kind);
         if goes_on(kind, behind) {
             give_first(&mut self.rows.given, name, begin)?;
             self.rows.stage = Stage::Inner(kind);
-            return Ok(1);
+            return Ok((1, false));
         }
         give_whole(&mut self.rows.given, name, begin, end)?;
-        Ok(2)
+        Ok((2, true))
     }
 
-    /// Goes on in a cell at a pipe, which ends the cell, and begins the next one if it is not the last of its row.
+    /// Goes on in a cell at a pipe, which ends the cell, and begins the next one if it is not the last of its row. Says
+    /// how many events that are, and whether the walk stays there.
     #[inline(always)]
     fn pipe_within(
         &mut self,
@@ -112,41 +115,45 @@ impl Walk {
         begin: &Event,
         end: &Event,
         behind: &[Event],
-    ) -> Result<usize, Message>
+    ) -> Result<(usize, bool), Message>
         requires section { in_table self.old.section ≡ true }
         requires stage { self.old.rows.stage ≡ Within kind }
         requires pipe { is_pair is_divider begin.now end.now ≡ true }
         ensures section { self.new.section ≡ self.old.section }
-        ensures within { IfOk result (λ many. many ≤ 2) }
-        ensures in_all { IfOk result (λ many.
-            in_all self.new (drop many (begin.now ∷ end.now ∷ behind.now))
+        ensures stays { IfOk result (λ part. part.1 ≡ true → IsWithin kind part.0 self.new.rows.stage) }
+        ensures within { IfOk result (λ part. part.0 ≤ 2) }
+        ensures in_all { IfOk result (λ part.
+            in_all self.new (drop part.0 (begin.now ∷ end.now ∷ behind.now))
             ≡ in_all self.old (begin.now ∷ end.now ∷ behind.now)) }
     {
         let name = cell_name(kind);
         if row_ends(behind) {
             give_two_last(&mut self.rows.given, begin, end, name)?;
             self.rows.stage = Stage::Behind;
-            return Ok(2);
+            return Ok((2, false));
         }
         give_between(&mut self.rows.given, name, begin, end)?;
-        Ok(2)
+        Ok((2, true))
     }
 
-    /// Goes on in a cell, in front of what it holds or behind that.
+    /// Goes on in a cell, in front of what it holds or behind that. Says with how many events, and whether the walk stays
+    /// there.
     #[inline(always)]
-    fn part_within(&mut self, kind: RowKind, events: &[Event]) -> Result<usize, Message>
+    fn part_within(&mut self, kind: RowKind, events: &[Event]) -> Result<(usize, bool), Message>
         requires section { in_table self.old.section ≡ true }
         requires stage { self.old.rows.stage ≡ Within kind }
         ensures section { self.new.section ≡ self.old.section }
-        ensures within { IfOk result (λ many. many ≤ length events.now) }
-        ensures in_all { IfOk result (λ many. in_all self.new (drop many events.now) ≡ in_all self.old events.now) }
+        ensures stays { IfOk result (λ part. part.1 ≡ true → IsWithin kind part.0 self.new.rows.stage) }
+        ensures within { IfOk result (λ part. part.0 ≤ length events.now) }
+        ensures in_all { IfOk result
+            (λ part. in_all self.new (drop part.0 events.now) ≡ in_all self.old events.now) }
     {
         let [begin, end, behind @ ..] = events else {
-            return Ok(0);
+            return Ok((0, false));
         };
         if is_white_pair(begin, end) {
             give_two(&mut self.rows.given, begin, end)?;
-            return Ok(2);
+            return Ok((2, true));
         }
         if is_piece(kind, begin, end) {
             return self.piece_within(kind, begin, end, behind);
@@ -154,7 +161,27 @@ impl Walk {
         if is_pipe(begin, end) {
             return self.pipe_within(kind, begin, end, behind);
         }
-        Ok(0)
+        Ok((0, false))
+    }
+
+    /// Goes on in a cell, and in those behind it, as long as it stays in front of what they hold or behind that. Says with
+    /// how many events.
+    #[inline(always)]
+    fn parts_within(&mut self, kind: RowKind, events: &[Event]) -> Result<usize, Message>
+        requires section { in_table self.old.section ≡ true }
+        requires stage { self.old.rows.stage ≡ Within kind }
+        ensures section { self.new.section ≡ self.old.section }
+        ensures within { IfOk result (λ many. many ≤ length events.now) }
+        ensures in_all { IfOk result (λ many. in_all self.new (drop many events.now) ≡ in_all self.old events.now) }
+    {
+        let mut at = 0;
+        loop {
+            let (many, stays) = self.part_within(kind, &events[at..])?;
+            at += many;
+            if !stays {
+                return Ok(at);
+            }
+        }
     }
 
     /// Goes on in what a cell holds at the end of a piece of it: up to the next piece, or behind all of it.
@@ -262,7 +289,7 @@ impl Walk {
         ensures in_all { IfOk result (λ many. in_all self.new (drop many events.now) ≡ in_all self.old events.now) }
     {
         match self.rows.stage {
-            Stage::Within(kind) => self.part_within(kind, events),
+            Stage::Within(kind) => self.parts_within(kind, events),
             Stage::Inner(kind) => self.part_inner(kind, events),
             Stage::Front(kind) => self.part_front(kind, events),
             Stage::Outside => self.part_outside(events),

@@ -259,6 +259,7 @@ impl Walk {
 }
 
 /// The events with the heads, bodies and cells of their tables, written into `spare`, which is empty.
+#[inline(never)]
 pub fn put_tables(events: &[Event], spare: Vec<Event>) -> Result<Vec<Event>, Message>
     requires { spare.items ≡ [] }
     ensures events { IfOk result (λ all. all.items ≡ tabled events.now) }

@@ -1,15 +1,7 @@
-use Rattle.std.proofs.Common.{ℕ, ◌≡◌, ◌≤◌, ◌-◌, drop, length}
-use Rattle.md_engine.specs.declared.event.Event.{Event}
-use Rattle.std.specs.Prelude.{List}
+use Rattle.std.proofs.Common.{◌-◌, drop, length}
 use Rattle.md_tables.specs.Goes.{in_all}
-use Rattle.md_tables.specs.declared.tables.Section.{Section}
+use Rattle.md_tables.proofs.TabledWalk.{Stays}
 use Rattle.md_tables.proofs.tables.Walk.parts.Given as goal
-
--- what the walk gives in all stays, and so does the section; it stays within the events
-pub record Stays (now before : Section) (at : ℕ) (events left whole : List Event) : Type 0 where
-  pub within : at ≤ length events
-  pub section : now ≡ before
-  pub all : left ≡ whole
 
 abbrev pub invariant-loop-at : goal.invariant-loop-at
 invariant-loop-at l =
