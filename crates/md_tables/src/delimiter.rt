@@ -87,6 +87,7 @@ fn take_mark(tokenizer: &mut Tokenizer, name: Name, next: TableState) -> State
 /// > | | - |
 ///     ^
 /// ```
+#[inline(always)]
 pub fn start(tokenizer: &mut Tokenizer) -> State
     requires { IsAt DelimiterNeeds (StateName.GfmTable TableState.HeadDelimiterStart) (world tokenizer.old) }
     ensures to { result ≢ State.Error → result ≡ (start_transition (world tokenizer.old)).to }
@@ -105,6 +106,7 @@ pub fn start(tokenizer: &mut Tokenizer) -> State
 /// > | | - |
 ///     ^   ^
 /// ```
+#[inline(always)]
 pub fn before(tokenizer: &mut Tokenizer) -> State
     requires { IsAt DelimiterNeeds (StateName.GfmTable TableState.HeadDelimiterBefore) (world tokenizer.old) }
     ensures to { result ≢ State.Error → result ≡ (before_transition (world tokenizer.old)).to }
@@ -130,6 +132,7 @@ pub fn before(tokenizer: &mut Tokenizer) -> State
 /// > | | - |
 ///      ^
 /// ```
+#[inline(always)]
 pub fn cell_before(tokenizer: &mut Tokenizer) -> State
     requires { IsAt DelimiterNeeds (StateName.GfmTable TableState.HeadDelimiterCellBefore) (world tokenizer.old) }
     ensures to { result ≢ State.Error → result ≡ (cell_before_transition (world tokenizer.old)).to }
@@ -146,6 +149,7 @@ pub fn cell_before(tokenizer: &mut Tokenizer) -> State
 /// > | | - |
 ///       ^
 /// ```
+#[inline(always)]
 pub fn value_before(tokenizer: &mut Tokenizer) -> State
     requires { IsAt DelimiterNeeds (StateName.GfmTable TableState.HeadDelimiterValueBefore) (world tokenizer.old) }
     ensures to { result ≢ State.Error → result ≡ (value_before_transition (world tokenizer.old)).to }
@@ -173,6 +177,7 @@ pub fn value_before(tokenizer: &mut Tokenizer) -> State
 /// > | | :- |
 ///        ^
 /// ```
+#[inline(always)]
 pub fn left_alignment_after(tokenizer: &mut Tokenizer) -> State
     requires { IsAt DelimiterNeeds (StateName.GfmTable TableState.HeadDelimiterLeftAlignmentAfter) (world tokenizer.old) }
     ensures to { result ≢ State.Error → result ≡ (left_after_transition (world tokenizer.old)).to }
@@ -195,6 +200,7 @@ pub fn left_alignment_after(tokenizer: &mut Tokenizer) -> State
 /// > | | - |
 ///       ^
 /// ```
+#[inline(always)]
 pub fn filler(tokenizer: &mut Tokenizer) -> State
     requires { IsAt DelimiterNeeds (StateName.GfmTable TableState.HeadDelimiterFiller) (world tokenizer.old) }
     ensures to { result ≢ State.Error → result ≡ (filler_transition (world tokenizer.old)).to }
@@ -227,6 +233,7 @@ pub fn filler(tokenizer: &mut Tokenizer) -> State
 /// > | | -: |
 ///         ^
 /// ```
+#[inline(always)]
 pub fn right_alignment_after(tokenizer: &mut Tokenizer) -> State
     requires { IsAt DelimiterNeeds (StateName.GfmTable TableState.HeadDelimiterRightAlignmentAfter) (world tokenizer.old) }
     ensures to { result ≢ State.Error → result ≡ (right_after_transition (world tokenizer.old)).to }
@@ -242,6 +249,7 @@ pub fn right_alignment_after(tokenizer: &mut Tokenizer) -> State
 /// > | | -: |
 ///          ^
 /// ```
+#[inline(always)]
 pub fn cell_after(tokenizer: &mut Tokenizer) -> State
     requires { IsAt DelimiterNeeds (StateName.GfmTable TableState.HeadDelimiterCellAfter) (world tokenizer.old) }
     ensures to { result ≢ State.Error → result ≡ (cell_after_transition (world tokenizer.old)).to }

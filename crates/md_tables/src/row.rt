@@ -149,6 +149,7 @@ pub fn start(tokenizer: &mut Tokenizer, row: Row) -> State
 /// > | | b |
 ///     ^ ^ ^
 /// ```
+#[inline(always)]
 pub fn at_break(tokenizer: &mut Tokenizer, row: Row) -> State
     requires { IsAt NeedsNothing (StateName.GfmTable (state_at row Place.Break)) (world tokenizer.old) }
     ensures to { result ≢ State.Error → result ≡ (at_break_transition row (world tokenizer.old)).to }
@@ -184,6 +185,7 @@ pub fn at_break(tokenizer: &mut Tokenizer, row: Row) -> State
 /// > | | bc |
 ///       ^^
 /// ```
+#[inline(always)]
 pub fn data(tokenizer: &mut Tokenizer, row: Row) -> State
     requires { IsAt NeedsNothing (StateName.GfmTable (state_at row Place.Data)) (world tokenizer.old) }
     ensures to { result ≢ State.Error → result ≡ (data_transition row (world tokenizer.old)).to }
@@ -214,6 +216,7 @@ pub fn data(tokenizer: &mut Tokenizer, row: Row) -> State
 /// > | | b\|c |
 ///         ^
 /// ```
+#[inline(always)]
 pub fn escape(tokenizer: &mut Tokenizer, row: Row) -> State
     requires { IsAt NeedsNothing (StateName.GfmTable (state_at row Place.Escape)) (world tokenizer.old) }
     ensures to { result ≡ (escape_transition row (world tokenizer.old)).to }

@@ -182,6 +182,7 @@ fn content_begins(tokenizer: &mut Tokenizer) -> State
 
 /// Before the first leaf that is tried: those that may not begin by what stands here are passed at once, and where none
 /// may, content begins.
+#[inline(always)]
 fn leaves(tokenizer: &mut Tokenizer) -> State
     requires { IsAt NeedsNothing (StateName.Flow (front_of trials)) (world tokenizer.old) }
     ensures runs { result ≢ State.Error →
@@ -197,6 +198,7 @@ fn leaves(tokenizer: &mut Tokenizer) -> State
 
 /// Before the first container that may open: where none may by what stands here, the leaf of the line is next; and one
 /// opens at once whose prefix can be taken so.
+#[inline(always)]
 fn containers_new(tokenizer: &mut Tokenizer) -> State
     requires { IsAt NeedsNothing (StateName.Document (opener_front openers)) (world tokenizer.old) }
     ensures runs { result ≢ State.Error →
@@ -219,6 +221,7 @@ fn containers_new(tokenizer: &mut Tokenizer) -> State
 }
 
 /// Behind all containers of a line: where nothing is left of it, it ends at once, and else may be blank.
+#[inline(always)]
 fn behind_containers(tokenizer: &mut Tokenizer) -> State
     requires { IsAt NeedsNothing (StateName.Document DocumentState.ContainersAfter) (world tokenizer.old) }
     ensures runs { result ≢ State.Error →
