@@ -53,7 +53,7 @@ use md_parts::{definition, destination, label, space_or_tab_eol, title};
 use md_seam::inline::Chunk;
 use md_seam::moving::move_down;
 use md_seam::space_or_tab;
-use md_seam::subtokenize::{Reader, is_prefix, subtokenize};
+use md_seam::subtokenize::{Reader, is_prefix, subtokenize_list};
 use md_seam::walks::{Test, passing};
 use std::alloc::Global;
 
@@ -487,10 +487,10 @@ pub fn resolve(tokenizer: &mut Tokenizer) -> Result<Option<Subresult>, Message>
     let mut events = tokenizer.take_events();
     join(&mut events);
     let spare = tokenizer.take_spare();
-    let read = subtokenize(alloc, &reader, &events, spare)?;
+    let (read, spare) = subtokenize_list(alloc, &reader, events, spare)?;
     let done = is_done(&read);
     let definitions = labels(alloc, tokenizer.bytes, &read)?;
-    tokenizer.set_events(read, events);
+    tokenizer.set_events(read, spare);
     Ok(Some(Subresult {
         done,
         gfm_footnote_definitions: Vec::new(alloc),

@@ -388,3 +388,24 @@ lists-more wants events at d items new all n two some is run listed =
     ∙ ap (λ l. l ++ chunks_behind wants es) is
     ∙ append_assoc items (chunk_of e f ∷ []) (chunks_behind wants es)
     ∙ ap (λ l. items ++ l) (sym here) ∙ listed
+
+-- Where no chunk is wanted nothing is read.
+
+first-stays : (wants : Content → Bool) (e : Event) (es : List Event) →
+    prefix_len (stays wants) (e ∷ es) ≡ length (e ∷ es) →
+    (wanted wants e ≡ None) × (prefix_len (stays wants) es ≡ length es)
+first-stays wants e es all = go (wanted wants e) all
+  where
+    go : (w : Option Content) → cond (is_none w) (1 + prefix_len (stays wants) es) 0 ≡ length (e ∷ es) →
+        (w ≡ None) × (prefix_len (stays wants) es ≡ length es)
+    go None h = (refl, omega (arith, h))
+    go (Some _) h = cc
+
+pub substituted-none : (wants : Content → Bool) (reads : Readings) (es : List Event) →
+    prefix_len (stays wants) es ≡ length es → Substituted wants reads [] 0 es es
+substituted-none wants reads [] all = refl
+substituted-none wants reads (e ∷ []) all = refl
+substituted-none wants reads (e ∷ f ∷ es) all =
+    let both : (wanted wants e ≡ None) × (prefix_len (stays wants) (f ∷ es) ≡ length (f ∷ es)) =
+    first-stays wants e (f ∷ es) all in
+    rw (both.0, Substituted) (f ∷ es, refl, substituted-none wants reads (f ∷ es) both.1)

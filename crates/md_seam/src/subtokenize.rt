@@ -281,3 +281,25 @@ pub fn subtokenize<R: Reader>(
     }
     Ok(all)
 }
+
+/// The same for events in a list of their own, with a list that is spare then. Where nothing is read the events stay
+/// in their list.
+pub fn subtokenize_list<R: Reader>(
+    alloc: Global,
+    reader: &R,
+    events: Vec<Event>,
+    spare: Vec<Event>,
+) -> Result<(Vec<Event>, Vec<Event>), Message>
+    requires placed { ArePlaced (R.text reader.now) events.items }
+    requires asked { EachAsked (R.wants reader.now) (R.may_read reader.now) 0 events.items }
+    requires empty { spare.items ≡ [] }
+    ensures placed { IfOk result (λ lists. ArePlaced (R.text reader.now) lists.0.items) }
+    ensures substituted { IfOk result
+        (λ lists. Substituted (R.wants reader.now) (R.reads_as reader.now) [] 0 events.items lists.0.items) }
+{
+    if staying(reader, &events) == events.len() {
+        return Ok((events, spare));
+    }
+    let all = subtokenize(alloc, reader, &events, spare)?;
+    Ok((all, events))
+}
