@@ -245,7 +245,7 @@ then-awaits : (r : Row) (first : StateName) (old : World) (name next : StateName
 then-awaits r first old name next w u h within step same =
     came-calls (RowStep r) first name old w (Next next) u h.came step (not_error (Next next) next refl) same within
 
--- so it goes on where a state takes what stands here,
+-- and so a state goes on that takes what stands here.
 pub takes-goes : (r : Row) (name : StateName) (p : Place) (w : World) (result : Option State) (new : World) →
     w.current ≡ looks w → Within w → RowStep r name w (Next (name_at r p)) (taken w) → TakesTo r p w result new →
     GoesTo r name w (name_at r p) result new
@@ -257,29 +257,6 @@ takes-goes r name p w (Some to) new seen within step h = λ fine.
     let runs = then-awaits r name w name (name_at r p) w (taken w) (stood-first r name w seen) within step refl in
     subst (λ (s : State). RunsHere (RowStep r) name w s new × SeesOn s w new) (sym h.0)
     (subst (RunsHere (RowStep r) name w (Next (name_at r p))) (sym h.1) runs, tt)
-
--- and less is left
-pub takes-falls : (r : Row) (p : Place) (w : World) (result : Option State) (new : World) →
-    w.point.index < w.setting.limit → TakesTo r p w result new → result ≡ None →
-    (new.point.index < new.setting.limit)
-    × (cells_left new.setting.limit new.point < cells_left w.setting.limit w.point)
-takes-falls r p w None new lt h none =
-    let less = cells-fall w.setting w.point lt in
-    let falls : cells_left (taken w).setting.limit (taken w).point < cells_left w.setting.limit w.point =
-    omega (arith, less) in (
-      subst (λ (y : World). y.point.index < y.setting.limit) (sym h.0) h.1,
-      subst (λ (y : World). cells_left y.setting.limit y.point < cells_left w.setting.limit w.point) (sym h.0) falls,
-    )
-takes-falls r p w (Some to) new lt h none = cc
-
--- as is behind where one has come to already
-pub come-down : (old w new : World) →
-    (w ≡ old) ⊎ (cells_left w.setting.limit w.point < cells_left old.setting.limit old.point) →
-    cells_left new.setting.limit new.point < cells_left w.setting.limit w.point →
-    cells_left new.setting.limit new.point < cells_left old.setting.limit old.point
-come-down old w new (inl e) less =
-    subst (λ (y : World). cells_left new.setting.limit new.point < cells_left y.setting.limit y.point) e less
-come-down old w new (inr lt) less = omega (arith, lt, less)
 
 -- A pipe is taken, and what stands behind it is seen,
 pipe-step : (r : Row) (w : World) → w.current ≡ Some pipe →
@@ -364,7 +341,7 @@ word-waits r first old w u h within some lt le = λ is_end s v named saw may.
     then-waits (RowStep r) is_end s v (name_at r place.Data) Plain w u (takes-so r) (h.came is_end s v named saw may)
     h.current within some lt le
 
--- A word that ends lies behind where it began.
+-- No less is left where it began,
 pub word-rests : (w u v : World) → SeesSome Plain w u → v ≡ reading u →
     cells_left v.setting.limit v.point ≤ cells_left w.setting.limit w.point
 word-rests w u v some sees =
@@ -373,6 +350,7 @@ word-rests w u v some sees =
     ap (λ (x : World). cells_left x.setting.limit x.point) sees in
     omega (arith, before, same)
 
+-- and more if it ends here.
 pub word-falls : (w u v : World) → w.current ≡ looks w → is_text (piece w.current) ≡ true → SeesSome Plain w u →
     v ≡ reading u → is_text (piece v.current) ≡ false →
     cells_left v.setting.limit v.point < cells_left w.setting.limit w.point
@@ -436,7 +414,16 @@ escapes-none r w seen within none =
       setting = refl;
     })
 
--- Where one has come to the end of a word that had begun, less is left.
+-- What is left falls in a word from where it had begun, or from where one has come to in it;
+pub come-down : (old w new : World) →
+    (w ≡ old) ⊎ (cells_left w.setting.limit w.point < cells_left old.setting.limit old.point) →
+    cells_left new.setting.limit new.point < cells_left w.setting.limit w.point →
+    cells_left new.setting.limit new.point < cells_left old.setting.limit old.point
+come-down old w new (inl e) less =
+    subst (λ (y : World). cells_left new.setting.limit new.point < cells_left y.setting.limit y.point) e less
+come-down old w new (inr lt) less = omega (arith, lt, less)
+
+-- and so it has at its end, if text stood where it had begun.
 pub end-rests : (old w : World) →
     (w ≡ old) ⊎ (cells_left w.setting.limit w.point < cells_left old.setting.limit old.point) →
     cells_left w.setting.limit w.point ≤ cells_left old.setting.limit old.point

@@ -29,6 +29,7 @@ pub returns-else-is_backslash-clause-goes : goal.returns-else-is_backslash-claus
 returns-else-is_backslash-clause-goes c =
     let r = c.args.row in
     let w = world c.args.tokenizer.now in
-    takes-goes r (name_at r place.Data) place.Data w c.take_to-else-is_backslash.result (world c.take_to-else-is_backslash.new.tokenizer)
-    c.requires.at.current (within-world c.args.tokenizer.now)
-    (text-step r w false c.requires.text (sym c.is_backslash.ensures ∙ c.if-is_backslash.false)) c.take_to-else-is_backslash.ensures
+    let took = c.take_to-else-is_backslash in
+    takes-goes r (name_at r place.Data) place.Data w took.result (world took.new.tokenizer) c.requires.at.current
+    (within-world c.args.tokenizer.now)
+    (text-step r w false c.requires.text (sym c.is_backslash.ensures ∙ c.if-is_backslash.false)) took.ensures
