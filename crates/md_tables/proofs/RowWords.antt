@@ -1,7 +1,7 @@
 -- Parts of a row that are taken at once are what its states take.
 use Rattle.std.proofs.Common.{◌≡◌, ◌≢◌, ℕ, ◌<◌, ◌≤◌, ◌⊎◌, Bool, true, false, nat_eq, Option, Some, None}
 use Rattle.std.proofs.Common.{IfSome, refl, sym, ◌∙◌, ap, ap₂, arith, inl, inr, is_ok, rules, subst}
-use Rattle.std.specs.Prelude.{OnOk}
+use Rattle.std.specs.Prelude.{OnOk, if◌then◌else◌}
 use Rattle.std.proofs.lemmas.Bool.Decides.{nat_tests}
 use Rattle.std.proofs.lemmas.Option.{same_Some}
 use Rattle.std.specs.declared.result.Result.{Result}
@@ -34,13 +34,13 @@ use Rattle.md_leaves.proofs.HeadingWords.{sees-from}
 use Rattle.md_seam.specs.OneSpace.{spaced}
 use Rattle.md_seam.specs.Spaces.{any_size, sees_white, white_then}
 use Rattle.md_seam.specs.Stays.{TakesEach}
-use Rattle.md_seam.specs.Transition.{Transition, entered_link, exited}
+use Rattle.md_seam.specs.Transition.{Transition, entered_link, exited, taken}
 use Rattle.md_seam.proofs.OneSpace.{HasWhite, space-run}
 use Rattle.md_tables.specs.Row.{Piece, at_break_code, begun, behind_part}
-use Rattle.md_tables.specs.Row.{data_code, escape_code, is_text, name_at, piece, piece_of, place_of}
+use Rattle.md_tables.specs.Row.{data_code, escape_code, is_escaped, is_text, name_at, piece, piece_of, place_of}
 use Rattle.md_tables.specs.Row.{row_transition, shut, state_at, text_link}
 use Rattle.md_tables.specs.Row.Piece.{Ends, White, Divides, Escapes, Other}
-use Rattle.md_tables.specs.RowWords.{Goes, IsGap, Passes, RowStep, divided}
+use Rattle.md_tables.specs.RowWords.{Goes, GoesTo, IsGap, Passes, RowStep, TakesTo, divided, is_backslash}
 use Rattle.md_tables.specs.RowWords.IsGap.{NoSpace, OneSpace}
 use Rattle.md_tables.specs.RowWords.RowStep.{OfRow, OfWhite}
 use Rattle.md_tables.specs.declared.row.Place.{Place}
@@ -123,11 +123,11 @@ passes-on r first old name w next new h k = record {
 }
 
 -- what goes on from where one has come goes on from the first
-pub goes-on : (r : Row) (first : StateName) (old : World) (name : StateName) (w : World) (result : Option State)
-    (new : World) →
-    Passes (RowStep r) first old name w → Goes r name w result new → Goes r first old result new
-goes-on r first old name w None new h k = passes-on r first old name w (name_at r place.Break) new h k
-goes-on r first old name w (Some to) new h k = λ fine.
+pub goes-on : (r : Row) (first : StateName) (old : World) (name : StateName) (w : World) (next : StateName)
+    (result : Option State) (new : World) →
+    Passes (RowStep r) first old name w → GoesTo r name w next result new → GoesTo r first old next result new
+goes-on r first old name w next None new h k = passes-on r first old name w next new h k
+goes-on r first old name w next (Some to) new h k = λ fine.
     passes-runs r first old name w to new h (k fine).0 (k fine).1
 
 pub one-goes : (r : Row) (first : StateName) (old : World) (name : StateName) (w : World) (to : State) (new : World) →
@@ -148,19 +148,6 @@ part-remains : (r : Row) (w x : World) (y : Bool) → x.point ≡ w.point → x.
     Remains (behind_part r x y).to w (behind_part r x y).world × ((behind_part r x y).world.setting ≡ w.setting)
 part-remains r w x true there same text = ((there, same), text)
 part-remains r w x false there same text = ((there, same), text)
-
-pub data-remains : (r : Row) (w : World) (p : Piece) → Remains (data_code r w p).to w (data_code r w p).world ×
-    ((data_code r w p).world.setting ≡ w.setting)
-data-remains r w Ends = ((refl, refl), refl)
-data-remains r w White = ((refl, refl), refl)
-data-remains r w Divides = ((refl, refl), refl)
-data-remains r w Escapes = (tt, refl)
-data-remains r w Other = (tt, refl)
-
-pub escape-remains : (r : Row) (w : World) (b : Bool) → Remains (escape_code r w b).to w (escape_code r w b).world ×
-    ((escape_code r w b).world.setting ≡ w.setting)
-escape-remains r w true = (tt, refl)
-escape-remains r w false = ((refl, refl), refl)
 
 pub at_break-remains : (r : Row) (w : World) (p : Piece) →
     Remains (at_break_code r w p).to w (at_break_code r w p).world × ((at_break_code r w p).world.setting ≡ w.setting)
@@ -236,6 +223,41 @@ gap-falls x _ (OneSpace one) =
     let less = cells-fall x.setting x.point (seen-inside x.setting x.point 32 one.here) in omega (arith, less)
 gap-falls x _ (NoSpace none) = omega arith
 
+-- What stands behind what a state takes is seen,
+then-sees : (r : Row) (first : StateName) (old : World) (name next : StateName) (w u : World) →
+    Stood r first old name w → Within w → RowStep r name w (Next next) u → u.setting ≡ w.setting →
+    u.point.index < w.setting.limit → Stood r first old next (reading u)
+then-sees r first old name next w u h within step same lt =
+    let inside : u.point.index < u.setting.limit = rw same lt in
+    record {
+      came =
+          λ is_end s v named saw may.
+          then-takes (RowStep r) is_end s v name next w u (h.came is_end s v named saw may) step same within inside;
+      current = refl;
+      may = inr inside;
+      setting = same ∙ h.setting;
+    }
+
+-- or waited for
+then-awaits : (r : Row) (first : StateName) (old : World) (name next : StateName) (w u : World) →
+    Stood r first old name w → Within w → RowStep r name w (Next next) u → u.setting ≡ w.setting →
+    RunsHere (RowStep r) first old (Next next) u
+then-awaits r first old name next w u h within step same =
+    came-calls (RowStep r) first name old w (Next next) u h.came step (not_error (Next next) next refl) same within
+
+-- and so a state goes on that takes what stands here.
+pub takes-goes : (r : Row) (name : StateName) (p : Place) (w : World) (result : Option State) (new : World) →
+    w.current ≡ looks w → Within w → RowStep r name w (Next (name_at r p)) (taken w) → TakesTo r p w result new →
+    GoesTo r name w (name_at r p) result new
+takes-goes r name p w None new seen within step h =
+    let stood = then-sees r name w name (name_at r p) w (taken w) (stood-first r name w seen) within step refl h.1 in
+    subst (Passes (RowStep r) name w (name_at r p)) (sym h.0)
+    (stood-passes r name w (name_at r p) (reading (taken w)) stood)
+takes-goes r name p w (Some to) new seen within step h = λ fine.
+    let runs = then-awaits r name w name (name_at r p) w (taken w) (stood-first r name w seen) within step refl in
+    subst (λ (s : State). RunsHere (RowStep r) name w s new × SeesOn s w new) (sym h.0)
+    (subst (RunsHere (RowStep r) name w (Next (name_at r p))) (sym h.1) runs, tt)
+
 -- A pipe is taken, and what stands behind it is seen,
 pipe-step : (r : Row) (w : World) → w.current ≡ Some pipe →
     RowStep r (name_at r place.Break) w (Next (name_at r place.CellBefore)) (divided w)
@@ -246,24 +268,17 @@ pipe-step r w is =
 pub pipe-taken : (r : Row) (first : StateName) (old w : World) → Stood r first old (name_at r place.Break) w →
     Within w → w.current ≡ Some pipe → (divided w).point.index < w.setting.limit →
     Stood r first old (name_at r place.CellBefore) (reading (divided w))
-pipe-taken r first old w h within is lt = record {
-  came =
-      λ is_end s v named saw may.
-      then-takes (RowStep r) is_end s v (name_at r place.Break) (name_at r place.CellBefore) w (divided w)
-      (h.came is_end s v named saw may) (pipe-step r w is) refl within lt;
-  current = refl;
-  may = inr lt;
-  setting = h.setting;
-}
+pipe-taken r first old w h within is lt =
+    then-sees r first old (name_at r place.Break) (name_at r place.CellBefore) w (divided w) h within
+    (pipe-step r w is) refl lt
 
 -- or waited for
 pub pipe-waits : (r : Row) (first : StateName) (old w : World) → Stood r first old (name_at r place.Break) w →
     Within w → w.current ≡ Some pipe →
     RunsHere (RowStep r) first old (Next (name_at r place.CellBefore)) (divided w)
 pipe-waits r first old w h within is =
-    came-calls (RowStep r) first (name_at r place.Break) old w (Next (name_at r place.CellBefore)) (divided w) h.came
-    (pipe-step r w is)
-    (not_error (Next (name_at r place.CellBefore)) (name_at r place.CellBefore) refl) refl within
+    then-awaits r first old (name_at r place.Break) (name_at r place.CellBefore) w (divided w) h within
+    (pipe-step r w is) refl
 
 -- A word begins,
 begins-code : (r : Row) (w : World) (p : Piece) → is_text p ≡ true →
@@ -275,29 +290,24 @@ begins-code r w Divides e = cc
 begins-code r w Escapes e = refl
 begins-code r w Other e = refl
 
-pub word-begins : (r : Row) (first : StateName) (old w : World) → Stood r first old (name_at r place.Break) w →
-    Within w → is_text (piece w.current) ≡ true →
-    Stood r first old (name_at r place.Data) (entered_link w Data text_link)
-word-begins r first old w h within text = record {
-  came =
-      λ is_end s v named saw may.
-      then-stays (RowStep r) is_end s v (name_at r place.Break) (name_at r place.Data) w (entered_link w Data text_link)
-      (h.came is_end s v named saw may)
-      (stepped r place.Break w (Retry (name_at r place.Data)) (entered_link w Data text_link)
-      (begins-code r w (piece w.current) text)) refl within refl h.current;
-  current = h.current;
-  may = h.may;
-  setting = h.setting;
-}
-
--- it may be read,
-pub text-inside : (w : World) → w.current ≡ looks w → is_text (piece w.current) ≡ true →
-    w.point.index < w.setting.limit
-text-inside w seen is = go w.current seen is
-  where
-    go : (o : Option ℕ) → o ≡ looks w → is_text (piece o) ≡ true → w.point.index < w.setting.limit
-    go None e k = cc
-    go (Some b) e k = seen-inside w.setting w.point b (sym e)
+pub word-begins : (r : Row) (w x : World) → w.current ≡ looks w → Within w → is_text (piece w.current) ≡ true →
+    x ≡ entered_link w Data text_link →
+    Passes (RowStep r) (name_at r place.Break) w (name_at r place.Data) x
+word-begins r w x seen within text is =
+    let first = name_at r place.Break in
+    let inner = name_at r place.Data in
+    let u : World = entered_link w Data text_link in
+    subst (Passes (RowStep r) first w inner) (sym is)
+    (stood-passes r first w inner u
+    (record {
+      came =
+          λ is_end s v named saw may.
+          then-stays (RowStep r) is_end s v first inner w u (came-first (RowStep r) first w is_end s v named saw may)
+          (stepped r place.Break w (Retry inner) u (begins-code r w (piece w.current) text)) refl within refl seen;
+      current = seen;
+      may = inl refl;
+      setting = refl;
+    }))
 
 -- is taken,
 data-takes : (r : Row) → TakesEach Plain (name_at r place.Data) (row_transition r place.Data)
@@ -331,7 +341,16 @@ word-waits r first old w u h within some lt le = λ is_end s v named saw may.
     then-waits (RowStep r) is_end s v (name_at r place.Data) Plain w u (takes-so r) (h.came is_end s v named saw may)
     h.current within some lt le
 
--- A word that ends lies behind where it began.
+-- No less is left where it began,
+pub word-rests : (w u v : World) → SeesSome Plain w u → v ≡ reading u →
+    cells_left v.setting.limit v.point ≤ cells_left w.setting.limit w.point
+word-rests w u v some sees =
+    let before = some-falls Plain w u some in
+    let same : cells_left v.setting.limit v.point ≡ cells_left u.setting.limit u.point =
+    ap (λ (x : World). cells_left x.setting.limit x.point) sees in
+    omega (arith, before, same)
+
+-- and more if it ends here.
 pub word-falls : (w u v : World) → w.current ≡ looks w → is_text (piece w.current) ≡ true → SeesSome Plain w u →
     v ≡ reading u → is_text (piece v.current) ≡ false →
     cells_left v.setting.limit v.point < cells_left w.setting.limit w.point
@@ -346,6 +365,79 @@ word-falls w _ v seen text (OneMore u some here) sees none =
     let same : cells_left v.setting.limit v.point ≡ cells_left u.setting.limit (after u.setting u.point) =
     ap (λ (x : World). cells_left x.setting.limit x.point) sees in
     omega (arith, before, less, same)
+
+-- A byte of a word is taken, which may be a backslash,
+text-code : (r : Row) (w : World) (o : Option ℕ) (b : Bool) → is_text (piece o) ≡ true → is_backslash o ≡ b →
+    data_code r w (piece o)
+    ≡ record { to = Next (name_at r (if b then place.Escape else place.Data)); world = taken w }
+text-code r w None b text is = cc
+text-code r w (Some c) b text is = go (nat_eq c 10) (is_white c) (nat_eq c 124) refl refl refl
+  where
+    go : (x y z : Bool) → nat_eq c 10 ≡ x → is_white c ≡ y → nat_eq c 124 ≡ z →
+        data_code r w (piece_of c)
+        ≡ record { to = Next (name_at r (if b then place.Escape else place.Data)); world = taken w }
+    go true y z a k m = let no : false ≡ true = rw a at text in cc
+    go false true z a k m = let no : false ≡ true = rw (a, k) at text in cc
+    go false false true a k m = let no : false ≡ true = rw (a, k, m) at text in cc
+    go false false false a k m = by b is
+      where
+        by : (t : Bool) → nat_eq c 92 ≡ t →
+            data_code r w (piece_of c)
+            ≡ record { to = Next (name_at r (if t then place.Escape else place.Data)); world = taken w }
+        by true t = rw (a, k, m, t) refl
+        by false t = rw (a, k, m, t) refl
+
+pub text-step : (r : Row) (w : World) (b : Bool) → is_text (piece w.current) ≡ true → is_backslash w.current ≡ b →
+    RowStep r (name_at r place.Data) w (Next (name_at r (if b then place.Escape else place.Data))) (taken w)
+text-step r w b text is =
+    stepped r place.Data w (Next (name_at r (if b then place.Escape else place.Data))) (taken w)
+    (text-code r w w.current b text is)
+
+-- with what the backslash takes, if it takes any
+pub escaped-step : (r : Row) (w : World) → is_escaped w.current ≡ true →
+    RowStep r (name_at r place.Escape) w (Next (name_at r place.Data)) (taken w)
+escaped-step r w is = stepped r place.Escape w (Next (name_at r place.Data)) (taken w) (ap (escape_code r w) is)
+
+pub escapes-none : (r : Row) (w : World) → w.current ≡ looks w → Within w → is_escaped w.current ≡ false →
+    Passes (RowStep r) (name_at r place.Escape) w (name_at r place.Data) w
+escapes-none r w seen within none =
+    let name = name_at r place.Escape in
+    stood-passes r name w (name_at r place.Data) w
+    (record {
+      came =
+          λ is_end s v named saw may.
+          then-stays (RowStep r) is_end s v name (name_at r place.Data) w w
+          (came-first (RowStep r) name w is_end s v named saw may)
+          (stepped r place.Escape w (Retry (name_at r place.Data)) w (ap (escape_code r w) none)) refl within refl seen;
+      current = seen;
+      may = inl refl;
+      setting = refl;
+    })
+
+-- What is left falls in a word from where it had begun, or from where one has come to in it;
+pub come-down : (old w new : World) →
+    (w ≡ old) ⊎ (cells_left w.setting.limit w.point < cells_left old.setting.limit old.point) →
+    cells_left new.setting.limit new.point < cells_left w.setting.limit w.point →
+    cells_left new.setting.limit new.point < cells_left old.setting.limit old.point
+come-down old w new (inl e) less =
+    subst (λ (y : World). cells_left new.setting.limit new.point < cells_left y.setting.limit y.point) e less
+come-down old w new (inr lt) less = omega (arith, lt, less)
+
+-- and so it has at its end, if text stood where it had begun.
+pub end-rests : (old w : World) →
+    (w ≡ old) ⊎ (cells_left w.setting.limit w.point < cells_left old.setting.limit old.point) →
+    cells_left w.setting.limit w.point ≤ cells_left old.setting.limit old.point
+end-rests old w (inl e) =
+    subst (λ (y : World). cells_left w.setting.limit w.point ≤ cells_left y.setting.limit y.point) e (omega arith)
+end-rests old w (inr lt) = omega (arith, lt)
+
+pub end-falls : (old w : World) →
+    (w ≡ old) ⊎ (cells_left w.setting.limit w.point < cells_left old.setting.limit old.point) →
+    is_text (piece old.current) ≡ true → is_text (piece w.current) ≡ false →
+    cells_left w.setting.limit w.point < cells_left old.setting.limit old.point
+end-falls old w (inl e) text none =
+    let no : false ≡ true = sym none ∙ ap (λ (y : World). is_text (piece y.current)) e ∙ text in cc
+end-falls old w (inr lt) text none = lt
 
 -- Where a word ends, it is behind a part of the row.
 ends-code : (r : Row) (w : World) (o : Option ℕ) → is_text (piece o) ≡ false →

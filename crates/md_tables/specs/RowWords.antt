@@ -1,14 +1,15 @@
 -- Parts of a row that are taken at once, as its states take them one after another.
-use Rattle.std.specs.Prelude.{◌≡◌, ◌≢◌, ◌<◌, ◌⊎◌, false, Option, None, Some}
+use Rattle.std.specs.Prelude.{◌≡◌, ◌≢◌, ℕ, ◌<◌, ◌⊎◌, ◌==◌, Bool, false, Option, None, Some}
 use Rattle.md_engine.specs.declared.event.Name.TheVariants.{GfmTableCellDivider}
 use Rattle.md_engine.specs.declared.state.Name.{Name as StateName}
 use Rattle.md_engine.specs.declared.state.Name.TheVariants as n
 use Rattle.md_engine.specs.declared.state.space_or_tab.State.{State as WhiteState}
 use Rattle.md_engine.specs.declared.state.State.{State}
-use Rattle.md_engine.specs.declared.state.State.TheVariants.{Error}
+use Rattle.md_engine.specs.declared.state.State.TheVariants.{Error, Next}
 use Rattle.md_engine.specs.Going.{SeesOn}
-use Rattle.md_engine.specs.Run.{RunsHere, Step}
+use Rattle.md_engine.specs.Run.{RunsHere, Step, reading}
 use Rattle.md_engine.specs.World.{World, looks}
+use Rattle.md_definition.specs.Ascii.{backslash}
 use Rattle.md_seam.specs.OneSpace.{IsOneSpace, spaced}
 use Rattle.md_seam.specs.Spaces.{sees_white, white_transition}
 use Rattle.md_seam.specs.Transition.{entered, exited, taken}
@@ -41,7 +42,20 @@ pub record Passes (T : Step) (first : StateName) (old : World) (name : StateName
   pub may : (w.point ≡ old.point) ⊎ (w.point.index < w.setting.limit)
   pub setting : w.setting ≡ old.setting
 
--- From a state of a row the next of its parts is come to, or a state with which it is left.
+-- From a state of a row another of them is come to, or a state with which the row is left.
+abbrev pub GoesTo : Row → StateName → World → StateName → Option State → World → Type 0
+GoesTo r first old next None w = Passes (RowStep r) first old next w
+GoesTo r first old next (Some to) w = to ≢ Error → RunsHere (RowStep r) first old to w × SeesOn to old w
+
+-- the next of its parts is come to
 abbrev pub Goes : Row → StateName → World → Option State → World → Type 0
-Goes r first old None w = Passes (RowStep r) first old (name_at r place.Break) w
-Goes r first old (Some to) w = to ≢ Error → RunsHere (RowStep r) first old to w × SeesOn to old w
+Goes r first old result w = GoesTo r first old (name_at r place.Break) result w
+
+-- What stands here was taken, and what stands behind it is seen at a place of the row, or waited for.
+abbrev pub TakesTo : Row → Place → World → Option State → World → Type 0
+TakesTo r p w None new = (new ≡ reading (taken w)) × ((taken w).point.index < w.setting.limit)
+TakesTo r p w (Some to) new = (to ≡ Next (name_at r p)) × (new ≡ taken w)
+
+abbrev pub is_backslash : Option ℕ → Bool
+is_backslash None = false
+is_backslash (Some b) = b == backslash

@@ -5,7 +5,7 @@
 // Most parts of a row stand alone between single spaces. So what the states do one after another with pipes, words and
 // single spaces is done here in one call. It comes to the same.
 
-ghost use Rattle.std.specs.Prelude.{◌≡◌, ◌≢◌, ◌<◌, ◌≤◌, IfSome, None, OnOk, Some, false, true};
+ghost use Rattle.std.specs.Prelude.{◌≡◌, ◌≢◌, ◌<◌, ◌≤◌, ◌⊎◌, IfSome, None, OnOk, Some, false, true};
 ghost use Rattle.md_engine.specs.Going.{SeesOn};
 ghost use Rattle.md_engine.specs.Run.{RunsHere};
 ghost use Rattle.md_engine.specs.Scheme.{cells_left};
@@ -16,10 +16,10 @@ ghost use Rattle.md_engine.specs.declared.stay.Stay.{Stay};
 ghost use Rattle.md_definition.specs.Ascii.{pipe};
 ghost use Rattle.md_seam.specs.Spaces.{sees_white};
 ghost use Rattle.md_seam.specs.Transition.{IsAt, NeedsNothing};
-ghost use Rattle.md_tables.specs.Row.{begun, behind_part, is_text, name_at, piece};
-ghost use Rattle.md_tables.specs.RowWords.{Goes, IsGap, RowStep, divided};
+ghost use Rattle.md_tables.specs.Row.{begun, behind_part, is_escaped, is_text, name_at, piece};
+ghost use Rattle.md_tables.specs.RowWords.{Goes, GoesTo, IsGap, RowStep, TakesTo, divided, is_backslash};
 
-use crate::row::{Place, Row, TEXT_LINK, at_break, behind_part, data, escape, name_at};
+use crate::row::{Place, Row, TEXT_LINK, at_break, behind_part, name_at};
 use md_engine::class::Class;
 use md_engine::event::Name;
 use md_engine::message::Message;
@@ -45,6 +45,22 @@ fn sees_text(current: Option<u8>) -> bool
         None => false,
         Some(byte) => !matches!(byte, b'\n' | b' ' | b'\t' | b'|'),
     }
+}
+
+/// Whether a backslash stands here.
+#[inline(always)]
+fn is_backslash(current: Option<u8>) -> bool
+    ensures { result ≡ is_backslash current }
+{
+    matches!(current, Some(b'\\'))
+}
+
+/// Whether a backslash in front takes what stands here.
+#[inline(always)]
+fn is_escaped(current: Option<u8>) -> bool
+    ensures { result ≡ is_escaped current }
+{
+    matches!(current, Some(b'\\' | b'|'))
 }
 
 /// Begins the row.
@@ -108,7 +124,118 @@ fn gap(tokenizer: &mut Tokenizer, row: Row) -> Option<State>
     }
 }
 
-/// In a word: where it ends, goes on behind it.
+/// Takes what stands here, and sees what stands behind it, at a place of the row.
+#[inline(always)]
+fn take_to(tokenizer: &mut Tokenizer, row: Row, place: Place) -> Option<State>
+    requires { (world tokenizer.old).point.index < (world tokenizer.old).setting.limit }
+    ensures { TakesTo row place (world tokenizer.old) result (world tokenizer.new) }
+{
+    tokenizer.consume();
+    if tokenizer.see_or_wait(false) {
+        Some(State::Next(name_at(row, place)))
+    } else {
+        None
+    }
+}
+
+/// In a word: takes the bytes that nothing gives a meaning.
+#[inline(always)]
+fn pass_plain(tokenizer: &mut Tokenizer, row: Row) -> Option<State>
+    requires at { IsAt NeedsNothing (name_at row Place.Data) (world tokenizer.old) }
+    requires inside { (world tokenizer.old).point.index < (world tokenizer.old).setting.limit }
+    ensures goes { GoesTo row (name_at row Place.Data) (world tokenizer.old) (name_at row Place.Data) result
+        (world tokenizer.new) }
+    ensures rests { result ≡ None →
+        cells_left (world tokenizer.new).setting.limit (world tokenizer.new).point ≤
+        cells_left (world tokenizer.old).setting.limit (world tokenizer.old).point }
+    ensures falls { result ≡ None → is_text (piece (world tokenizer.old).current) ≡ true →
+        is_text (piece (world tokenizer.new).current) ≡ false →
+        cells_left (world tokenizer.new).setting.limit (world tokenizer.new).point <
+        cells_left (world tokenizer.old).setting.limit (world tokenizer.old).point }
+{
+    take_plain(tokenizer);
+    if tokenizer.see_or_wait(false) {
+        return Some(State::Next(name_at(row, Place::Data)));
+    }
+    None
+}
+
+/// Behind `\` in a word: takes what this takes.
+///
+/// ```markdown
+///   | | a    |
+///   | | ---- |
+/// > | | b\|c |
+///         ^
+/// ```
+#[inline(always)]
+fn pass_escape(tokenizer: &mut Tokenizer, row: Row) -> Option<State>
+    requires { IsAt NeedsNothing (name_at row Place.Escape) (world tokenizer.old) }
+    ensures goes { GoesTo row (name_at row Place.Escape) (world tokenizer.old) (name_at row Place.Data) result
+        (world tokenizer.new) }
+    ensures rests { result ≡ None →
+        cells_left (world tokenizer.new).setting.limit (world tokenizer.new).point ≤
+        cells_left (world tokenizer.old).setting.limit (world tokenizer.old).point }
+{
+    if is_escaped(tokenizer.current) {
+        take_to(tokenizer, row, Place::Data)
+    } else {
+        None
+    }
+}
+
+/// In a word, before a byte of it: takes that, and a pair whole.
+///
+/// ```markdown
+///   | | a    |
+///   | | ---- |
+/// > | | b\|c |
+///        ^
+/// ```
+fn pass_text(tokenizer: &mut Tokenizer, row: Row) -> Option<State>
+    requires at { IsAt NeedsNothing (name_at row Place.Data) (world tokenizer.old) }
+    requires text { is_text (piece (world tokenizer.old).current) ≡ true }
+    ensures goes { GoesTo row (name_at row Place.Data) (world tokenizer.old) (name_at row Place.Data) result
+        (world tokenizer.new) }
+    ensures inside { result ≡ None → (world tokenizer.new).point.index < (world tokenizer.new).setting.limit }
+    ensures falls { result ≡ None →
+        cells_left (world tokenizer.new).setting.limit (world tokenizer.new).point <
+        cells_left (world tokenizer.old).setting.limit (world tokenizer.old).point }
+{
+    if is_backslash(tokenizer.current) {
+        if let Some(state) = take_to(tokenizer, row, Place::Escape) {
+            return Some(state);
+        }
+        pass_escape(tokenizer, row)
+    } else {
+        take_to(tokenizer, row, Place::Data)
+    }
+}
+
+/// In a word: goes on up to where it ends.
+#[inline(always)]
+fn pass_rest(tokenizer: &mut Tokenizer, row: Row) -> Option<State>
+    requires { IsAt NeedsNothing (name_at row Place.Data) (world tokenizer.old) }
+    ensures goes { GoesTo row (name_at row Place.Data) (world tokenizer.old) (name_at row Place.Data) result
+        (world tokenizer.new) }
+    ensures ends { result ≡ None → is_text (piece (world tokenizer.new).current) ≡ false }
+    ensures falls { result ≡ None →
+        (world tokenizer.new ≡ world tokenizer.old) ⊎
+        (cells_left (world tokenizer.new).setting.limit (world tokenizer.new).point <
+        cells_left (world tokenizer.old).setting.limit (world tokenizer.old).point) }
+{
+    while sees_text(tokenizer.current) {
+        if let Some(state) = pass_text(tokenizer, row) {
+            return Some(state);
+        }
+        if let Some(state) = pass_plain(tokenizer, row) {
+            return Some(state);
+        }
+    }
+    None
+}
+
+/// In a word: takes what is left of it, and goes on behind it.
 ///
 /// ```markdown
 ///   | | a  |
@@ -120,13 +247,15 @@ fn gap(tokenizer: &mut Tokenizer, row: Row) -> Option<State>
 fn end_word(tokenizer: &mut Tokenizer, row: Row) -> Option<State>
     requires { IsAt NeedsNothing (name_at row Place.Data) (world tokenizer.old) }
     ensures goes { Goes row (name_at row Place.Data) (world tokenizer.old) result (world tokenizer.new) }
-    ensures ends { result ≡ None → is_text (piece (world tokenizer.old).current) ≡ false }
-    ensures falls { result ≡ None →
+    ensures rests { result ≡ None →
         cells_left (world tokenizer.new).setting.limit (world tokenizer.new).point ≤
         cells_left (world tokenizer.old).setting.limit (world tokenizer.old).point }
+    ensures falls { result ≡ None → is_text (piece (world tokenizer.old).current) ≡ true →
+        cells_left (world tokenizer.new).setting.limit (world tokenizer.new).point <
+        cells_left (world tokenizer.old).setting.limit (world tokenizer.old).point }
 {
-    if sees_text(tokenizer.current) {
-        return Some(data(tokenizer, row));
+    if let Some(state) = pass_rest(tokenizer, row) {
+        return Some(state);
     }
     if tokenizer.exit(Name::Data).is_err() {
         return Some(State::Error);
@@ -154,9 +283,8 @@ fn pass_word(tokenizer: &mut Tokenizer, row: Row) -> Option<State>
     if tokenizer.enter_link(Name::Data, TEXT_LINK).is_err() {
         return Some(State::Error);
     }
-    take_plain(tokenizer);
-    if tokenizer.see_or_wait(false) {
-        return Some(State::Next(name_at(row, Place::Data)));
+    if let Some(state) = pass_plain(tokenizer, row) {
+        return Some(state);
     }
     end_word(tokenizer, row)
 }
@@ -269,6 +397,25 @@ fn behind_pipe(tokenizer: &mut Tokenizer, row: Row) -> Option<State>
     gap(tokenizer, row)
 }
 
+/// Behind `\` in a word: takes what is left of the word, and goes on behind it.
+///
+/// ```markdown
+///   | | a    |
+///   | | ---- |
+/// > | | b\|c |
+///         ^
+/// ```
+#[inline(always)]
+fn behind_backslash(tokenizer: &mut Tokenizer, row: Row) -> Option<State>
+    requires { IsAt NeedsNothing (name_at row Place.Escape) (world tokenizer.old) }
+    ensures { Goes row (name_at row Place.Escape) (world tokenizer.old) result (world tokenizer.new) }
+{
+    if let Some(state) = pass_escape(tokenizer, row) {
+        return Some(state);
+    }
+    end_word(tokenizer, row)
+}
+
 /// Goes on at a place of a row up to the next of its parts.
 #[inline(always)]
 fn reach(tokenizer: &mut Tokenizer, row: Row, place: Place) -> Option<State>
@@ -279,7 +426,7 @@ fn reach(tokenizer: &mut Tokenizer, row: Row, place: Place) -> Option<State>
         Place::Start => begin(tokenizer, row),
         Place::Break => None,
         Place::Data => end_word(tokenizer, row),
-        Place::Escape => Some(escape(tokenizer, row)),
+        Place::Escape => behind_backslash(tokenizer, row),
         Place::CellBefore => behind_pipe(tokenizer, row),
     }
 }
