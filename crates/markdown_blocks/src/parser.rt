@@ -80,10 +80,10 @@ impl<I: Inline> Reader for TextReader<'_, '_, I> {
         alloc: Global,
         content: Content,
         chunks: &[Chunk],
-        spare: Vec<Event>,
-    ) -> Result<Vec<Event>, Message> {
+        events: &mut Vec<Event>,
+    ) -> Result<(), Message> {
         self.inline
-            .read_into(alloc, kind_of(content), chunks, self.state, spare)
+            .read_into(alloc, kind_of(content), chunks, self.state, events)
     }
 }
 

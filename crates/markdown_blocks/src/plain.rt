@@ -24,7 +24,9 @@ impl Inline for Plain {
         chunks: &[Chunk],
         state: &ParseState,
     ) -> Result<Vec<Event>, Message> {
-        self.read_into(alloc, kind, chunks, state, Vec::new(alloc))
+        let mut events = Vec::new(alloc);
+        self.read_into(alloc, kind, chunks, state, &mut events)?;
+        Ok(events)
     }
 
     fn read_into(
@@ -33,9 +35,9 @@ impl Inline for Plain {
         _kind: PartKind,
         chunks: &[Chunk],
         state: &ParseState,
-        spare: Vec<Event>,
-    ) -> Result<Vec<Event>, Message> {
-        plain::read_into(alloc, chunks, state, spare)
+        events: &mut Vec<Event>,
+    ) -> Result<(), Message> {
+        plain::read_into(alloc, chunks, state, events)
     }
 
     ghost keeps_frame = { λ plain document. plain-keeps document.bytes };

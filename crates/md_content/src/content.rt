@@ -10,7 +10,7 @@
 // behind those in front of it, and ends behind its ending, before those of the next line: its end is that of its chunk.
 
 ghost use Rattle.std.specs.Prelude.{◌≡◌, ◌≢◌, ℕ, ◌^◌, ◌<◌, ◌≤◌, ◌&&◌, Bool, false, not, IfNone, IfOk, IfSome, List, []};
-ghost use Rattle.std.specs.Prelude.{length};
+ghost use Rattle.std.specs.Prelude.{OnOk, length};
 ghost use Rattle.std.specs.List.{position_or_len, prefix_len};
 ghost use Rattle.std.specs.Option.{option_map};
 ghost use Rattle.md_engine.specs.Found.{found_in};
@@ -56,6 +56,7 @@ use md_seam::space_or_tab;
 use md_seam::subtokenize::{Reader, is_prefix, subtokenize_list};
 use md_seam::walks::{Test, passing};
 use std::alloc::Global;
+use std::mem;
 
 /// The first byte that does not begin before the point.
 fn whole_from(tokenizer: &Tokenizer) -> usize
@@ -259,28 +260,30 @@ impl Reader for ContentReader<'_> {
         alloc: Global,
         _content: Content,
         chunks: &[Chunk],
-        spare: Vec<Event>,
-    ) -> Result<Vec<Event>, Message> {
-        self.read_part(alloc, chunks, spare)
+        events: &mut Vec<Event>,
+    ) -> Result<(), Message> {
+        self.read_part(alloc, chunks, events)
     }
 }
 
 impl ContentReader<'_> {
-    /// The events of a part that stands in these chunks: definitions and a paragraph over them.
+    /// The events of a part that stands in these chunks, definitions and a paragraph over them, in place of what stands
+    /// in `events`.
     fn read_part(
         &self,
         alloc: Global,
         chunks: &[Chunk],
-        mut spare: Vec<Event>,
-    ) -> Result<Vec<Event>, Message>
+        events: &mut Vec<Event>,
+    ) -> Result<(), Message>
         requires { AreChunks self.now.bytes.now chunks.now }
-        ensures placed { IfOk result (λ events. ArePlaced self.now.bytes.now events.items) }
-        ensures events { IfOk result
-            (λ events. events.items ≡ content_events self.now.bytes.now self.now.options.now chunks.now) }
+        ensures placed { OnOk result (ArePlaced self.now.bytes.now events.new.items) }
+        ensures events { OnOk result
+            (events.new.items ≡ content_events self.now.bytes.now self.now.options.now chunks.now) }
     {
         let mut tokenizer = Tokenizer::new(alloc, chunks[0].first, self.bytes, self.options);
-        spare.clear();
-        tokenizer.set_events(spare, Vec::new(alloc));
+        events.clear();
+        let list = mem::replace(events, Vec::new(alloc));
+        tokenizer.set_events(list, Vec::new(alloc));
         for chunk in chunks {
             tokenizer.define_skip(chunk.first)?;
         }
@@ -291,9 +294,9 @@ impl ContentReader<'_> {
             state => state,
         };
         flush::<ContentTable>(&mut tokenizer, state, true)?;
-        let mut events = tokenizer.events;
-        settle(&mut events, chunks);
-        Ok(events)
+        *events = tokenizer.events;
+        settle(events, chunks);
+        Ok(())
     }
 }
 

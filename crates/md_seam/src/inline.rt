@@ -1,6 +1,6 @@
 // What the block parser hands to an inline layer: the text parts of a document, each as the chunks that it stands in.
 
-ghost use Rattle.std.specs.Prelude.{IfOk, List};
+ghost use Rattle.std.specs.Prelude.{IfOk, List, OnOk};
 ghost use Rattle.md_engine.specs.declared.event.Event.{Event};
 ghost use Rattle.md_seam.specs.Events.Inline.{KeepsFrame, Part};
 ghost use Rattle.md_seam.specs.TextPart.{Document, IsTextPart, document_of};
@@ -51,22 +51,24 @@ pub trait Inline {
             (λ events. reads self.now (document_of state.now) (record { kind = kind; chunks = chunks.now })
             events.items) };
 
-    /// The same, written into `spare` by a layer that can; what stands there means nothing. The block parser calls this,
-    /// with the list that it had for the part before, so a layer that writes there asks for no memory for most parts.
+    /// The same, in place of what stands in `events`. After an `Err` the list means nothing.
+    ///
+    /// The block parser calls this, with the list that it has for the part before, so a layer that writes there asks for
+    /// no memory for most parts.
     fn read_into(
         &self,
         alloc: Global,
         kind: PartKind,
         chunks: &[Chunk],
         state: &ParseState,
-        _spare: Vec<Event>,
-    ) -> Result<Vec<Event>, Message>
+        events: &mut Vec<Event>,
+    ) -> Result<(), Message>
         requires { IsTextPart (document_of state.now) (record { kind = kind; chunks = chunks.now }) }
-        ensures { IfOk result
-            (λ events. reads self.now (document_of state.now) (record { kind = kind; chunks = chunks.now })
-            events.items) }
+        ensures { OnOk result
+            (reads self.now (document_of state.now) (record { kind = kind; chunks = chunks.now }) events.new.items) }
     {
-        self.read(alloc, kind, chunks, state)
+        *events = self.read(alloc, kind, chunks, state)?;
+        Ok(())
     }
 
     /// What it gives keeps the promise of every layer.

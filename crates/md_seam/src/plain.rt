@@ -1,6 +1,6 @@
 // What the plainest inline layer reads: lines. The layer itself stands where its law may be proved, in `markdown_blocks`.
 
-ghost use Rattle.std.specs.Prelude.{◌≡◌, ◌≤◌, ◌∷◌, ◌++◌, IfOk, IsTrue, None, OnOk, [], length, slice_range, true};
+ghost use Rattle.std.specs.Prelude.{◌≡◌, ◌≤◌, ◌++◌, IfOk, IsTrue, OnOk, [], length, slice_range, true};
 ghost use Rattle.std.specs.List.{list_all};
 ghost use Rattle.md_engine.specs.World.{world};
 ghost use Rattle.md_engine.specs.declared.event.Name.{Name};
@@ -18,6 +18,7 @@ use md_engine::message::Message;
 use md_engine::parse_state::ParseState;
 use md_engine::tokenizer::Tokenizer;
 use std::alloc::Global;
+use std::mem;
 
 /// How many events stand in the place of a chunk at most: those of its line and of its ending.
 const MOST: usize = 4;
@@ -82,80 +83,76 @@ fn is_without_ending(bytes: &[u8], chunk: &Chunk) -> bool
     chunk.first.index < end && !ends_line(bytes[end - 1])
 }
 
-/// Appends an event without a link.
-fn push(events: &mut Vec<Event>, kind: Kind, point: Point) -> Result<(), Message>
-    ensures { OnOk result (events.new.items ≡
-        events.old.items ++ (record { kind = kind; name = Name.Data; link = None; point = point }) ∷ []) }
+/// `Data` over a chunk, in place of what stands in `events`.
+fn whole_chunk(chunk: &Chunk, events: &mut Vec<Event>) -> Result<(), Message>
+    ensures { OnOk result (events.new.items ≡ pair Name.Data chunk.now.first chunk.now.after) }
 {
-    let event = Event {
-        kind,
-        name: Name::Data,
-        link: None,
-        point,
-    };
-    if events.push(event).is_err() {
+    events.clear();
+    if events.reserve(2).is_err() {
         return Err(Message);
     }
+    events.push_reserved(Event {
+        kind: Kind::Enter,
+        name: Name::Data,
+        link: None,
+        point: chunk.first,
+    });
+    events.push_reserved(Event {
+        kind: Kind::Exit,
+        name: Name::Data,
+        link: None,
+        point: chunk.after,
+    });
     Ok(())
 }
 
-/// `Data` over a chunk, written into `spare`.
-fn whole_chunk(chunk: &Chunk, spare: Vec<Event>) -> Result<Vec<Event>, Message>
-    ensures { IfOk result (λ events. events.items ≡ pair Name.Data chunk.now.first chunk.now.after) }
-{
-    let mut events = spare;
-    events.clear();
-    push(&mut events, Kind::Enter, chunk.first)?;
-    push(&mut events, Kind::Exit, chunk.after)?;
-    Ok(events)
-}
-
-/// The events of a part, line by line, written into `spare`. Most parts are one line without an ending, and need no
-/// tokenizer: so it stands apart from them.
+/// The events of a part, line by line, in place of what stands in `events`. Most parts are one line without an ending,
+/// and need no tokenizer: so it stands apart from them.
 #[inline(never)]
 fn read_lines(
     alloc: Global,
     chunks: &[Chunk],
     state: &ParseState,
-    spare: Vec<Event>,
-) -> Result<Vec<Event>, Message>
+    events: &mut Vec<Event>,
+) -> Result<(), Message>
     requires chunks { AreChunks state.now.bytes.now chunks.now }
     requires lines { IsTrue (list_all (is_line state.now.bytes.now) chunks.now) }
     requires whole { IsTrue (list_all ends_whole chunks.now) }
-    ensures { IfOk result (λ events. events.items ≡ together (plain_chunks state.now.bytes.now chunks.now)) }
+    ensures { OnOk result (events.new.items ≡ together (plain_chunks state.now.bytes.now chunks.now)) }
 {
     let mut tokenizer = Tokenizer::new(alloc, chunks[0].first, state.bytes, state.options);
-    let mut events = spare;
     events.clear();
     if events.reserve(chunks.len().saturating_mul(MOST)).is_err() {
         return Err(Message);
     }
-    tokenizer.set_events(events, Vec::new(alloc));
+    let list = mem::replace(events, Vec::new(alloc));
+    tokenizer.set_events(list, Vec::new(alloc));
     for chunk in chunks {
         read_chunk(&mut tokenizer, chunk)?;
     }
-    Ok(tokenizer.events)
+    *events = tokenizer.events;
+    Ok(())
 }
 
-/// The events of a part that stands in these chunks, written into `spare`: `Data` over each line, if it is not empty,
-/// and `LineEnding` over its ending. What stands in `spare` means nothing.
+/// The events of a part that stands in these chunks, in place of what stands in `events`: `Data` over each line, if it
+/// is not empty, and `LineEnding` over its ending.
 ///
-/// An `Err` says that memory ran out.
+/// An `Err` says that memory ran out; the list then means nothing.
 pub fn read_into(
     alloc: Global,
     chunks: &[Chunk],
     state: &ParseState,
-    spare: Vec<Event>,
-) -> Result<Vec<Event>, Message>
+    events: &mut Vec<Event>,
+) -> Result<(), Message>
     requires chunks { AreChunks state.now.bytes.now chunks.now }
     requires lines { IsTrue (list_all (is_line state.now.bytes.now) chunks.now) }
     requires whole { IsTrue (list_all ends_whole chunks.now) }
-    ensures { IfOk result (λ events. events.items ≡ together (plain_chunks state.now.bytes.now chunks.now)) }
+    ensures { OnOk result (events.new.items ≡ together (plain_chunks state.now.bytes.now chunks.now)) }
 {
     if chunks.len() == 1 && is_without_ending(state.bytes, &chunks[0]) {
-        return whole_chunk(&chunks[0], spare);
+        return whole_chunk(&chunks[0], events);
     }
-    read_lines(alloc, chunks, state, spare)
+    read_lines(alloc, chunks, state, events)
 }
 
 /// The same, in a list of its own.
@@ -165,5 +162,7 @@ pub fn read(alloc: Global, chunks: &[Chunk], state: &ParseState) -> Result<Vec<E
     requires whole { IsTrue (list_all ends_whole chunks.now) }
     ensures { IfOk result (λ events. events.items ≡ together (plain_chunks state.now.bytes.now chunks.now)) }
 {
-    read_into(alloc, chunks, state, Vec::new(alloc))
+    let mut events = Vec::new(alloc);
+    read_into(alloc, chunks, state, &mut events)?;
+    Ok(events)
 }

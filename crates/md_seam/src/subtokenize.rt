@@ -18,7 +18,6 @@ use crate::walks::{Test, passing};
 use md_engine::event::{Content, Event, Kind, Name};
 use md_engine::message::Message;
 use std::alloc::Global;
-use std::mem;
 
 /// Reads parts of some contents.
 pub trait Reader {
@@ -38,19 +37,19 @@ pub trait Reader {
     fn reads(&self, content: Content) -> bool
         ensures { result ≡ wants self.now content };
 
-    /// The events of a part that stands in these chunks, which may be written into `spare`; what stands there means
-    /// nothing.
+    /// The events of a part that stands in these chunks, in place of what stands in `events`. After an `Err` the list
+    /// means nothing.
     fn read(
         &self,
         alloc: Global,
         content: Content,
         chunks: &[Chunk],
-        spare: Vec<Event>,
-    ) -> Result<Vec<Event>, Message>
+        events: &mut Vec<Event>,
+    ) -> Result<(), Message>
         requires chunks { AreChunks (text self.now) chunks.now }
         requires asked { may_read self.now content chunks.now }
-        ensures placed { IfOk result (λ events. ArePlaced (text self.now) events.items) }
-        ensures reading { IfOk result (λ events. reads_as self.now content chunks.now events.items) };
+        ensures placed { OnOk result (ArePlaced (text self.now) events.new.items) }
+        ensures reading { OnOk result (reads_as self.now content chunks.now events.new.items) };
 }
 
 /// What was found in a part, and how much of it stands in its place.
@@ -214,8 +213,7 @@ impl Found {
         }
         list_chunks(&mut self.spare, reader, events)?;
         self.placed = 0;
-        let old = mem::replace(&mut self.events, Vec::new(alloc));
-        self.events = reader.read(alloc, content, &self.spare, old)?;
+        reader.read(alloc, content, &self.spare, &mut self.events)?;
         self.chunks = self.spare.len();
         Ok(())
     }

@@ -1,7 +1,8 @@
+use Rattle.std.proofs.lemmas.Result.{on_ok_weaker}
 use Rattle.md_seam.specs.Events.Inline.{ends_whole, is_line}
 use Rattle.md_seam.specs.declared.inline.Chunk.{Chunk}
 use Rattle.md_seam.proofs.PlainSteps.{all-at}
-use Rattle.md_seam.proofs.PlainWhole.{if_ok-map, whole-reads}
+use Rattle.md_seam.proofs.PlainWhole.{whole-reads}
 use Rattle.md_seam.proofs.plain.read_into.Goals as goal
 
 -- what indexing gives past the end of a list
@@ -24,8 +25,7 @@ is_without_ending-requires-clause-whole c =
 
 pub returns-then-is_without_ending : goal.returns-then-is_without_ending
 returns-then-is_without_ending c =
-    if_ok-map c.whole_chunk.result
-    (λ events is.
-    whole-reads c.args.state.now.bytes.now c.args.chunks.now unset events.items c.if-chunks-eq1.true
-    (c.is_without_ending.ensures c.if-is_without_ending.true) is)
+    on_ok_weaker c.whole_chunk.result
+    (whole-reads c.args.state.now.bytes.now c.args.chunks.now unset _ c.if-chunks-eq1.true
+    (c.is_without_ending.ensures c.if-is_without_ending.true))
     c.whole_chunk.ensures

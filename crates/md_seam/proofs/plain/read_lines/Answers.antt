@@ -1,4 +1,4 @@
-use Rattle.std.proofs.Common.{ap, ◌∙◌, arith}
+use Rattle.std.proofs.Common.{◌≡◌, [], ap, ◌∙◌, arith}
 use Rattle.std.proofs.lemmas.List.Elements.{All-nil}
 use Rattle.md_engine.specs.World.{Setting, World}
 use Rattle.md_seam.specs.declared.inline.Chunk.{Chunk}
@@ -20,16 +20,20 @@ pub set_events-requires-clause-frames : goal.set_events-requires-clause-frames
 set_events-requires-clause-frames c = ap (λ (w : World). w.frames) c.new-tokenizer.ensures
 
 pub set_events-requires-clause-placed : goal.set_events-requires-clause-placed
-set_events-requires-clause-placed c = rw (c.reserve.ensures.items, c.clear.ensures.items) (All-nil _)
+set_events-requires-clause-placed c =
+    rw (c.replace-list.ensures.value, c.reserve.ensures.items, c.clear.ensures.items) (All-nil _)
 
 pub loop-chunk-init : goal.loop-chunk-init
-loop-chunk-init c = record {
-  bytes = ap (λ (w : World). w.setting.bytes) c.set_events.ensures
-      ∙ ap (λ (w : World). w.setting.bytes) c.new-tokenizer.ensures;
-  skips = ap (λ (w : World). w.setting.skips) c.set_events.ensures
-      ∙ ap (λ (w : World). w.setting.skips) c.new-tokenizer.ensures;
-  events = ap (λ (w : World). w.events) c.set_events.ensures ∙ c.reserve.ensures.items ∙ c.clear.ensures.items;
-}
+loop-chunk-init c =
+    let empty : c.replace-list.result.items ≡ [] =
+    rw c.replace-list.ensures.value (c.reserve.ensures.items ∙ c.clear.ensures.items) in
+    record {
+      bytes = ap (λ (w : World). w.setting.bytes) c.set_events.ensures
+          ∙ ap (λ (w : World). w.setting.bytes) c.new-tokenizer.ensures;
+      skips = ap (λ (w : World). w.setting.skips) c.set_events.ensures
+          ∙ ap (λ (w : World). w.setting.skips) c.new-tokenizer.ensures;
+      events = ap (λ (w : World). w.events) c.set_events.ensures ∙ empty;
+    }
 
 pub read_chunk-requires-clause-chunk : goal.read_chunk-requires-clause-chunk
 read_chunk-requires-clause-chunk c =

@@ -1,7 +1,7 @@
 use Rattle.std.proofs.Common.{◌≡◌, ◌^◌, ◌<◌, ℕ, true, List, [], ◌∷◌, length, subst, sym}
 use Rattle.std.proofs.lemmas.Bool.{and_parts}
 use Rattle.std.proofs.lemmas.List.Elements.{All-cons, All-nil}
-use Rattle.std.proofs.lemmas.Result.{IfOk-weaker}
+use Rattle.std.proofs.lemmas.Result.{on_ok_weaker}
 use Rattle.md_engine.specs.declared.event.Event.{Event}
 use Rattle.md_engine.specs.Place.{IsPlaced}
 use Rattle.md_seam.specs.declared.inline.PartKind.{PartKind}
@@ -36,9 +36,10 @@ returns-clause-placed g c =
     let is : IsTextPart document part =
     subst (λ (k : PartKind). IsTextPart document (record { kind = k; chunks = c.args.chunks.now }))
     (sym c.kind_of.ensures) c.requires.asked in
-    IfOk-weaker c.read_into.result _ (λ events. ArePlaced document.bytes events.items)
-    (λ events reads.
-    placed-events document.bytes is.are.sized events.items
-    (g.met.I.Inline.keeps_frame c.args.self.now.inline.now document part events.items (text-part document part is)
+    let events : List Event = c.read_into.new.events.items in
+    on_ok_weaker c.read_into.result
+    (λ reads.
+    placed-events document.bytes is.are.sized events
+    (g.met.I.Inline.keeps_frame c.args.self.now.inline.now document part events (text-part document part is)
     reads).placed)
     c.read_into.ensures

@@ -18,7 +18,8 @@ loop-chunk-init c =
     c.new-tokenizer.ensures
     ∙ ap (fresh c.args.self.now.bytes.now c.args.self.now.options.now)
     (first-at c.args.chunks.now _ c.requires.some) in
-    let w = c.set_events.ensures ∙ without-events _ _ _ v refl c.clear.ensures.items in
+    let empty : c.replace-list.result.items ≡ [] = rw c.replace-list.ensures.value c.clear.ensures.items in
+    let w = c.set_events.ensures ∙ without-events _ _ _ v refl empty in
     record {
       bytes = ap (λ (x : World). x.setting.bytes) w;
       scratch = ap (λ (x : World). x.scratch) w;
