@@ -52,6 +52,7 @@ fn refuse(tokenizer: &mut Tokenizer) -> State
 }
 
 /// Goes on behind whitespace, if some stands here, and at most so much of it.
+#[inline(always)]
 fn behind_white(tokenizer: &mut Tokenizer, max: usize, next: TableState) -> State
     ensures to { result ≢ State.Error →
         result ≡ (white_on (world tokenizer.old) max next (sees_white tokenizer.old.current)).to }

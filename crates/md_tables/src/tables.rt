@@ -190,6 +190,7 @@ impl Walk {
     }
 
     /// Gives an event itself: in a table, with the cells of its row.
+    #[inline(always)]
     fn put(&mut self, event: &Event, behind: &[Event]) -> Result<(), Message>
         ensures given { OnOk result
             (self.new.rows.given.items ≡
