@@ -24,7 +24,7 @@ MOST: dict[str, tuple[int, int]] = {
     "paragraphs of long lines": (7, 12),
     "one long line": (98, 130),
     "headings of some words": (35, 42),
-    "setext headings": (31, 21),
+    "setext headings": (28, 21),
     "quotes of long lines": (34, 512),
     "quotes in quotes in quotes": (29, 512),
     "fences of some words": (35, 5_492),
