@@ -1,5 +1,5 @@
 #!/usr/bin/env python3
-"""Measures the built program `blocks`, and prints the tables of docs/performance.md.
+"""Measures the built program `blocks`: the figures of docs/performance.md are from its tables.
 
 `rt run` in crates/blocks builds it as crates/blocks/out/blocks. Tables are named as arguments; where none is, all are
 printed:

@@ -42,7 +42,7 @@ for number, edit in enumerate(edits, 1):
         replaced(name, old, new.replace("is_wrong()", asked), edit)
     if not tells:
         sys.exit(f"{edit}: no `new:` asks is_wrong()")
-    bodies.append((number, "Plain" if name.split("/")[1] in ("plain_grammars", "md_plain", "plain_body") else "Blocks"))
+    bodies.append((number, "Plain" if name.split("/")[1] in ("md_grammars", "reference_tree", "plain_body") else "Blocks"))
 
 # which body is wrong
 options = "crates/md_engine/src/configuration.rt"
@@ -60,8 +60,8 @@ main = """#![tactic(auto)]
 ghost use Rattle.std.specs.Prelude.{Unit};
 use blocks_body::Blocks;
 use events_body::Events;
-use blocks_vectors::report::Report;
-use blocks_vectors::rows::try_rows;
+use test_runner::report::Report;
+use test_runner::rows::try_rows;
 use md_engine::configuration::{Constructs, ParseOptions};
 use md_engine::message::Message;
 use md_program::body::{Body, Outlined};
@@ -116,7 +116,7 @@ fn main(rt: HostRuntime) -> io::Result<()> {{
     let mut report = Report::new(rt.alloc());
     let mut ran_out = false;
     for arg in &args {{
-        for rows in blocks_cases::all() {{
+        for rows in test_rows::all() {{
             ran_out |= match arg.as_str() {{
 {arms}                _ => true,
             }};

@@ -1,16 +1,16 @@
 // The bench. The first argument says what is tried: `blocks` the parser, `plain` the plain program, `agree` both against each other;
-// without one it is all three. Behind the first two stands a task of `blocks_vectors::task`, and behind `agree` the most letters of a
+// without one it is all three. Behind the first two stands a task of `test_runner::task`, and behind `agree` the most letters of a
 // text. It prints what disagreed, and then how much was tried.
 #![tactic(auto)]
 
 use blocks_body::Blocks;
-use blocks_cases::case::CaseError;
-use blocks_vectors::agree::try_agree;
-use blocks_vectors::report::Report;
-use blocks_vectors::task::Task;
 use plain_body::Plain;
 use std::alloc::Global;
 use std::{env, io};
+use test_rows::case::CaseError;
+use test_runner::agree::try_agree;
+use test_runner::report::Report;
+use test_runner::task::Task;
 
 /// So many letters where no argument says it.
 const MOST: usize = 7;

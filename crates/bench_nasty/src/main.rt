@@ -1,13 +1,13 @@
 // The bench of texts where constructs meet: the parser against the plain program. The arguments are those of
-// `blocks_vectors::nasty`; without one it is all three, with the numbers that stand there. It prints what disagreed, and
+// `test_runner::nasty`; without one it is all three, with the numbers that stand there. It prints what disagreed, and
 // then how much was tried.
 #![tactic(auto)]
 
 use blocks_body::Blocks;
-use blocks_vectors::nasty::Nasty;
-use blocks_vectors::report::Report;
 use plain_body::Plain;
 use std::{env, io};
+use test_runner::nasty::Nasty;
+use test_runner::report::Report;
 
 fn main(rt: HostRuntime) -> io::Result<()> {
     let mut args = Vec::new(rt.alloc());

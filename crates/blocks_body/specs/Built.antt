@@ -2,9 +2,9 @@
 use Rattle.std.specs.Prelude.{◌≡◌, ℕ, false, List}
 use Rattle.md_engine.specs.declared.configuration.ParseOptions.{ParseOptions}
 use Rattle.md_program.specs.Listing.{Listing}
-use Rattle.md_definition.specs.Label.{labels}
-use Rattle.md_definition.specs.Meaning.{tree}
-use Rattle.md_definition.specs.Outline.{outline}
+use Rattle.md_meaning.specs.Label.{labels}
+use Rattle.md_meaning.specs.Meaning.{tree}
+use Rattle.md_meaning.specs.Outline.{outline}
 
 -- what is asked for, as far as it is there: all but the constructs of MDX
 abbrev pub built_from : ParseOptions → ParseOptions

@@ -1,6 +1,6 @@
 // The printed form of events.
 ghost use Rattle.std.specs.Prelude.{◌≡◌, ◌++◌, OnOk, IfOk, string_bytes};
-ghost use Rattle.events_body.specs.PrintedEvents.{printed_event, printed_events, printed_point, printed_within, sign};
+ghost use Rattle.events_body.specs.PrintedEvents.{printed_event, printed_events, printed_point, sign};
 
 use crate::names::text_of;
 use md_engine::event::{Event, Kind, Point};

@@ -10,6 +10,7 @@ ghost use Rattle.markdown_blocks.specs.Parsed.{IsSmall};
 
 mod ahead;
 mod escape;
+mod loose;
 mod render;
 mod tags;
 

@@ -6,7 +6,8 @@
 
 use crate::ahead::{atx_depth, list_start, read_columns, setext_depth};
 use crate::escape::{push_escaped, without_indent};
-use crate::tags::{Shown, shown_behind, shown_in, tags};
+use crate::loose::loose_lists;
+use crate::tags::{Shown, begins_line, shown_behind, shown_in, tags};
 use markdown_blocks::event::{Event, Kind, Name, Point};
 use markdown_blocks::message::Message;
 use markdown_blocks::parser::ParseState;
@@ -35,13 +36,22 @@ struct Page<'a> {
     labels: &'a [String],
     /// How many footnote definitions have begun.
     footnotes: usize,
+    /// Whether each list is loose, in the order of the text.
+    loose: Vec<bool>,
+    /// How many lists have begun.
+    lists: usize,
+    /// Of each list, quote and footnote definition that is open, whether it is a tight list.
+    tight: Vec<bool>,
 }
 
 /// The blocks of a text as HTML. An `Err` says that memory ran out.
 ///
-/// All lists are loose: a paragraph in an item is a `<p>`, as elsewhere. Footnote definitions stand where the text has
-/// them. Definitions and frontmatter are not shown.
+/// A paragraph directly in an item of a tight list has no `<p>` around it. Footnote definitions are shown where the text
+/// has them, definitions and frontmatter not at all.
 pub fn render(alloc: Global, events: &[Event], state: &ParseState) -> Result<String, Message> {
+    let Ok(loose) = loose_lists(alloc, events) else {
+        return Err(Message);
+    };
     let mut page = Page {
         bytes: state.bytes,
         html: String::new(alloc),
@@ -58,6 +68,9 @@ pub fn render(alloc: Global, events: &[Event], state: &ParseState) -> Result<Str
         is_head: false,
         labels: &state.gfm_footnote_definitions,
         footnotes: 0,
+        loose,
+        lists: 0,
+        tight: Vec::new(alloc),
     };
     for (at, event) in events.iter().enumerate() {
         let written = match event.kind {
@@ -76,10 +89,25 @@ impl<'a> Page<'a> {
     fn enter(&mut self, event: &Event, ahead: &[Event]) -> Result<(), AllocError> {
         self.start = event.point;
         self.shown = shown_in(event.name).unwrap_or(self.shown);
+        if begins_line(event.name) {
+            self.begin_line()?;
+        }
         self.html.push_str(tags(event.name).0)?;
         match event.name {
-            Name::ListOrdered => self.tell_list(list_start(self.bytes, ahead))?,
-            Name::GfmFootnoteDefinition => self.tell_footnote()?,
+            Name::ListUnordered => self.open_list()?,
+            Name::ListOrdered => {
+                self.open_list()?;
+                self.tell_list(list_start(self.bytes, ahead))?;
+            }
+            Name::BlockQuote => self.tight.push(false)?,
+            Name::GfmFootnoteDefinition => {
+                self.tight.push(false)?;
+                self.tell_footnote()?;
+            }
+            Name::Paragraph if !self.is_tight() => {
+                self.begin_line()?;
+                self.html.push_str("<p>")?;
+            }
             Name::HeadingAtx => self.begin_heading(atx_depth(self.bytes, ahead))?,
             Name::HeadingSetext => self.begin_heading(setext_depth(self.bytes, ahead))?,
             Name::GfmTable => read_columns(&mut self.columns, self.bytes, ahead)?,
@@ -114,10 +142,38 @@ impl<'a> Page<'a> {
             Name::HeadingAtx | Name::HeadingSetext => write!(self.html, "</h{}>\n", self.depth)?,
             Name::GfmTableCell => self.end_cell()?,
             Name::GfmTableRow => self.fill_row()?,
+            Name::Paragraph if !self.is_tight() => self.html.push_str("</p>\n")?,
+            Name::ListOrdered
+            | Name::ListUnordered
+            | Name::BlockQuote
+            | Name::GfmFootnoteDefinition => {
+                let _closed = self.tight.pop();
+            }
             _ => {}
         }
         self.shown = shown_behind(event.name).unwrap_or(self.shown);
         self.html.push_str(tags(event.name).1)
+    }
+
+    /// Goes to a new line of the page, where the last one is not empty.
+    fn begin_line(&mut self) -> Result<(), AllocError> {
+        match self.html.as_bytes().last() {
+            None | Some(b'\n') => Ok(()),
+            Some(_) => self.html.push_str("\n"),
+        }
+    }
+
+    /// Notes of the list that begins whether it is tight.
+    fn open_list(&mut self) -> Result<(), AllocError> {
+        let is_loose = self.loose.get(self.lists).copied().unwrap_or(true);
+        self.lists = self.lists.saturating_add(1);
+        self.tight.push(!is_loose)?;
+        Ok(())
+    }
+
+    /// Whether a paragraph that begins or ends here is directly in an item of a tight list.
+    fn is_tight(&self) -> bool {
+        self.tight.last().copied().unwrap_or(false)
     }
 
     /// What stands in the piece that ends here.

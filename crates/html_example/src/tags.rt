@@ -45,10 +45,9 @@ pub(crate) fn tags(name: Name) -> (&'static str, &'static str) {
     match name {
         Name::BlockQuote => ("<blockquote>\n", "</blockquote>\n"),
         Name::ListUnordered => ("<ul>\n", "</ul>\n"),
-        Name::ListItem => ("<li>\n", "</li>\n"),
-        Name::Paragraph => ("<p>", "</p>\n"),
+        Name::ListItem => ("<li>", "</li>\n"),
         Name::ThematicBreak => ("<hr />\n", ""),
-        // The renderer ends these tags, and that of fenced code.
+        // The renderer ends these tags, and that of fenced code. It writes those of paragraphs.
         Name::ListOrdered => ("<ol", "</ol>\n"),
         Name::GfmFootnoteDefinition => ("<section class=\"footnote\"", "</section>\n"),
         Name::CodeIndented => ("<pre><code>", "</code></pre>\n"),
@@ -61,4 +60,24 @@ pub(crate) fn tags(name: Name) -> (&'static str, &'static str) {
         Name::GfmTableRow => ("<tr>\n", "</tr>\n"),
         _ => ("", ""),
     }
+}
+
+/// Whether a part of this name begins on a line of its own in the page.
+pub(crate) fn begins_line(name: Name) -> bool {
+    matches!(
+        name,
+        Name::BlockQuote
+            | Name::ListOrdered
+            | Name::ListUnordered
+            | Name::ListItem
+            | Name::GfmFootnoteDefinition
+            | Name::HeadingAtx
+            | Name::HeadingSetext
+            | Name::ThematicBreak
+            | Name::CodeIndented
+            | Name::CodeFenced
+            | Name::MathFlow
+            | Name::HtmlFlow
+            | Name::GfmTable
+    )
 }

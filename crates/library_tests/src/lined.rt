@@ -1,11 +1,11 @@
 // The outline of leaf blocks of several lines, on events as a parse adds them.
 
 use markdown_blocks::outline::outline;
-use md_definition::outline::Word;
 use md_engine::configuration::ParseOptions;
 use md_engine::event::{Event, Kind, Name, Point};
 use md_engine::message::Message;
 use md_engine::parse_state::ParseState;
+use md_meaning::outline::Word;
 use std::alloc::{AllocError, Global};
 use std::process::Abort;
 

@@ -3,9 +3,9 @@ ghost use Rattle.markdown_blocks.specs.Parsed.{IsSmall};
 
 use markdown_blocks::outline::outline;
 use markdown_blocks::parser::parse;
-use md_definition::outline::Word;
 use md_engine::configuration::{Constructs, ParseOptions};
 use md_engine::message::Message;
+use md_meaning::outline::Word;
 use std::alloc::{AllocError, Global};
 use std::process::Abort;
 

@@ -1,7 +1,8 @@
 -- What the table of the document has read of a text: its mark and its frontmatter.
 use Rattle.std.proofs.Common.{◌≡◌, ◌+◌, ◌^◌, ◌<◌, ◌≤◌, ℕ, suc, Bool, true, false, cond, nat_eq, nat_lt, ◌&&◌, ◌||◌}
-use Rattle.markdown_blocks.specs.Flow.{inside_code}
-use Rattle.markdown_blocks.specs.Registry.{LeafName, insider}
+use Rattle.md_registry.specs.Flow.{inside_code}
+use Rattle.md_frame.specs.LeafName.{LeafName}
+use Rattle.md_registry.specs.Registry.{asked_first}
 use Rattle.std.proofs.Common.{List, [], ◌∷◌, ◌++◌, length, take, drop, Option, Some, None, refl, sym, ◌∙◌, ap, subst}
 use Rattle.std.proofs.Common.{append-nil}
 use Rattle.std.proofs.Common.{arith}
@@ -43,7 +44,7 @@ use Rattle.md_engine.proofs.Standing.{runs-mean}
 use Rattle.md_engine.proofs.TextFeed.{flush-means, text-follows}
 use Rattle.md_containers.specs.Frontmatter as fm
 use Rattle.md_containers.specs.Frontmatter.{cleared}
-use Rattle.md_definition.specs.Lines.{full_lines_of}
+use Rattle.md_meaning.specs.Lines.{full_lines_of}
 use Rattle.md_leaves.specs.Heading.{without_size}
 use Rattle.md_seam.specs.Spaces as spaces
 use Rattle.md_seam.specs.Transition.{Transition}
@@ -52,23 +53,23 @@ use Rattle.md_leaves.specs.Bom.{mark, mark_at}
 use Rattle.md_leaves.specs.BomRule.{are_next, bom_at}
 use Rattle.md_seam.specs.Ahead.{point_after}
 use Rattle.md_seam.specs.Events.Nested.{pair}
-use Rattle.md_definition.specs.Preamble.{has_mark}
+use Rattle.md_meaning.specs.Preamble.{has_mark}
 use Rattle.md_seam.specs.Look.{looks_behind, may_with}
 use Rattle.md_seam.specs.Spaces.{IsRest, ends_line, is_current, sees_white, white_transition}
-use Rattle.markdown_blocks.specs.Document.{DocumentStep, ReadsFront, document_table_scheme, document_transition}
-use Rattle.markdown_blocks.specs.Front.{FrontRead, body_point, events_of, front_events, front_read, mark_end, point_or}
-use Rattle.markdown_blocks.specs.Front.{text_front}
-use Rattle.markdown_blocks.specs.DocumentRule.{behind_front, document_at, document_behaves}
-use Rattle.markdown_blocks.specs.Flow.{existing_before_code, flow_end_code, opener_transition, trial_code}
-use Rattle.markdown_blocks.specs.Registry.{may_go_on, may_open, opener_at}
-use Rattle.markdown_blocks.specs.FlowReads.{text_cells, text_setting}
-use Rattle.markdown_blocks.specs.FlowRule.{tried}
-use Rattle.markdown_blocks.specs.LineFlags.{asking, next_container, stays}
-use Rattle.markdown_blocks.proofs.FrontAgrees.{Begins, IsWhole, comes, front-agrees}
-use Rattle.markdown_blocks.proofs.DocumentMeans.{document_means, document_stands}
+use Rattle.md_registry.specs.Document.{DocumentStep, ReadsFront, document_table_scheme, document_transition}
+use Rattle.md_frame.specs.Front.{FrontRead, body_point, events_of, front_events, front_read, mark_end, point_or}
+use Rattle.md_frame.specs.Front.{text_front}
+use Rattle.md_frame.specs.DocumentRule.{behind_front, document_at, document_behaves}
+use Rattle.md_registry.specs.Flow.{existing_before_code, flow_end_code, opener_transition, trial_code}
+use Rattle.md_registry.specs.Registry.{may_go_on, may_open, opener_at}
+use Rattle.md_rows.specs.TextRows.{text_cells, text_setting}
+use Rattle.md_frame.specs.Rule.{tried}
+use Rattle.md_registry.specs.LineFlags.{asking, next_container, kept_containers}
+use Rattle.md_front_rooms.proofs.FrontAgrees.{Begins, IsWhole, comes, front-agrees}
+use Rattle.md_rows.proofs.DocumentMeans.{document_table_means, document_stands}
 use Rattle.md_seam.proofs.FeedLines.{feed-next, feed-none, line-feed, past-next}
 use Rattle.md_seam.proofs.PlacesLemmas.{at-next}
-use Rattle.md_definition.proofs.PreambleLemmas.{mark-bytes, mark-length}
+use Rattle.md_meaning.proofs.PreambleLemmas.{mark-bytes, mark-length}
 use Rattle.markdown_blocks.proofs.FlowReads.{resolved-none}
 
 -- The mark among the cells.
@@ -405,13 +406,13 @@ went-resolvers (s.Frontmatter state) w = front-resolvers state w
 went-resolvers (s.SpaceOrTab state) w = white-resolvers state w
 went-resolvers (s.Document document.ContainerExistingBefore) w =
     existing-resolvers w (ends_line w.current) (next_container w.flags)
-went-resolvers (s.Document document.FlowEnd) w = end-resolvers (closed w (stays w.flags) w.flags.line_end) w.current
+went-resolvers (s.Document document.FlowEnd) w = end-resolvers (closed w (kept_containers w.flags) w.flags.line_end) w.current
 went-resolvers (s.Document document.Start) w = refl
 went-resolvers (s.Document document.BeforeFrontmatter) w = refl
 went-resolvers (s.Document document.ContainerExistingAfter) w = refl
 went-resolvers (s.Document document.ContainerNewAfter) w = refl
 went-resolvers (s.Document document.ContainersAfter) w = refl
-went-resolvers (s.Document document.FlowInside) w = inside-resolvers w (insider w.flags.leaf)
+went-resolvers (s.Document document.FlowInside) w = inside-resolvers w (asked_first w.flags.leaf)
 went-resolvers (s.Document state) w = opener-resolvers w (opener_at state)
 went-resolvers _ w = refl
 
@@ -469,7 +470,7 @@ document-reads R bytes options end at found new small run f =
         stands document_table_scheme at (plain end)
     pushed =
         runs-mean DocumentStep document_table_scheme (document_behaves options) false (text_feed x)
-        (Next (s.Document document.Start)) w0 (document_means w0.setting false) document_stands
+        (Next (s.Document document.Start)) w0 (document_table_means w0.setting false) document_stands
         (text-follows x (length bytes) false small (omega arith) (λ e. cc)) stood end at run
 
     kept : at.setting ≡ x
@@ -482,7 +483,7 @@ document-reads R bytes options end at found new small run f =
         let Q : Setting → Type 0 =
         λ y. MeansAt DocumentStep document_table_scheme at.setting (document_behaves y.options) true in
         flush-means DocumentStep R document_table_scheme (document_behaves options) (text_feed x) end at true found new
-        (subst Q kept (document_means at.setting true)) document_stands
+        (subst Q kept (document_table_means at.setting true)) document_stands
         (subst P (sym kept) (text-follows x x.limit true small (omega arith) (λ e. refl))) pushed.1 f
 
     ended : record (begun bytes options) {

@@ -1,18 +1,16 @@
 -- Each state of flow takes one step of what flow means.
 use Rattle.std.proofs.Common.{◌≡◌, ◌⊎◌, inl, inr, ℕ, Bool, true, false, cond, nat_eq, List, [], ◌∷◌, ◌++◌, length, take}
-use Rattle.markdown_blocks.specs.FlowRule.{leaf_of}
-use Rattle.markdown_blocks.specs.FlowRule.{all_on, inside_by, inside_of}
-use Rattle.markdown_blocks.specs.Flow.{behind_all, inside_code, leaf_front}
-use Rattle.markdown_blocks.specs.Registry.{insider, shuts_out}
+use Rattle.md_registry.specs.FlowRule.{leaf_of}
+use Rattle.md_registry.specs.FlowRule.{all_on, inside_by, inside_of}
+use Rattle.md_registry.specs.Flow.{behind_all, inside_code, leaf_front}
+use Rattle.md_registry.specs.Registry.{asked_first, bars_containers}
 use Rattle.std.specs.Option.{is_some}
-use Rattle.markdown_blocks.specs.FlowRule.{behind_leaf}
-use Rattle.markdown_blocks.specs.Flow.{leaf_end}
+use Rattle.md_registry.specs.FlowRule.{behind_leaf}
+use Rattle.md_registry.specs.Flow.{leaf_end}
 use Rattle.std.proofs.Common.{Option, Some, None, refl, sym, ◌∙◌, ap, subst, arith, append_assoc}
 use Rattle.std.proofs.lemmas.List.{take_all}
 use Rattle.md_engine.specs.declared.configuration.ParseOptions.{ParseOptions}
 use Rattle.md_engine.specs.declared.event.Event.{Event}
-use Rattle.md_engine.specs.declared.resolve.name.Name.{Name as ResolveName}
-use Rattle.md_engine.specs.declared.resolve.name.Name.TheVariants as r
 use Rattle.md_engine.specs.declared.state.Name.{Name as StateName}
 use Rattle.md_engine.specs.declared.state.Name.TheVariants as n
 use Rattle.md_engine.specs.declared.state.document.State.{State as DocumentState}
@@ -28,50 +26,55 @@ use Rattle.md_engine.specs.declared.tokenizer.Scratch.{Scratch}
 use Rattle.md_engine.specs.Meaning.{Accepts, Behaviour, Cell, Fails, Feed, Here, Outcome, Refuses, Steps, goes, here}
 use Rattle.md_engine.specs.Meaning.{resume}
 use Rattle.md_engine.specs.Run.{reading}
-use Rattle.md_engine.specs.Scheme.{after_all, spot, stands}
+use Rattle.md_engine.specs.Scheme.{after_all, position, stands}
 use Rattle.md_engine.specs.Standing.{MeansAt, StandsOn}
 use Rattle.md_engine.specs.declared.tokenizer.container.name.ContainerKind.{ContainerKind}
 use Rattle.md_engine.specs.World.{Flags, Setting, World, after, closed, container_of, looks}
 use Rattle.md_engine.proofs.StepOf.{Sees, ahead, begins_only, changes, outermost-frames, passes, sees, steps-as}
 use Rattle.md_content.specs.ChunkRule.{chunk_at}
-use Rattle.md_content.proofs.ContentSteps.{chunk_steps}
+use Rattle.md_content.proofs.ContentMeaning.{chunk_means}
 use Rattle.md_leaves.specs.Blank as blank
 use Rattle.md_leaves.proofs.BlankLook.{blank-ended, blank-refused}
-use Rattle.md_leaves.proofs.BlankSteps.{blank_steps}
+use Rattle.md_leaves.proofs.BlankMeaning.{blank_means}
 use Rattle.md_seam.specs.Ahead.{begins_white}
 use Rattle.md_seam.specs.Events.Nested.{enter, exit, pair}
 use Rattle.md_seam.specs.Look.{looks_behind, may_with}
 use Rattle.md_seam.specs.Spaces.{IsRest, ends_line, sees_white}
 use Rattle.md_seam.specs.Transition.{Transition, entered, exited, taken}
 use Rattle.md_seam.proofs.LookLemmas.{first-seen, refused-first}
-use Rattle.md_seam.proofs.SpacesGoods.{does-stands}
-use Rattle.md_seam.proofs.WhiteSteps.{begins-seen, white_steps}
-use Rattle.markdown_blocks.specs.Document.{document_own_transition}
+use Rattle.md_seam.proofs.SpacesTermination.{does-stands}
+use Rattle.md_seam.proofs.WhiteMeaning.{begins-seen, white_means}
+use Rattle.md_registry.specs.Document.{document_own_transition}
 use Rattle.markdown_blocks.specs.Fed.{feeds}
-use Rattle.markdown_blocks.specs.Flow.{after_transition, before_content_transition, before_transition}
-use Rattle.markdown_blocks.specs.Flow.{blank_line_after_transition, blank_line_code, containers_after_transition}
-use Rattle.markdown_blocks.specs.Flow.{existing_after_transition, existing_before_code, flow_end_code}
-use Rattle.markdown_blocks.specs.Flow.{flow_end_transition, flow_own_transition, leaf_after_transition}
-use Rattle.markdown_blocks.specs.Flow.{leaf_transition, new_after_transition}
-use Rattle.markdown_blocks.specs.Flow.{new_before_transition, opener_transition, start_transition, trial_code}
-use Rattle.markdown_blocks.specs.FlowRule.{HasFlow, Rule, blank_ended, ended, ended_to, existing_at, existing_by}
-use Rattle.markdown_blocks.specs.FlowRule.{flow_at, leaves_of, line_ended, line_then, new_of, nonblank_of}
-use Rattle.markdown_blocks.specs.FlowRule.{opened, openers_of}
-use Rattle.markdown_blocks.specs.FlowRule.{tried}
-use Rattle.markdown_blocks.specs.LineFlags as flags
-use Rattle.markdown_blocks.specs.LineFlags.{asking, blank_here, ending_name, next_container, next_line, nothing_stands}
-use Rattle.markdown_blocks.specs.LineFlags.{went_on}
-use Rattle.markdown_blocks.specs.States.{FlowStep, flow_behaves, flow_behaves_by, flow_table_scheme, flow_transition}
-use Rattle.markdown_blocks.specs.States.{leaf_owner, opener_owner}
-use Rattle.markdown_blocks.specs.Registry.{behind, container_rules, front_of, leaf, LeafName, may_go_on, may_open, next_of}
-use Rattle.markdown_blocks.specs.Registry.{next_opener, opener_at, opener_front, openers, openers_behind, trials, tried_at}
-use Rattle.markdown_blocks.proofs.FlowLemmas.{flow_by_line, line_by_container, new_by_container}
-use Rattle.markdown_blocks.proofs.Openers as opening
-use Rattle.markdown_blocks.proofs.Openers.{left-front}
-use Rattle.markdown_blocks.proofs.States.{flow_does}
-use Rattle.markdown_blocks.proofs.Trials.{left-before, left-next}
-use Rattle.markdown_blocks.proofs.Registry.{HasTrial, construct-steps, container-states, is-tried, leaf-states}
-use Rattle.markdown_blocks.proofs.Registry.{container-laws, laws, opener-before, trial-asked, tried-before, white_has}
+use Rattle.md_registry.specs.Flow.{after_transition, before_content_transition, before_transition}
+use Rattle.md_registry.specs.Flow.{blank_line_after_transition, blank_line_code, containers_after_transition}
+use Rattle.md_registry.specs.Flow.{existing_after_transition, existing_before_code, flow_end_code}
+use Rattle.md_registry.specs.Flow.{flow_end_transition, flow_own_transition, leaf_after_transition}
+use Rattle.md_registry.specs.Flow.{leaf_transition, new_after_transition}
+use Rattle.md_registry.specs.Flow.{new_before_transition, opener_transition, start_transition, trial_code}
+use Rattle.md_frame.specs.Rule.{Rule}
+use Rattle.md_registry.specs.FlowRule.{HasFlow, blank_ended, ended, ended_to, existing_at, existing_by}
+use Rattle.md_registry.specs.FlowRule.{flow_at, leaves_of, line_ended, line_then, new_of, nonblank_of}
+use Rattle.md_registry.specs.FlowRule.{opened, openers_of}
+use Rattle.md_frame.specs.Rule.{tried}
+use Rattle.md_registry.specs.LineFlags as flags
+use Rattle.md_frame.specs.EndingName.{ending_name}
+use Rattle.md_registry.specs.LineFlags.{asking, blank_here, next_container, next_line, nothing_stands}
+use Rattle.md_registry.specs.LineFlags.{went_on}
+use Rattle.md_registry.specs.States.{FlowStep, flow_behaves, flow_behaves_by, flow_table_scheme, flow_transition}
+use Rattle.md_registry.specs.States.{leaf_owner, opener_owner}
+use Rattle.md_frame.specs.LeafName.{LeafName}
+use Rattle.md_registry.specs.Registry.{behind, container_rules, front_of, leaf, may_go_on, may_open, next_of}
+use Rattle.md_registry.specs.Registry.{next_opener, opener_at, opener_front, openers, openers_behind, trials}
+use Rattle.md_registry.specs.Registry.{tried_at}
+use Rattle.md_rows.proofs.FlowLemmas.{flow_by_line, line_by_container, new_by_container}
+use Rattle.md_registry.proofs.Openers as opening
+use Rattle.md_registry.proofs.Openers.{left-front}
+use Rattle.md_registry.proofs.States.{flow_terminates}
+use Rattle.md_registry.proofs.Trials.{left-before, left-next}
+use Rattle.md_registry.proofs.ConstructStates.{HasTrial, construct-steps, container-states, is-tried, leaf-states}
+use Rattle.md_registry.proofs.ConstructStates.{opener-before, tried-before, white_has}
+use Rattle.md_registry.proofs.Registry.{container-laws, laws, trial-asked}
 
 -- an attempt that was begun here
 abbrev frame_here : State → State → World → Frame
@@ -107,17 +110,17 @@ record IsTried (B : Behaviour) (feed : Feed) (w : World) (g : Flags) (from start
   nok_is : (s : Scratch) (x : Flags) → B nok (feed w.point) (record (here w) { scratch = s; flags = x }) ≡ otherwise s x
   looked : may ≡ false → B start (feed w.point) (record (here w) { flags = g }) ≡ Refuses w.scratch g
 
-trial_steps : (B : Behaviour) (feed : Feed) (w : World) (g : Flags) (from start ok nok : StateName) (may : Bool) →
+trial_means : (B : Behaviour) (feed : Feed) (w : World) (g : Flags) (from start ok nok : StateName) (may : Bool) →
     IsTried B feed w g from start ok nok may →
     Steps B feed (Next from) w (trial_code start ok nok (record w { flags = g }) may).to
     (trial_code start ok nok (record w { flags = g }) may).world
-trial_steps B feed w g from start ok nok true t =
+trial_means B feed w g from start ok nok true t =
     begins_only B feed _ _ w (trial_code start ok nok (record w { flags = g }) true).world
     (frame_here (Next ok) (Next nok) w) refl refl
     (t.from_is
     ∙ resumed B feed w (Next ok) (Next nok) (B start (feed w.point) (record (here w) { flags = g })) t.onward
     t.otherwise t.ok_is t.nok_is)
-trial_steps B feed w g from start ok nok false t =
+trial_means B feed w g from start ok nok false t =
     passes B feed _ _ w (record w { flags = g }) refl refl
     (t.from_is ∙ ap (λ (o : Outcome). tried o t.onward t.otherwise) (t.looked refl) ∙ sym (t.nok_is w.scratch g))
 
@@ -148,24 +151,24 @@ all_left : (B : Behaviour) (options : ParseOptions) (next : Rule) → HasFlow B 
 all_left B options next has true cells h = has.containers document.ContainersAfter cells h
 all_left B options next has false cells h = opening_left B options next has cells h
 
-existing_before_steps : (B : Behaviour) (feed : Feed) (w : World) (options : ParseOptions) (next : Rule) (ends : Bool)
+existing_before_means : (B : Behaviour) (feed : Feed) (w : World) (options : ParseOptions) (next : Rule) (ends : Bool)
     (o : Option Container) →
     HasFlow B options next → Sees feed w → IsRest w.scratch → ends_line w.current ≡ ends → next_container w.flags ≡ o →
     Steps B feed (Next (n.Document document.ContainerExistingBefore)) w (existing_before_code w ends o).to
     (existing_before_code w ends o).world
-existing_before_steps B feed w options next true o has s is e k =
+existing_before_means B feed w options next true o has s is e k =
     passes B feed _ _ w (existing_before_code w true o).world refl refl
     (existing_left B feed w options next true has s e ∙ sym (has.containers document.ContainersAfter _ _))
-existing_before_steps B feed w options next false None has s is e k =
+existing_before_means B feed w options next false None has s is e k =
     passes B feed _ _ w w refl refl
     (existing_left B feed w options next false has s e
     ∙ ap (λ (o : Option Container). existing_by options next (line_then options next) o (feed w.point) (here w)) k
-    ∙ sym (all_left B options next has (shuts_out w.flags.leaf) (feed w.point) (here w)))
-existing_before_steps B feed w options next false (Some c) has s is e k =
+    ∙ sym (all_left B options next has (bars_containers w.flags.leaf) (feed w.point) (here w)))
+existing_before_means B feed w options next false (Some c) has s is e k =
     let onward : Rule = λ rest k. line_then options next rest (record k { flags = went_on k.flags }) in
     let otherwise : Scratch → Flags → Outcome =
     λ s g. new_of options next (feed w.point) (record (here w) { scratch = s; flags = g }) in
-    trial_steps B feed w (asking c w).flags _ _ _ _ (may_with (may_go_on c.kind) (looks_behind w)) (record {
+    trial_means B feed w (asking c w).flags _ _ _ _ (may_with (may_go_on c.kind) (looks_behind w)) (record {
       onward = onward;
       otherwise = otherwise;
       from_is =
@@ -180,24 +183,24 @@ existing_before_steps B feed w options next false (Some c) has s is e k =
           ∙ (container-laws c.kind).continues_looked options _ _ first.0 is first.1 first.2;
     })
 
-existing_after_steps : (B : Behaviour) (feed : Feed) (w : World) (options : ParseOptions) (next : Rule) →
+existing_after_means : (B : Behaviour) (feed : Feed) (w : World) (options : ParseOptions) (next : Rule) →
     HasFlow B options next →
     Steps B feed (Next (n.Document document.ContainerExistingAfter)) w (existing_after_transition w).to
     (existing_after_transition w).world
-existing_after_steps B feed w options next has =
+existing_after_means B feed w options next has =
     passes B feed _ _ w (existing_after_transition w).world refl refl
     (has.containers document.ContainerExistingAfter _ _ ∙ sym (has.containers document.ContainerExistingBefore _ _))
 
-new_before_steps : (k : ContainerKind) (B : Behaviour) (feed : Feed) (w : World) (options : ParseOptions)
+new_before_means : (k : ContainerKind) (B : Behaviour) (feed : Feed) (w : World) (options : ParseOptions)
     (next : Rule) →
     HasFlow B options next → Sees feed w → IsRest w.scratch →
     Steps B feed (Next (n.Document (container_rules k).before)) w (new_before_transition k w).to
     (new_before_transition k w).world
-new_before_steps k B feed w options next has s is =
+new_before_means k B feed w options next has s is =
     let onward : Rule = λ rest x. new_of options next rest (opened x) in
     let otherwise : Scratch → Flags → Outcome =
     λ s g. openers_of options next (openers_behind k) (feed w.point) (record (here w) { scratch = s; flags = g }) in
-    trial_steps B feed w (asking (container_of k) w).flags _ _ _ _ (may_with (may_open k) (looks_behind w)) (record {
+    trial_means B feed w (asking (container_of k) w).flags _ _ _ _ (may_with (may_open k) (looks_behind w)) (record {
       onward = onward;
       otherwise = otherwise;
       from_is =
@@ -211,46 +214,46 @@ new_before_steps k B feed w options next has s is =
     })
 
 -- where containers end no attempt is around, so none goes back to events before these ends
-new_after_steps : (B : Behaviour) (feed : Feed) (w : World) (options : ParseOptions) (next : Rule) →
+new_after_means : (B : Behaviour) (feed : Feed) (w : World) (options : ParseOptions) (next : Rule) →
     HasFlow B options next → w.frames ≡ [] →
     Steps B feed (Next (n.Document document.ContainerNewAfter)) w (new_after_transition w).to
     (new_after_transition w).world
-new_after_steps B feed w options next has none =
+new_after_means B feed w options next has none =
     changes B feed _ _ w (new_after_transition w).world none none
     (has.containers document.ContainerNewAfter _ _ ∙ sym (opening_left B options next has _ _))
 
 -- where a leaf may be asked first
 front_left : (B : Behaviour) (options : ParseOptions) (next : Rule) → HasFlow B options next → (cells : List Cell)
     (h : Here) →
-    B (leaf_front (is_some (insider h.flags.leaf))) cells h ≡ inside_of options next cells h
-front_left B options next has cells h = go (insider h.flags.leaf) refl
+    B (leaf_front (is_some (asked_first h.flags.leaf))) cells h ≡ inside_of options next cells h
+front_left B options next has cells h = go (asked_first h.flags.leaf) refl
   where
-    go : (o : Option LeafName) → insider h.flags.leaf ≡ o →
+    go : (o : Option LeafName) → asked_first h.flags.leaf ≡ o →
         B (leaf_front (is_some o)) cells h ≡ inside_by options next o cells h
     go None e = has.leaves flow.Start cells h
     go (Some l) e =
         has.containers document.FlowInside cells h ∙ ap (λ (o : Option LeafName). inside_by options next o cells h) e
 
-containers_after_steps : (B : Behaviour) (feed : Feed) (w : World) (options : ParseOptions) (next : Rule) →
+containers_after_means : (B : Behaviour) (feed : Feed) (w : World) (options : ParseOptions) (next : Rule) →
     HasFlow B options next →
     Steps B feed (Next (n.Document document.ContainersAfter)) w (containers_after_transition w).to
     (containers_after_transition w).world
-containers_after_steps B feed w options next has =
+containers_after_means B feed w options next has =
     passes B feed _ _ w (containers_after_transition w).world refl refl
     (has.containers document.ContainersAfter _ _ ∙ sym (front_left B options next has _ _))
 
-inside_steps : (B : Behaviour) (feed : Feed) (w : World) (options : ParseOptions) (next : Rule) (o : Option LeafName) →
-    HasFlow B options next → Sees feed w → insider w.flags.leaf ≡ o →
+inside_means : (B : Behaviour) (feed : Feed) (w : World) (options : ParseOptions) (next : Rule) (o : Option LeafName) →
+    HasFlow B options next → Sees feed w → asked_first w.flags.leaf ≡ o →
     Steps B feed (Next (n.Document document.FlowInside)) w (inside_code w o).to (inside_code w o).world
-inside_steps B feed w options next None has s e =
+inside_means B feed w options next None has s e =
     passes B feed _ _ w w refl refl
     (has.containers document.FlowInside _ _
     ∙ ap (λ (o : Option LeafName). inside_by options next o (feed w.point) (here w)) e
     ∙ sym (has.leaves flow.Start _ _))
-inside_steps B feed w options next (Some l) has s e =
+inside_means B feed w options next (Some l) has s e =
     let otherwise : Scratch → Flags → Outcome =
     λ s g. leaf_of options next (feed w.point) (record (here w) { scratch = s; flags = g }) in
-    trial_steps B feed w (blank_here (nothing_stands w.current w.point) w.flags) _ _ _ _ true (record {
+    trial_means B feed w (blank_here (nothing_stands w.current w.point) w.flags) _ _ _ _ true (record {
       onward = line_ended next;
       otherwise = otherwise;
       from_is =
@@ -270,18 +273,18 @@ inside_steps B feed w options next (Some l) has s e =
 
 -- The leaf of a line.
 
-start_steps : (B : Behaviour) (feed : Feed) (w : World) (options : ParseOptions) (next : Rule) →
+start_means : (B : Behaviour) (feed : Feed) (w : World) (options : ParseOptions) (next : Rule) →
     HasFlow B options next →
     Steps B feed (Next (n.Flow flow.Start)) w (start_transition w).to (start_transition w).world
-start_steps B feed w options next has =
+start_means B feed w options next has =
     passes B feed _ _ w w refl refl (has.leaves flow.Start _ _ ∙ sym (has.leaves flow.BlankLineBefore _ _))
 
-blank_line_before_steps : (B : Behaviour) (feed : Feed) (w : World) (options : ParseOptions) (next : Rule) (x : Bool) →
+blank_line_before_means : (B : Behaviour) (feed : Feed) (w : World) (options : ParseOptions) (next : Rule) (x : Bool) →
     HasFlow B options next → Sees feed w → ends_line w.current ≡ x →
     Steps B feed (Next (n.Flow flow.BlankLineBefore)) w
     (blank_line_code w x (may_with blank.may_begin (looks_behind w))).to
     (blank_line_code w x (may_with blank.may_begin (looks_behind w))).world
-blank_line_before_steps B feed w options next true has s e =
+blank_line_before_means B feed w options next true has s e =
     let otherwise : Scratch → Flags → Outcome =
     λ s g. nonblank_of options next (feed w.point) (record (here w) { scratch = s; flags = g }) in
     passes B feed _ _ w w refl refl
@@ -289,10 +292,10 @@ blank_line_before_steps B feed w options next true has s e =
     ∙ ap (λ (o : Outcome). tried o (blank_ended next) otherwise)
     (blank-ended _ (here w) (ap ends_line (first-seen feed w s) ∙ e))
     ∙ sym (has.leaves flow.BlankLineAfter _ _))
-blank_line_before_steps B feed w options next false has s e =
+blank_line_before_means B feed w options next false has s e =
     let otherwise : Scratch → Flags → Outcome =
     λ s g. nonblank_of options next (feed w.point) (record (here w) { scratch = s; flags = g }) in
-    trial_steps B feed w w.flags _ _ _ _ (may_with blank.may_begin (looks_behind w)) (record {
+    trial_means B feed w w.flags _ _ _ _ (may_with blank.may_begin (looks_behind w)) (record {
       onward = blank_ended next;
       otherwise = otherwise;
       from_is =
@@ -312,14 +315,14 @@ flow-ends : (B : Behaviour) (options : ParseOptions) (next : Rule) → HasFlow B
 flow-ends B options next has true cells h = has.leaves flow.LeafAfter cells h
 flow-ends B options next has false cells h = has.leaves flow.After cells h
 
-before_steps : (l : LeafName) (B : Behaviour) (feed : Feed) (w : World) (options : ParseOptions) (next : Rule) →
+before_means : (l : LeafName) (B : Behaviour) (feed : Feed) (w : World) (options : ParseOptions) (next : Rule) →
     HasTrial l → HasFlow B options next → Sees feed w → IsRest w.scratch → (leaf l).asked w.flags.leaf ≡ true →
     Steps B feed (Next (n.Flow (leaf l).before)) w (before_transition l w).to (before_transition l w).world
-before_steps l B feed w options next tried_is has s is asked =
+before_means l B feed w options next tried_is has s is asked =
     let otherwise : Scratch → Flags → Outcome =
     λ s g. leaves_of options next (behind l) (feed w.point) (record (here w) { scratch = s; flags = g }) in
     let begins : ℕ → Bool = (leaf l).may_begin w.flags.leaf (sees_white w.current) in
-    trial_steps B feed w w.flags _ _ _ _ (may_with begins (looks_behind w)) (record {
+    trial_means B feed w w.flags _ _ _ _ (may_with begins (looks_behind w)) (record {
       onward = behind_leaf (leaf l).ends next;
       otherwise = otherwise;
       from_is =
@@ -335,11 +338,11 @@ before_steps l B feed w options next tried_is has s is asked =
           ∙ (laws l).refused options _ (here w) asked is ((laws l).looked options _ _ first.0 first.1 none);
     })
 
-before_content_steps : (B : Behaviour) (feed : Feed) (w : World) (options : ParseOptions) (next : Rule) →
+before_content_means : (B : Behaviour) (feed : Feed) (w : World) (options : ParseOptions) (next : Rule) →
     HasFlow B options next →
     Steps B feed (Next (n.Flow flow.BeforeContent)) w (before_content_transition w).to
     (before_content_transition w).world
-before_content_steps B feed w options next has =
+before_content_means B feed w options next has =
     let f : Frame = frame_here (Next (n.Flow flow.After)) Nok w in
     begins_only B feed _ _ w (before_content_transition w).world f refl refl
     (has.leaves flow.BeforeContent _ _
@@ -347,25 +350,25 @@ before_content_steps B feed w options next has =
     (has.leaves flow.After) (λ s g. refl)
     ∙ ap (resume B feed w.events f) (sym (has.chunk _ _)))
 
-blank_line_after_steps : (B : Behaviour) (feed : Feed) (w : World) (options : ParseOptions) (next : Rule) →
+blank_line_after_means : (B : Behaviour) (feed : Feed) (w : World) (options : ParseOptions) (next : Rule) →
     HasFlow B options next →
     Steps B feed (Next (n.Flow flow.BlankLineAfter)) w (blank_line_after_transition w).to
     (blank_line_after_transition w).world
-blank_line_after_steps B feed w options next has =
+blank_line_after_means B feed w options next has =
     passes B feed _ _ w (blank_line_after_transition w).world refl refl
     (has.leaves flow.BlankLineAfter _ _ ∙ sym (has.containers document.FlowEnd _ _))
 
-leaf_after_steps : (B : Behaviour) (feed : Feed) (w : World) (options : ParseOptions) (next : Rule) →
+leaf_after_means : (B : Behaviour) (feed : Feed) (w : World) (options : ParseOptions) (next : Rule) →
     HasFlow B options next →
     Steps B feed (Next (n.Flow flow.LeafAfter)) w (leaf_after_transition w).to (leaf_after_transition w).world
-leaf_after_steps B feed w options next has =
+leaf_after_means B feed w options next has =
     passes B feed _ _ w (leaf_after_transition w).world refl refl
     (has.leaves flow.LeafAfter _ _ ∙ sym (has.containers document.FlowEnd _ _))
 
-after_steps : (B : Behaviour) (feed : Feed) (w : World) (options : ParseOptions) (next : Rule) →
+after_means : (B : Behaviour) (feed : Feed) (w : World) (options : ParseOptions) (next : Rule) →
     HasFlow B options next →
     Steps B feed (Next (n.Flow flow.After)) w (after_transition w).to (after_transition w).world
-after_steps B feed w options next has =
+after_means B feed w options next has =
     passes B feed _ _ w w refl refl (has.leaves flow.After _ _ ∙ sym (has.containers document.FlowEnd _ _))
 
 -- The end of a line.
@@ -397,16 +400,16 @@ ending_left feed v next b e =
     (sym split))
 
 -- where containers ended that did not go on
-flow_end_code_steps : (B : Behaviour) (feed : Feed) (w v : World) (options : ParseOptions) (next : Rule)
+flow_end_code_means : (B : Behaviour) (feed : Feed) (w v : World) (options : ParseOptions) (next : Rule)
     (o : Option ℕ) →
     HasFlow B options next → w.frames ≡ [] → v.frames ≡ [] → feed v.point ≡ ahead feed v o →
     GoesOn B next (feeds (n.Document document.FlowEnd) o) →
     goes B (Next (n.Document document.FlowEnd)) (feed w.point) (here w) ≡ ended next (ahead feed v o) (here v) →
     Steps B feed (Next (n.Document document.FlowEnd)) w (flow_end_code v o).to (flow_end_code v o).world
-flow_end_code_steps B feed w v options next None has none also sees on is =
+flow_end_code_means B feed w v options next None has none also sees on is =
     changes B feed _ _ w (flow_end_code v None).world none also
     (is ∙ ap (Accepts (ended_to 0 (length v.events) (here v))) (sym sees))
-flow_end_code_steps B feed w v options next (Some b) has none also sees on is = go (nat_eq b 10) refl on
+flow_end_code_means B feed w v options next (Some b) has none also sees on is = go (nat_eq b 10) refl on
   where
     go : (x : Bool) → nat_eq b 10 ≡ x → GoesOn B next (cond x 1 0) →
         Steps B feed (Next (n.Document document.FlowEnd)) w (flow_end_code v (Some b)).to
@@ -418,13 +421,13 @@ flow_end_code_steps B feed w v options next (Some b) has none also sees on is = 
         (is ∙ ending_left feed v next b e ∙ meets _ _))
     go false e on = rw e (changes B feed _ Nok w v none also (is ∙ rw e refl))
 
-flow_end_steps : (B : Behaviour) (feed : Feed) (w : World) (options : ParseOptions) (next : Rule) →
+flow_end_means : (B : Behaviour) (feed : Feed) (w : World) (options : ParseOptions) (next : Rule) →
     HasFlow B options next → Sees feed w → w.frames ≡ [] →
     GoesOn B next (feeds (n.Document document.FlowEnd) w.current) →
     Steps B feed (Next (n.Document document.FlowEnd)) w (flow_end_transition w).to (flow_end_transition w).world
-flow_end_steps B feed w options next has s none on =
-    flow_end_code_steps B feed w
-    (closed w (flags.stays w.flags) w.flags.line_end) options next w.current has none none s.next on
+flow_end_means B feed w options next has s none on =
+    flow_end_code_means B feed w
+    (closed w (flags.kept_containers w.flags) w.flags.line_end) options next w.current has none none s.next on
     (has.containers document.FlowEnd _ _ ∙ ap (λ (x : List Cell). line_ended next x (here w)) s.next)
 
 flow_has : (bytes : List ℕ) (options : ParseOptions) (next : Rule) →
@@ -440,70 +443,70 @@ flow_has bytes options next = record {
 }
 
 -- the states in front of a container that may open,
-opener_steps : (B : Behaviour) (feed : Feed) (next : Rule) (state : DocumentState) (o : Option ContainerKind) →
+opener_means : (B : Behaviour) (feed : Feed) (next : Rule) (state : DocumentState) (o : Option ContainerKind) →
     opener_at state ≡ o → (w : World) →
     HasFlow B w.setting.options next → Sees feed w →
-    (opener_owner o).ready (n.Document state) (spot w) (after_all flow_table_scheme w.frames) →
+    (opener_owner o).ready (n.Document state) (position w) (after_all flow_table_scheme w.frames) →
     Steps B feed (Next (n.Document state)) w (opener_transition o w).to (opener_transition o w).world
-opener_steps B feed next state None e w has s at = absurd at
-opener_steps B feed next state (Some k) e w has s at =
+opener_means B feed next state None e w has s at = absurd at
+opener_means B feed next state (Some k) e w has s at =
     let P : DocumentState → Type 0 =
     λ x. Steps B feed (Next (n.Document x)) w (new_before_transition k w).to (new_before_transition k w).world in
-    subst P (opener-before state k e) (new_before_steps k B feed w _ _ has s at.0.0)
+    subst P (opener-before state k e) (new_before_means k B feed w _ _ has s at.0.0)
 
 -- and the others between the containers of a line
-containers_steps : (B : Behaviour) (feed : Feed) (next : Rule) (state : DocumentState) (w : World) →
+containers_means : (B : Behaviour) (feed : Feed) (next : Rule) (state : DocumentState) (w : World) →
     HasFlow B w.setting.options next → Sees feed w →
     stands flow_table_scheme w (Next (n.Document state)) → GoesOn B next (feeds (n.Document state) w.current) →
     Steps B feed (Next (n.Document state)) w (document_own_transition state w).to
     (document_own_transition state w).world
-containers_steps B feed next document.ContainerExistingBefore w has s at on =
-    existing_before_steps B feed w _ _ _ _ has s at.0.0 refl refl
-containers_steps B feed next document.ContainerExistingAfter w has s at on = existing_after_steps B feed w _ _ has
-containers_steps B feed next document.ContainerNewAfter w has s at on =
-    new_after_steps B feed w _ _ has (outermost-frames flow_table_scheme w.frames at.1)
-containers_steps B feed next document.ContainersAfter w has s at on = containers_after_steps B feed w _ _ has
-containers_steps B feed next document.FlowInside w has s at on = inside_steps B feed w _ _ _ has s refl
-containers_steps B feed next document.FlowEnd w has s at on =
-    flow_end_steps B feed w _ _ has s (outermost-frames flow_table_scheme w.frames at.1) on
-containers_steps B feed next document.Start w has s at on = absurd at
-containers_steps B feed next document.BeforeFrontmatter w has s at on = absurd at
-containers_steps B feed next state w has s at on = opener_steps B feed next state (opener_at state) refl w has s at
+containers_means B feed next document.ContainerExistingBefore w has s at on =
+    existing_before_means B feed w _ _ _ _ has s at.0.0 refl refl
+containers_means B feed next document.ContainerExistingAfter w has s at on = existing_after_means B feed w _ _ has
+containers_means B feed next document.ContainerNewAfter w has s at on =
+    new_after_means B feed w _ _ has (outermost-frames flow_table_scheme w.frames at.1)
+containers_means B feed next document.ContainersAfter w has s at on = containers_after_means B feed w _ _ has
+containers_means B feed next document.FlowInside w has s at on = inside_means B feed w _ _ _ has s refl
+containers_means B feed next document.FlowEnd w has s at on =
+    flow_end_means B feed w _ _ has s (outermost-frames flow_table_scheme w.frames at.1) on
+containers_means B feed next document.Start w has s at on = absurd at
+containers_means B feed next document.BeforeFrontmatter w has s at on = absurd at
+containers_means B feed next state w has s at on = opener_means B feed next state (opener_at state) refl w has s at
 
 -- the states in front of a leaf,
-leaf_steps : (B : Behaviour) (feed : Feed) (next : Rule) (state : FlowState) (o : Option LeafName) →
+leaf_means : (B : Behaviour) (feed : Feed) (next : Rule) (state : FlowState) (o : Option LeafName) →
     tried_at state ≡ o → (w : World) →
     HasFlow B w.setting.options next → Sees feed w →
-    (leaf_owner o).ready (n.Flow state) (spot w) (after_all flow_table_scheme w.frames) →
+    (leaf_owner o).ready (n.Flow state) (position w) (after_all flow_table_scheme w.frames) →
     Steps B feed (Next (n.Flow state)) w (leaf_transition o w).to (leaf_transition o w).world
-leaf_steps B feed next state None e w has s at = absurd at
-leaf_steps B feed next state (Some l) e w has s at =
+leaf_means B feed next state None e w has s at = absurd at
+leaf_means B feed next state (Some l) e w has s at =
     let P : FlowState →
     Type 0 = λ x. Steps B feed (Next (n.Flow x)) w (before_transition l w).to (before_transition l w).world in
     subst P (tried-before state l e)
-    (before_steps l B feed w _ _ (is-tried state l e) has s at.0.0 (trial-asked state l e w.flags.leaf))
+    (before_means l B feed w _ _ (is-tried state l e) has s at.0.0 (trial-asked state l e w.flags.leaf))
 
 -- and those in front of none, or behind it
-leaves_steps : (B : Behaviour) (feed : Feed) (next : Rule) (state : FlowState) (w : World) →
+leaves_means : (B : Behaviour) (feed : Feed) (next : Rule) (state : FlowState) (w : World) →
     HasFlow B w.setting.options next → Sees feed w →
     stands flow_table_scheme w (Next (n.Flow state)) →
     Steps B feed (Next (n.Flow state)) w (flow_own_transition state w).to (flow_own_transition state w).world
-leaves_steps B feed next flow.Start w has s at = start_steps B feed w _ _ has
-leaves_steps B feed next flow.BlankLineBefore w has s at = blank_line_before_steps B feed w _ _ _ has s refl
-leaves_steps B feed next flow.BeforeContent w has s at = before_content_steps B feed w _ _ has
-leaves_steps B feed next flow.BlankLineAfter w has s at = blank_line_after_steps B feed w _ _ has
-leaves_steps B feed next flow.LeafAfter w has s at = leaf_after_steps B feed w _ _ has
-leaves_steps B feed next flow.After w has s at = after_steps B feed w _ _ has
-leaves_steps B feed next state w has s at = leaf_steps B feed next state (tried_at state) refl w has s at
+leaves_means B feed next flow.Start w has s at = start_means B feed w _ _ has
+leaves_means B feed next flow.BlankLineBefore w has s at = blank_line_before_means B feed w _ _ _ has s refl
+leaves_means B feed next flow.BeforeContent w has s at = before_content_means B feed w _ _ has
+leaves_means B feed next flow.BlankLineAfter w has s at = blank_line_after_means B feed w _ _ has
+leaves_means B feed next flow.LeafAfter w has s at = leaf_after_means B feed w _ _ has
+leaves_means B feed next flow.After w has s at = after_means B feed w _ _ has
+leaves_means B feed next state w has s at = leaf_means B feed next state (tried_at state) refl w has s at
 
 -- each state takes one step of what it means
-each_steps : (is_name : ResolveName → ResolveName → Bool) (feed : Feed) (next : Rule) (name : StateName) (w : World) →
+each_means : (feed : Feed) (next : Rule) (name : StateName) (w : World) →
     Sees feed w → w.current ≡ looks w → stands flow_table_scheme w (Next name) →
     GoesOn (flow_behaves_by w.setting.bytes w.setting.options next) next (feeds name w.current) →
     Steps (flow_behaves_by w.setting.bytes w.setting.options next) feed (Next name) w
-    (flow_transition is_name name w).to
-    (flow_transition is_name name w).world
-each_steps is_name feed next name w s c at on = go name at on
+    (flow_transition name w).to
+    (flow_transition name w).world
+each_means feed next name w s c at on = go name at on
   where
     B : Behaviour
     B = flow_behaves_by w.setting.bytes w.setting.options next
@@ -512,23 +515,23 @@ each_steps is_name feed next name w s c at on = go name at on
     has = flow_has w.setting.bytes w.setting.options next
 
     go : (name : StateName) → stands flow_table_scheme w (Next name) → GoesOn B next (feeds name w.current) →
-        Steps B feed (Next name) w (flow_transition is_name name w).to (flow_transition is_name name w).world
-    go (n.BlankLine state) at on = blank_steps B feed state w has.blank s at.0
+        Steps B feed (Next name) w (flow_transition name w).to (flow_transition name w).world
+    go (n.BlankLine state) at on = blank_means B feed state w has.blank s at.0
     go (n.Content state) at on =
-        chunk_steps B feed (is_name r.Content) state w _ (record { each = λ _ _ _. refl }) s c at
-    go (n.Document state) at on = containers_steps B feed next state w has s at on
-    go (n.Flow state) at on = leaves_steps B feed next state w has s at
-    go (n.SpaceOrTab state) at on = white_steps B feed state w has.blank.white s
-    go name at on = construct-steps is_name feed next name w s c at
+        chunk_means B feed state w _ (record { each = λ _ _ _. refl }) s c at
+    go (n.Document state) at on = containers_means B feed next state w has s at on
+    go (n.Flow state) at on = leaves_means B feed next state w has s at
+    go (n.SpaceOrTab state) at on = white_means B feed state w has.blank.white s
+    go name at on = construct-steps feed next name w s c at
 
 -- whatever follows behind the line, a call that takes no ending is one step of what flow means
-pub flow-steps-by : (is_name : ResolveName → ResolveName → Bool) (feed : Feed) (next : Rule) (name : StateName)
+pub flow-steps-by : (feed : Feed) (next : Rule) (name : StateName)
     (w : World) →
     Sees feed w → w.current ≡ looks w → stands flow_table_scheme w (Next name) → feeds name w.current ≡ 0 →
     Steps (flow_behaves_by w.setting.bytes w.setting.options next) feed (Next name) w
-    (flow_transition is_name name w).to
-    (flow_transition is_name name w).world
-flow-steps-by is_name feed next name w s c at none = each_steps is_name feed next name w s c at (inl none)
+    (flow_transition name w).to
+    (flow_transition name w).world
+flow-steps-by feed next name w s c at none = each_means feed next name w s c at (inl none)
 
 -- an ending is taken with no attempt around, and then the rule goes on
 pub record Takes (next : Rule) (feed : Feed) (w : World) (to : State) (new : World) : Type 0 where
@@ -539,14 +542,14 @@ pub record Takes (next : Rule) (feed : Feed) (w : World) (to : State) (new : Wor
       (feed w.point) (here w) ≡
       next (feed new.point) (here new)
 
-pub ending-taken : (is_name : ResolveName → ResolveName → Bool) (feed : Feed) (next : Rule) (w : World) → Sees feed w →
+pub ending-taken : (feed : Feed) (next : Rule) (w : World) → Sees feed w →
     stands flow_table_scheme w (Next (n.Document document.FlowEnd)) → w.current ≡ Some 10 →
-    Takes next feed w (flow_transition is_name (n.Document document.FlowEnd) w).to
-    (flow_transition is_name (n.Document document.FlowEnd) w).world
-ending-taken is_name feed next w s at is = subst P (sym (ap (flow_end_code v) is)) taken_here
+    Takes next feed w (flow_transition (n.Document document.FlowEnd) w).to
+    (flow_transition (n.Document document.FlowEnd) w).world
+ending-taken feed next w s at is = subst P (sym (ap (flow_end_code v) is)) taken_here
   where
     v : World
-    v = closed w (flags.stays w.flags) w.flags.line_end
+    v = closed w (flags.kept_containers w.flags) w.flags.line_end
 
     P : Transition → Type 0
     P x = Takes next feed w x.to x.world
@@ -565,17 +568,17 @@ ending-taken is_name feed next w s at is = subst P (sym (ap (flow_end_code v) is
     }
 
 -- each state of flow takes one step of what flow means: behind a line all further lines follow
-pub flow_means : (is_name : ResolveName → ResolveName → Bool) (under : Setting) (is_end : Bool) →
-    MeansAt (FlowStep is_name) flow_table_scheme under (flow_behaves under.bytes under.options) is_end
-flow_means is_name under is_end feed name w to new f called step =
+pub flow_table_means : (under : Setting) (is_end : Bool) →
+    MeansAt FlowStep flow_table_scheme under (flow_behaves under.bytes under.options) is_end
+flow_table_means under is_end feed name w to new f called step =
     steps-as (flow_behaves under.bytes under.options) feed (Next name) _ to (reading w) _ new step.to_is step.new_is
     (rw (sym called.setting)
-    (each_steps is_name feed (flow_at w.setting.options) name (reading w)
+    (each_means feed (flow_at w.setting.options) name (reading w)
     (sees feed w is_end f called.may) refl called.stands (inr (flow_by_line w.setting.options))))
 
 -- and comes to where the table stands
-pub flow_stands : (is_name : ResolveName → ResolveName → Bool) → StandsOn (FlowStep is_name) flow_table_scheme
-flow_stands is_name name w to new at step =
+pub flow_stands : StandsOn FlowStep flow_table_scheme
+flow_stands name w to new at step =
     does-stands flow_table_scheme name (reading w)
-    (flow_transition is_name name (reading w)) to new step.to_is step.new_is
-    (flow_does is_name name (reading w) refl at)
+    (flow_transition name (reading w)) to new step.to_is step.new_is
+    (flow_terminates name (reading w) refl at)

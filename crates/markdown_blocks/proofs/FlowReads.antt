@@ -17,7 +17,6 @@ use Rattle.md_engine.specs.declared.state.State.TheVariants.{Error, Ok, Nok, Nex
 use Rattle.md_engine.specs.declared.tokenizer.Frame.{Frame}
 use Rattle.md_engine.specs.Found.{Found, nothing, with_found}
 use Rattle.md_engine.specs.Meaning.{Accepts, comes_to, goes, here}
-use Rattle.md_engine.specs.Resolvers.{same_name}
 use Rattle.md_engine.specs.Run.{Flushes, IsEnd, Resolution, Resolved, Runs, Step, goes_back, left, plain, reading}
 use Rattle.md_engine.specs.Run.Resolved.{More, NoneYet}
 use Rattle.md_engine.specs.Run.Runs.{Stays, ThenCalls, ThenLeaves}
@@ -32,34 +31,36 @@ use Rattle.md_content.specs.Labels.{labels_in}
 use Rattle.md_content.proofs.LabelsLemmas.{labels-none}
 use Rattle.md_content.specs.Resolves.{Resolves, found_in_content}
 use Rattle.md_leaves.specs.Turned.{turned}
-use Rattle.markdown_blocks.specs.FlowReads.{lines_joined, tables_set}
+use Rattle.md_frame.specs.Joins.{lines_joined, tables_set}
 use Rattle.md_seam.specs.Substituted.{Substituted}
 use Rattle.markdown_blocks.specs.Fed.{FlowRan}
-use Rattle.markdown_blocks.specs.FlowReads.{FlowReads, has_text, text_cells, text_rows, text_setting}
-use Rattle.markdown_blocks.specs.Resolved.{resolved_as}
-use Rattle.markdown_blocks.specs.FlowRule.{flow_at}
-use Rattle.markdown_blocks.specs.Registry.{heads_read, is_own, resolved, resolver}
-use Rattle.markdown_blocks.specs.Rows.{BlankRow, LeafRow, Row, RowKind, TextRow, is_text, leaf_events, row_events}
-use Rattle.markdown_blocks.specs.Rows.{row_events_by, rows_events, tail_events}
-use Rattle.markdown_blocks.specs.States.{FlowStep, flow_behaves, flow_table_scheme}
-use Rattle.markdown_blocks.proofs.EachEvent.{each-behind, each-front}
-use Rattle.markdown_blocks.proofs.EachRow.{EachRow}
-use Rattle.markdown_blocks.proofs.FlowLemmas.{flow_by_line}
-use Rattle.markdown_blocks.proofs.FlowRows.{flow_at-rows}
+use Rattle.markdown_blocks.specs.FlowReads.{FlowReads, has_text}
+use Rattle.md_rows.specs.TextRows.{text_cells, text_rows, text_setting}
+use Rattle.md_frame.specs.Resolved.{resolved_as}
+use Rattle.md_registry.specs.FlowRule.{flow_at}
+use Rattle.md_frame.specs.Resolving.{heads_read, is_own, resolved, resolver}
+use Rattle.md_frame.specs.Row.{BlankRow, LeafRow, Row, RowKind, TextRow}
+use Rattle.md_rows.specs.Rows.{is_text, leaf_events, row_events}
+use Rattle.md_rows.specs.Rows.{row_events_by, rows_events, tail_events}
+use Rattle.md_registry.specs.States.{FlowStep, flow_behaves, flow_table_scheme}
+use Rattle.md_frame.proofs.EachEvent.{each-behind, each-front}
+use Rattle.md_rows.proofs.EachRow.{EachRow}
+use Rattle.md_rows.proofs.FlowLemmas.{flow_by_line}
+use Rattle.md_rows.proofs.FlowRows.{flow_at-rows}
 use Rattle.markdown_blocks.proofs.FlowRuns.{flow_flush, flow_outcome, flow_push}
-use Rattle.markdown_blocks.proofs.ContentFacts.{content-alone, no_content-label, nothing as nothing_wanted}
-use Rattle.markdown_blocks.proofs.ContentFacts.{nothing-wanted}
+use Rattle.md_frame.proofs.ContentFacts.{content-alone, no_content-label, nothing as nothing_wanted}
+use Rattle.md_frame.proofs.ContentFacts.{nothing-wanted}
 use Rattle.markdown_blocks.proofs.FlowSteps.{IsFramed, content-same, reading-outside, rows-no_content, rows-outside}
 use Rattle.markdown_blocks.proofs.FlowSteps.{rows_at-framed}
-use Rattle.markdown_blocks.proofs.HeadsRead.{heads-none, heads-outside}
-use Rattle.markdown_blocks.proofs.JoinedLemmas.{EachNoContent, rows_at-no_content}
-use Rattle.markdown_blocks.proofs.OutsideFacts.{AreOutside, IsNoEnd, NoEnds}
-use Rattle.markdown_blocks.proofs.OutsideLemmas.{outside-same}
-use Rattle.markdown_blocks.proofs.Registers.{Registers, goes-back, named, none-yet}
+use Rattle.md_table_rooms.proofs.HeadsRead.{heads-none, heads-outside}
+use Rattle.md_rows.proofs.JoinedLemmas.{EachNoContent, rows_at-no_content}
+use Rattle.md_frame.proofs.OutsideFacts.{AreOutside, IsNoEnd, NoEnds}
+use Rattle.md_rows.proofs.OutsideLemmas.{outside-same}
+use Rattle.md_frame.proofs.Registers.{Registers, goes-back, named, none-yet}
 use Rattle.markdown_blocks.proofs.StandsLemmas.{flow-ran}
 use Rattle.markdown_blocks.proofs.LinesFed.{text-follows_it}
 use Rattle.md_seam.specs.Spaces.{any_size}
-use Rattle.markdown_blocks.proofs.StatesRegister.{went-registers}
+use Rattle.md_rows.proofs.StatesRegister.{went-registers}
 
 left-registers : (w : World) (outer : List Frame) (f : Frame) (b : Bool) → Registers w → Registers (left w outer f b)
 left-registers w outer f true h = goes-back f.events_len w.events w.resolvers h
@@ -67,7 +68,7 @@ left-registers w outer f false h = h
 
 -- and so does a run
 runs-register : (is_end : Bool) (s : State) (w : World) → Registers w → (s' : State) (w' : World) →
-    Runs (FlowStep same_name) is_end s w s' w' → Registers w'
+    Runs FlowStep is_end s w s' w' → Registers w'
 runs-register is_end s w h s' w' Stays = h
 runs-register is_end s w h s' w' (ThenLeaves t v t' v' run l) =
     let P : World → Type 0 = λ x. Registers x in
@@ -286,26 +287,23 @@ pub flushed-frames : (T : Step) (end : State) (at : World) (found : Found) (new 
 flushed-frames T end at found new f =
     resolved-frames (record f.at { resolvers = [] }) f.at.resolvers found new f.resolved ∙ f.none_left
 
--- what flow has read of a text from a point on, once all of it was pushed and flushed, setext headings were set, the
--- lines of leaves were joined, tables got their cells, and lists were put around items
-pub flow-reads : (bytes : List ℕ) (options : ParseOptions) (p : Point) (end : State) (at : World) (found : Found)
-    (items lines : World) (more : Option Found) (new : World) →
-    length bytes < 2 ^ 61 →
-    Runs (FlowStep same_name) false (Next (s.Document document.ContainerExistingBefore))
-    (reads_to (fresh bytes options p) (length bytes)) end at →
-    Flushes (FlowStep same_name) resolved_as end at true found items →
-    lines ≡ record items { events = tables_set options (lines_joined options (turned items.events)) } →
-    resolved_as r.ListItem lines more new →
-    FlowReads bytes options p found new
-flow-reads bytes options p end at found items lines more new small run f joining listing =
-    go
-    (runs-register true end at
-    (runs-register false (Next (s.Document document.ContainerExistingBefore))
-    (reads_to w0 (length bytes)) none-yet end at run) f.end f.at f.runs)
-  where
-    w0 : World
-    w0 = fresh bytes options p
+-- What flow has added once a text from a point on was pushed and flushed, before its resolvers run: the events of its
+-- rows.
+record IsPushed (bytes : List ℕ) (options : ParseOptions) (p : Point) (end : State) (at : World) : Type 0 where
+  ran : FlowRan bytes options p end at
+  events : at.events ≡ rows_events (text_rows options bytes p)
+  setting : at.setting ≡ text_setting bytes options p
 
+-- A push and a flush that run to their ends add just these.
+flow-pushed : (bytes : List ℕ) (options : ParseOptions) (p : Point) (end : State) (at : World) (found : Found)
+    (items : World) →
+    length bytes < 2 ^ 61 →
+    Runs FlowStep false (Next (s.Document document.ContainerExistingBefore))
+    (reads_to (fresh bytes options p) (length bytes)) end at →
+    (f : Flushes FlowStep resolved_as end at true found items) → IsPushed bytes options p f.end f.at
+flow-pushed bytes options p end at found items small run f =
+    record { ran = ran; events = events; setting = setting }
+  where
     begun : stands flow_table_scheme (reads_to (fresh bytes options p) (length bytes))
         (Next (s.Document document.ContainerExistingBefore))
     begun = ((refl, record { ok = λ s q t is up way. tt; nok = λ s q t is up. tt }), tt)
@@ -315,12 +313,12 @@ flow-reads bytes options p end at found items lines more new small run f joining
         comes_to (flow_behaves bytes options) (text_feed (text_setting bytes options p)) end at) ×
         stands flow_table_scheme at (plain end)
     pushed =
-        flow_push same_name (Next (s.Document document.ContainerExistingBefore)) end (fresh bytes options p) at
+        flow_push (Next (s.Document document.ContainerExistingBefore)) end (fresh bytes options p) at
         (length bytes) (length bytes) small (omega arith) begun run
 
     kept : at.setting ≡ text_setting bytes options p
     kept =
-        runs-setting (FlowStep same_name) false (Next (s.Document document.ContainerExistingBefore))
+        runs-setting FlowStep false (Next (s.Document document.ContainerExistingBefore))
         (reads_to (fresh bytes options p) (length bytes)) end at run
 
     limit : at.setting.limit < 2 ^ 61
@@ -341,7 +339,7 @@ flow-reads bytes options p end at found items lines more new small run f joining
         Type 0 = λ y. flow_at y.options (text_cells bytes options p) (here (fresh bytes options p)) ≡
         Accepts (here f.at) [] in
         subst P kept
-        (flow_outcome same_name resolved_as end at true found items (text_cells bytes options p)
+        (flow_outcome resolved_as end at true found items (text_cells bytes options p)
         (here (fresh bytes options p)) limit pushed.1 means f)
 
     -- the run of a push and a flush, which ends with the text
@@ -355,21 +353,21 @@ flow-reads bytes options p end at found items lines more new small run f joining
     ends (Next name) t e = absurd t
     ends (Retry name) t e = absurd t
 
-    ran_so : FlowRan bytes options p f.end f.at
-    ran_so =
+    ran : FlowRan bytes options p f.end f.at
+    ran =
         let same : flow_at at.setting.options (text_cells bytes options p) (here (fresh bytes options p)) ≡
         goes (flow_behaves at.setting.bytes at.setting.options) f.end (text_feed at.setting f.at.point) (here f.at) =
-        sym means ∙ flow_flush same_name resolved_as end at true found items limit pushed.1 f in
+        sym means ∙ flow_flush resolved_as end at true found items limit pushed.1 f in
         let comes : goes (flow_behaves at.setting.bytes at.setting.options) f.end (text_feed at.setting f.at.point)
         (here f.at) ≡ Accepts (here f.at) [] =
         sym same
-        ∙ flow_outcome same_name resolved_as end at true found items (text_cells bytes options p)
+        ∙ flow_outcome resolved_as end at true found items (text_cells bytes options p)
         (here (fresh bytes options p)) limit pushed.1 means f in
         let done = ends f.end f.ends comes in
         flow-ran bytes options p f.end f.at small
-        (runs-append (FlowStep same_name) true (Next (s.Document document.ContainerExistingBefore))
+        (runs-append FlowStep true (Next (s.Document document.ContainerExistingBefore))
         (reads_to (fresh bytes options p) (length bytes)) end at f.end f.at
-        (runs-at_end (FlowStep same_name) (Next (s.Document document.ContainerExistingBefore))
+        (runs-at_end FlowStep (Next (s.Document document.ContainerExistingBefore))
         (reads_to (fresh bytes options p) (length bytes)) end at run) f.runs)
         done.0 f.none_left (ap (λ (x : Setting). text_feed x f.at.point) (sym kept) ∙ done.1)
 
@@ -382,7 +380,27 @@ flow-reads bytes options p end at found items lines more new small run f joining
         (here f.at) [] few refl refl refl refl refl refl refl out
 
     setting : f.at.setting ≡ text_setting bytes options p
-    setting = runs-setting (FlowStep same_name) true end at f.end f.at f.runs ∙ kept
+    setting = runs-setting FlowStep true end at f.end f.at f.runs ∙ kept
+
+-- what flow has read of a text from a point on, once all of it was pushed and flushed, setext headings were set, the
+-- lines of leaves were joined, tables got their cells, and lists were put around items
+pub flow-reads : (bytes : List ℕ) (options : ParseOptions) (p : Point) (end : State) (at : World) (found : Found)
+    (items lines : World) (more : Option Found) (new : World) →
+    length bytes < 2 ^ 61 →
+    Runs FlowStep false (Next (s.Document document.ContainerExistingBefore))
+    (reads_to (fresh bytes options p) (length bytes)) end at →
+    Flushes FlowStep resolved_as end at true found items →
+    lines ≡ record items { events = tables_set options (lines_joined options (turned items.events)) } →
+    resolved_as r.ListItem lines more new →
+    FlowReads bytes options p found new
+flow-reads bytes options p end at found items lines more new small run f joining listing =
+    go
+    (runs-register true end at
+    (runs-register false (Next (s.Document document.ContainerExistingBefore))
+    (reads_to (fresh bytes options p) (length bytes)) none-yet end at run) f.end f.at f.runs)
+  where
+    pushed : IsPushed bytes options p f.end f.at
+    pushed = flow-pushed bytes options p end at found items small run f
 
     rows : List Row
     rows = text_rows options bytes p
@@ -405,22 +423,22 @@ flow-reads bytes options p end at found items lines more new small run f joining
         let P : List Event → Type 0 = λ es. NoEnds is_content es in
         let Q : List Event → Type 0 = λ es. NoEnds is_own es in
         let read : ContentRead bytes options rows w ran.mid_found ran.mid =
-        content-step bytes options rows registers.content w ran.mid_found ran.mid framed quiet events
-        (ap (λ (x : Setting). x.bytes) setting) (ap (λ (x : Setting). x.options) setting)
-        (λ e. subst P events (registers.no_content e)) ran.reads in
+        content-step bytes options rows registers.content w ran.mid_found ran.mid framed quiet pushed.events
+        (ap (λ (x : Setting). x.bytes) pushed.setting) (ap (λ (x : Setting). x.options) pushed.setting)
+        (λ e. subst P pushed.events (registers.no_content e)) ran.reads in
         let set : (found ≡ ran.mid_found) × (items ≡ record ran.mid { events = resolved ran.mid.events }) =
         own-step registers.own ran.mid ran.mid_found found items
         (λ e.
         reading-outside bytes options (heads_read options bytes (rows_events rows)) ran.mid.events
         (heads-outside options bytes (rows_events rows)
-        (rows-outside rows framed (subst Q events (registers.no_own e)))) read.read) ran.sets in
+        (rows-outside rows framed (subst Q pushed.events (registers.no_own e)))) read.read) ran.sets in
         let before : items ≡ record w { events = resolved ran.mid.events } = set.1
         ∙ ap (λ (x : World). record x { events = resolved ran.mid.events }) read.rest in
         let put : List Event → List Event = λ es. tables_set options (lines_joined options (turned es)) in
         let joined_up : lines ≡ record w { events = put (resolved ran.mid.events) } = joining
         ∙ ap (λ (x : World). record x { events = put x.events }) before in
         let text : lines.setting.bytes ≡ bytes = ap (λ (x : World). x.setting.bytes) joined_up
-        ∙ ap (λ (x : Setting). x.bytes) setting in
+        ∙ ap (λ (x : Setting). x.bytes) pushed.setting in
         let all : new ≡
         record w { events = listed bytes (put (resolved ran.mid.events)) } = listing.1
         ∙ ap (λ (x : World). record x { events = listed lines.setting.bytes x.events }) joined_up
@@ -432,43 +450,36 @@ flow-reads bytes options p end at found items lines more new small run f joining
         record {
           end = f.end;
           ended = f.at;
-          ran = ran_so;
-          events = events;
+          ran = pushed.ran;
+          events = pushed.events;
           content = ran.mid.events;
           content_read = read.read;
           events_are = is;
           rest = all ∙ ap (λ (l : List Event). record w { events = l }) (sym is);
-          setting = ap (λ (x : World). x.setting) all ∙ setting;
+          setting = ap (λ (x : World). x.setting) all ∙ pushed.setting;
           frames = ap (λ (x : World). x.frames) all ∙ f.none_left;
           found_is = subst F (sym set.0) read.found_is;
           definitions = ap (λ (x : Found). x.definitions) set.0 ∙ read.definitions;
           footnotes = ap (λ (x : Found). x.footnotes) set.0 ∙ read.footnotes;
         }
 
--- the same for a tokenizer that is known to be fresh, whose test of names is known to be that one
-pub flow-reads-from : (is_name : ResolveName → ResolveName → Bool) (bytes : List ℕ) (options : ParseOptions) (p : Point)
+-- the same for a tokenizer that is known to be fresh
+pub flow-reads-from : (bytes : List ℕ) (options : ParseOptions) (p : Point)
     (start : World) (to : ℕ) (end : State) (at : World) (found : Found) (items lines : World) (more : Option Found)
     (new : World) →
-    ((a b : ResolveName) → is_name a b ≡ same_name a b) → start ≡ fresh bytes options p → to ≡ length bytes →
+    start ≡ fresh bytes options p → to ≡ length bytes →
     length bytes < 2 ^ 61 →
-    Runs (FlowStep is_name) false (Next (s.Document document.ContainerExistingBefore)) (reads_to start to) end at →
-    Flushes (FlowStep is_name) resolved_as end at true found items →
+    Runs FlowStep false (Next (s.Document document.ContainerExistingBefore)) (reads_to start to) end at →
+    Flushes FlowStep resolved_as end at true found items →
     lines ≡ record items { events = tables_set options (lines_joined options (turned items.events)) } →
     resolved_as r.ListItem lines more new →
     FlowReads bytes options p found new
-flow-reads-from is_name bytes options p start to end at found items lines more new names same all small run f joining
-    listing =
-    let named : is_name ≡ same_name = λ i a b. names a b i in
+flow-reads-from bytes options p start to end at found items lines more new same all small run f joining listing =
     let P : World →
-    Type 0 = λ w. Runs (FlowStep same_name) false (Next (s.Document document.ContainerExistingBefore))
+    Type 0 = λ w. Runs FlowStep false (Next (s.Document document.ContainerExistingBefore))
     (reads_to w (length bytes)) end at in
     let Q : ℕ →
-    Type 0 = λ n. Runs (FlowStep same_name) false (Next (s.Document document.ContainerExistingBefore))
+    Type 0 = λ n. Runs FlowStep false (Next (s.Document document.ContainerExistingBefore))
     (reads_to start n) end at in
-    let S : (ResolveName → ResolveName → Bool) →
-    Type 0 = λ t. Runs (FlowStep t) false (Next (s.Document document.ContainerExistingBefore))
-    (reads_to start to) end at in
-    let F : (ResolveName → ResolveName → Bool) →
-    Type 0 = λ t. Flushes (FlowStep t) resolved_as end at true found items in
     flow-reads bytes options p end at found items lines more new small
-    (subst P same (subst Q all (subst S named run))) (subst F named f) joining listing
+    (subst P same (subst Q all run)) f joining listing

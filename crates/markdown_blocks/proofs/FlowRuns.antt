@@ -1,6 +1,5 @@
 -- What a whole run of flow comes to, as a function of the text.
 use Rattle.std.proofs.Common.{◌≡◌, ◌^◌, ◌<◌, ◌≤◌, ℕ, Bool, false, true, refl, sym, ◌∙◌, ap, arith, subst, List, []}
-use Rattle.md_engine.specs.declared.resolve.name.Name.{Name as ResolveName}
 use Rattle.md_engine.specs.declared.state.State.{State}
 use Rattle.md_engine.specs.declared.state.State.TheVariants.{Error, Ok, Nok, Next, Retry}
 use Rattle.md_engine.specs.Found.{Found}
@@ -11,46 +10,46 @@ use Rattle.md_engine.specs.TextFeed.{text_feed}
 use Rattle.md_engine.specs.World.{World, reads_to}
 use Rattle.md_engine.proofs.Standing.{runs-mean}
 use Rattle.md_engine.proofs.TextFeed.{flush-means, text-follows}
-use Rattle.markdown_blocks.specs.FlowRule.{flow_at}
-use Rattle.markdown_blocks.specs.States.{FlowStep, flow_behaves, flow_table_scheme}
-use Rattle.markdown_blocks.proofs.FlowEnds.{Finishes, flow_finishes}
-use Rattle.markdown_blocks.proofs.FlowMeans.{flow_means, flow_stands}
+use Rattle.md_registry.specs.FlowRule.{flow_at}
+use Rattle.md_registry.specs.States.{FlowStep, flow_behaves, flow_table_scheme}
+use Rattle.md_rows.proofs.FlowEnds.{Finishes, flow_finishes}
+use Rattle.markdown_blocks.proofs.FlowMeans.{flow_table_means, flow_stands}
 
 -- a push keeps what a tokenizer comes to, with the text up to where it will be read in all, and stands
-pub flow_push : (is_name : ResolveName → ResolveName → Bool) (s s' : State) (w w' : World) (limit total : ℕ) →
+pub flow_push : (s s' : State) (w w' : World) (limit total : ℕ) →
     total < 2 ^ 61 → limit ≤ total → stands flow_table_scheme (reads_to w limit) (plain s) →
-    Runs (FlowStep is_name) false s (reads_to w limit) s' w' →
+    Runs FlowStep false s (reads_to w limit) s' w' →
     (comes_to (flow_behaves w.setting.bytes w.setting.options) (text_feed (reads_to w total).setting) s w ≡
     comes_to (flow_behaves w.setting.bytes w.setting.options) (text_feed (reads_to w total).setting) s' w') ×
     stands flow_table_scheme w' (plain s')
-flow_push is_name s s' w w' limit total small le at run =
-    runs-mean (FlowStep is_name) flow_table_scheme (flow_behaves w.setting.bytes w.setting.options) false
-    (text_feed (reads_to w total).setting) s (reads_to w limit) (flow_means is_name (reads_to w limit).setting false)
-    (flow_stands is_name)
+flow_push s s' w w' limit total small le at run =
+    runs-mean FlowStep flow_table_scheme (flow_behaves w.setting.bytes w.setting.options) false
+    (text_feed (reads_to w total).setting) s (reads_to w limit) (flow_table_means (reads_to w limit).setting false)
+    flow_stands
     (text-follows (reads_to w total).setting limit false small le (λ e. cc)) at s' w' run
 
 -- a flush comes to where the tokenizer ends
-pub flow_flush : (is_name : ResolveName → ResolveName → Bool) (R : Resolution) (s : State) (w : World) (resolve : Bool)
+pub flow_flush : (R : Resolution) (s : State) (w : World) (resolve : Bool)
     (found : Found) (new : World) →
     w.setting.limit < 2 ^ 61 → stands flow_table_scheme w (plain s) →
-    (f : Flushes (FlowStep is_name) R s w resolve found new) →
+    (f : Flushes FlowStep R s w resolve found new) →
     comes_to (flow_behaves w.setting.bytes w.setting.options) (text_feed w.setting) s w ≡
     goes (flow_behaves w.setting.bytes w.setting.options) f.end (text_feed w.setting f.at.point) (here f.at)
-flow_flush is_name R s w resolve found new small at f =
-    flush-means (FlowStep is_name) R flow_table_scheme (flow_behaves w.setting.bytes w.setting.options)
-    (text_feed w.setting) s w resolve found new (flow_means is_name w.setting true) (flow_stands is_name)
+flow_flush R s w resolve found new small at f =
+    flush-means FlowStep R flow_table_scheme (flow_behaves w.setting.bytes w.setting.options)
+    (text_feed w.setting) s w resolve found new (flow_table_means w.setting true) flow_stands
     (text-follows w.setting w.setting.limit true small (omega arith) (λ e. refl)) at f
 
 -- a tokenizer that comes to what flow means of some cells ends with all of them taken, and with its events
-pub flow_outcome : (is_name : ResolveName → ResolveName → Bool) (R : Resolution) (s : State) (w : World)
+pub flow_outcome : (R : Resolution) (s : State) (w : World)
     (resolve : Bool) (found : Found) (new : World) (cells : List Cell) (h : Here) →
     w.setting.limit < 2 ^ 61 → stands flow_table_scheme w (plain s) →
     comes_to (flow_behaves w.setting.bytes w.setting.options) (text_feed w.setting) s w ≡
     flow_at w.setting.options cells h →
-    (f : Flushes (FlowStep is_name) R s w resolve found new) →
+    (f : Flushes FlowStep R s w resolve found new) →
     flow_at w.setting.options cells h ≡ Accepts (here f.at) []
-flow_outcome is_name R s w resolve found new cells h small at is f =
-    go f.end f.ends (sym is ∙ flow_flush is_name R s w resolve found new small at f)
+flow_outcome R s w resolve found new cells h small at is f =
+    go f.end f.ends (sym is ∙ flow_flush R s w resolve found new small at f)
   where
     ends : Finishes (flow_at w.setting.options cells h)
     ends = flow_finishes w.setting.options cells h

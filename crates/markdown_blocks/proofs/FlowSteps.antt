@@ -2,8 +2,8 @@
 -- matter whether it ran.
 use Rattle.md_engine.specs.declared.tokenizer.held_leaf.HeldLeaf.{HeldLeaf}
 use Rattle.std.proofs.Common.{◌≡◌, ◌≢◌, ℕ, zero, suc, Bool, true, false, cond, List, [], ◌∷◌, ◌++◌, length}
-use Rattle.markdown_blocks.specs.Rows.{is_inside, new_behind}
-use Rattle.markdown_blocks.specs.Rows.{behind_held}
+use Rattle.md_rows.specs.Rows.{is_inside, new_behind}
+use Rattle.md_rows.specs.Rows.{behind_held}
 use Rattle.std.proofs.Common.{refl, ap, sym, ◌∙◌, subst, append-nil}
 use Rattle.std.specs.Prelude.{Option, Some, None}
 use Rattle.std.proofs.lemmas.Bool.{or_parts}
@@ -17,26 +17,29 @@ use Rattle.md_content.specs.ContentReads.{content_readings, wants_content}
 use Rattle.md_content.specs.Joined.{joined}
 use Rattle.md_seam.specs.Ahead.{begins_white, from_ending, line_end}
 use Rattle.md_seam.specs.Events.Nested.{pair}
-use Rattle.md_definition.specs.State.{Container}
+use Rattle.md_meaning.specs.State.{Container}
 use Rattle.md_seam.specs.Substituted.{Readings, Substituted}
-use Rattle.markdown_blocks.specs.Change.{interrupts, open_behind, others_of}
+use Rattle.md_frame.specs.Change.{interrupts, open_behind, others_of}
 use Rattle.markdown_blocks.specs.FlowReads.{has_text}
-use Rattle.markdown_blocks.specs.Rows.{BlankRow, Front, Held, Row, RowKind, TextRow, ending_of, held_at}
-use Rattle.markdown_blocks.specs.Rows.{in_front, inside_of, is_text, leaf_events, new_front, no_front, row_events}
-use Rattle.markdown_blocks.specs.Rows.{row_kind, rows_at, rows_by, rows_events, tail_events, went_front, LeafRow}
-use Rattle.markdown_blocks.proofs.EachEvent.{Each, each-behind, each-front, joined-each, each-append}
-use Rattle.markdown_blocks.proofs.EachRow.{EachRow}
-use Rattle.markdown_blocks.specs.Registry.{is_own, goes_at, opens_at}
-use Rattle.markdown_blocks.proofs.OutsideFacts.{AreOutside, outside-append, IsNoEnd, IsOutside, NoEnds}
-use Rattle.markdown_blocks.proofs.OutsideLemmas.{front-outside, tail-outside, ending-own}
-use Rattle.markdown_blocks.proofs.Registry.{laws, text-laws}
-use Rattle.markdown_blocks.proofs.JoinedLemmas.{EachNoContent, events-no_content, front-no_content, joined-passes}
-use Rattle.markdown_blocks.proofs.SubstitutedLemmas.{keeps, keeps-each}
-use Rattle.markdown_blocks.proofs.ContentFacts.{NoContent, WantsContent, content-alone, no_content-append, no_content-unwanted, nothing, nothing-wanted}
-use Rattle.markdown_blocks.proofs.PrefixNames.{AreFront, IsFrontEvent}
-use Rattle.markdown_blocks.specs.Passed.{Passed}
-use Rattle.markdown_blocks.proofs.RegistryContainers.{goes-front, opens-front}
-use Rattle.markdown_blocks.specs.Rows.{is_blank_row}
+use Rattle.md_frame.specs.Row.{BlankRow, Row, RowKind, TextRow, ending_of}
+use Rattle.md_rows.specs.Rows.{Front, Held, held_at}
+use Rattle.md_rows.specs.Rows.{in_front, inside_of, is_text, leaf_events, opened_prefixes, no_front, row_events}
+use Rattle.md_frame.specs.Row.{LeafRow}
+use Rattle.md_rows.specs.Rows.{row_kind, rows_at, rows_by, rows_events, tail_events, continued_prefixes}
+use Rattle.md_frame.proofs.EachEvent.{Each, each-behind, each-front, joined-each, each-append}
+use Rattle.md_rows.proofs.EachRow.{EachRow}
+use Rattle.md_frame.specs.Resolving.{is_own}
+use Rattle.md_registry.specs.Registry.{goes_at, opens_at}
+use Rattle.md_frame.proofs.OutsideFacts.{AreOutside, outside-append, IsNoEnd, IsOutside, NoEnds}
+use Rattle.md_rows.proofs.OutsideLemmas.{front-outside, tail-outside, ending-own}
+use Rattle.md_registry.proofs.Registry.{laws, text-laws}
+use Rattle.md_rows.proofs.JoinedLemmas.{EachNoContent, events-no_content, front-no_content, joined-passes}
+use Rattle.md_frame.proofs.SubstitutedLemmas.{keeps, keeps-each}
+use Rattle.md_frame.proofs.ContentFacts.{NoContent, WantsContent, content-alone, no_content-append, no_content-unwanted, nothing, nothing-wanted}
+use Rattle.md_frame.proofs.PrefixNames.{AreFront, IsFrontEvent}
+use Rattle.md_frame.specs.Passed.{Passed}
+use Rattle.md_rows.proofs.RegistryContainers.{goes-front, opens-front}
+use Rattle.md_frame.specs.Row.{is_blank_row}
 
 -- What stands in front of a line that flow reads.
 
@@ -53,18 +56,18 @@ more-front f none below h (Some t) k = each-append IsFrontEvent t.events (f t).e
 
 -- all that go on
 went-are : (options : ParseOptions) (cs : List Container) (cells : List Cell) (p : Point) →
-    AreFront (went_front options cs cells p).events
+    AreFront (continued_prefixes options cs cells p).events
 went-are options [] cells p = tt
 went-are options (c ∷ cs) cells p =
-    more-front (λ (t : Passed). went_front options cs t.cells t.point) (no_front cells p)
+    more-front (λ (t : Passed). continued_prefixes options cs t.cells t.point) (no_front cells p)
     (λ t. went-are options cs t.cells t.point) tt (goes_at options c cells p) (goes-front options c cells p)
 
 -- all that open
 new-are : (options : ParseOptions) (interrupting : Bool) (size : ℕ) (cells : List Cell) (p : Point) →
-    AreFront (new_front options interrupting size cells p).events
+    AreFront (opened_prefixes options interrupting size cells p).events
 new-are options interrupting zero cells p = tt
 new-are options interrupting (suc size) cells p =
-    more-front (λ (t : Passed). new_front options false size t.cells t.point) (no_front cells p)
+    more-front (λ (t : Passed). opened_prefixes options false size t.cells t.point) (no_front cells p)
     (λ t. new-are options false size t.cells t.point) tt
     (opens_at options interrupting cells p) (opens-front options interrupting cells p)
 
@@ -75,7 +78,7 @@ behind-are options still others went = go (is_inside still others)
     go : (x : Bool) →
         AreFront
         (cond x (no_front went.cells went.point)
-        (new_front options (interrupts still others) (length went.cells) went.cells went.point)).events
+        (opened_prefixes options (interrupts still others) (length went.cells) went.cells went.point)).events
     go true = tt
     go false = new-are options (interrupts still others) (length went.cells) went.cells went.point
 
@@ -84,7 +87,7 @@ held-are : (options : ParseOptions) (cs : List Container) (still : HeldLeaf) (ce
     AreFront (held_at options cs still cells p).front
 unfolding held_at
 held-are options cs still cells p =
-    let went : Front = went_front options cs cells p in
+    let went : Front = continued_prefixes options cs cells p in
     let new : Front = new_behind options still (others_of cs went.containers) went in
     each-append IsFrontEvent went.events new.events (went-are options cs cells p)
     (behind-are options still (others_of cs went.containers) went)

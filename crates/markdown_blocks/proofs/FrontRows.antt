@@ -2,37 +2,37 @@
 -- line, and what is left of it.
 use Rattle.md_engine.specs.declared.tokenizer.held_leaf.HeldLeaf.{HeldLeaf}
 use Rattle.std.proofs.Common.{◌≡◌, ℕ, zero, suc, ◌^◌, ◌<◌, ◌≤◌, Bool, true, false, List, [], ◌∷◌, ◌++◌, length, Option, cond}
-use Rattle.markdown_blocks.specs.Rows.{is_inside, new_behind}
-use Rattle.markdown_blocks.specs.Fronted.{prefixes_behind}
-use Rattle.markdown_blocks.specs.Change.{met}
+use Rattle.md_rows.specs.Rows.{is_inside, new_behind}
+use Rattle.md_rows.specs.Fronted.{prefixes_behind}
+use Rattle.md_frame.specs.Change.{against}
 use Rattle.std.proofs.Common.{Some, None, refl, sym, ap, ap₂, ◌∙◌, subst, arith, append_assoc}
 use Rattle.md_engine.specs.declared.configuration.ParseOptions.{ParseOptions}
 use Rattle.md_engine.specs.declared.event.Event.{Event}
 use Rattle.md_engine.specs.declared.event.Point.{Point}
 use Rattle.md_engine.specs.declared.tokenizer.Line.{Line}
 use Rattle.md_engine.specs.Meaning.{Cell}
-use Rattle.md_definition.specs.Containers.{Taken, continues, opens}
-use Rattle.md_definition.specs.Rest.{Rest}
-use Rattle.md_definition.specs.State.{Container}
-use Rattle.md_definition.proofs.ContainerLemmas.{opens-leaves}
+use Rattle.md_meaning.specs.Containers.{Taken, continues, opens}
+use Rattle.md_meaning.specs.Rest.{Rest}
+use Rattle.md_meaning.specs.State.{Container}
+use Rattle.md_meaning.proofs.ContainerLemmas.{opens-leaves}
 use Rattle.md_seam.proofs.FeedLines.{Stops}
 use Rattle.md_seam.proofs.RestCells.{RestAt, past_rest, rest_cells}
-use Rattle.md_definition.proofs.TextsLemmas.{NoEnding}
-use Rattle.markdown_blocks.specs.Change.{change_by, interrupts, open_behind, others_of}
-use Rattle.markdown_blocks.specs.Fronted.{Contained, Prefixed, contained, contained_behind, contained_by, contained_of}
-use Rattle.markdown_blocks.specs.Fronted.{no_prefix, one_more, prefixes_new, prefixes_on}
+use Rattle.md_meaning.proofs.TextsLemmas.{NoEnding}
+use Rattle.md_frame.specs.Change.{change_by, interrupts, open_behind, others_of}
+use Rattle.md_rows.specs.Fronted.{Contained, Prefixed, contained, contained_behind, contained_by, contained_of}
+use Rattle.md_rows.specs.Fronted.{no_prefix, one_more, prefixes_new, prefixes_on}
 use Rattle.markdown_blocks.specs.Parsed.{IsWithoutMdx}
-use Rattle.markdown_blocks.specs.Passed.{Passed}
-use Rattle.markdown_blocks.specs.Registry.{goes_at, opens_at}
-use Rattle.markdown_blocks.specs.Rows.{Front, Held, held_at, held_behind, held_by, in_front, is_lazy, line_kind}
-use Rattle.markdown_blocks.specs.Rows.{new_front, no_front, row_kind, went_front}
-use Rattle.markdown_blocks.proofs.ContainedLemmas.{change-opens}
-use Rattle.markdown_blocks.proofs.FrontFacts.{Behind, Begins, Goes, LinePrefix, ReadFront, front_read-begins}
-use Rattle.markdown_blocks.proofs.FrontFacts.{front_read-goes, front_read-none}
-use Rattle.markdown_blocks.proofs.RowKinds.{kind-rest}
-use Rattle.markdown_blocks.proofs.RegistryRead.{AreRead, read-append, read-drop}
-use Rattle.markdown_blocks.proofs.PassedFacts.{Agree, HasFurther, HasOpening, HasPassed}
-use Rattle.markdown_blocks.proofs.RegistryContainers.{goes-agrees, opens-agrees}
+use Rattle.md_frame.specs.Passed.{Passed}
+use Rattle.md_registry.specs.Registry.{goes_at, opens_at}
+use Rattle.md_rows.specs.Rows.{Front, Held, held_at, held_behind, held_by, in_front, is_lazy, line_kind}
+use Rattle.md_rows.specs.Rows.{opened_prefixes, no_front, row_kind, continued_prefixes}
+use Rattle.md_rows.proofs.ContainedLemmas.{change-opens}
+use Rattle.md_frame.proofs.FrontFacts.{Behind, Begins, Goes, LinePrefix, ReadFront, front_read-begins}
+use Rattle.md_frame.proofs.FrontFacts.{front_read-goes, front_read-none}
+use Rattle.md_rows.proofs.RowKinds.{kind-rest}
+use Rattle.md_frame.proofs.RegistryRead.{AreRead, read-append, read-drop}
+use Rattle.md_frame.proofs.PassedFacts.{Agree, HasFurther, HasOpening, HasPassed}
+use Rattle.md_rows.proofs.RegistryContainers.{goes-agrees, opens-agrees}
 
 -- What stands in front of a line.
 
@@ -113,7 +113,7 @@ went-is : (options : ParseOptions) (line : Line) (text past : List ℕ) (cs : Li
     (stop : List Cell) (p : Point) →
     AreRead cs → RestAt text past r p → NoEnding r.bytes → Stops stop → length (rest_cells line r p ++ stop) < 2 ^ 63 →
     HasWent line text past p (past_rest r p) stop (rest_cells line r p ++ stop)
-    (went_front options cs (rest_cells line r p ++ stop) p) (prefixes_on options cs r)
+    (continued_prefixes options cs (rest_cells line r p ++ stop) p) (prefixes_on options cs r)
 went-is options line text past [] r stop p read is h k short = went-none line text past r stop p is h
 went-is options line text past (c ∷ cs) r stop p read is h k short =
     go (goes_at options c cells p) (continues options c r)
@@ -130,12 +130,12 @@ went-is options line text past (c ∷ cs) r stop p read is h k short =
         (s : Rest) (u : Point) → RestAt text past s u → NoEnding s.bytes →
         length (rest_cells line s u ++ stop) < 2 ^ 63 →
         HasWent line text past u (past_rest s u) stop (rest_cells line s u ++ stop)
-        (went_front options cs (rest_cells line s u ++ stop) u) (prefixes_on options cs s)
+        (continued_prefixes options cs (rest_cells line s u ++ stop) u) (prefixes_on options cs s)
 
     go : (passed : Option Passed) (taken : Option Taken) →
         Agree (HasFurther line text past p (past_rest r p) stop cells) passed taken → Further →
         HasWent line text past p (past_rest r p) stop cells
-        (elim passed [ None ↦ no_front cells p | Some a ↦ in_front a (went_front options cs a.cells a.point) ])
+        (elim passed [ None ↦ no_front cells p | Some a ↦ in_front a (continued_prefixes options cs a.cells a.point) ])
         (elim taken [ None ↦ no_prefix r | Some t ↦ one_more t.container (prefixes_on options cs t.rest) ])
     go None None has more = went-none line text past r stop p is h
     go None (Some t) has more = absurd has
@@ -144,11 +144,11 @@ went-is options line text past (c ∷ cs) r stop p read is h k short =
         let one = has.passes in
         let size = ap length one.fed in
         let le = one.shorter in
-        went-more line text past p (past_rest r p) stop cells a t (went_front options cs a.cells a.point)
+        went-more line text past p (past_rest r p) stop cells a t (continued_prefixes options cs a.cells a.point)
         (prefixes_on options cs t.rest) has
         (subst
         (λ (l : List Cell).
-        HasWent line text past a.point (past_rest t.rest a.point) stop l (went_front options cs l a.point)
+        HasWent line text past a.point (past_rest t.rest a.point) stop l (continued_prefixes options cs l a.point)
         (prefixes_on options cs t.rest))
         (sym one.fed) (more t.rest a.point one.stands one.no_ending (omega (arith, size, le, short))))
 
@@ -191,7 +191,7 @@ new-more line text past p end stop cells a t f q one is = record {
 abbrev new_by : ParseOptions → ℕ → List Cell → Point → Option Passed → Front
 new_by options size cells p passed = elim passed [
   | None ↦ no_front cells p
-  | Some a ↦ in_front a (new_front options false size a.cells a.point)
+  | Some a ↦ in_front a (opened_prefixes options false size a.cells a.point)
 ]
 
 abbrev prefixes_by : ParseOptions → ℕ → Rest → Option Taken → Prefixed
@@ -207,7 +207,7 @@ new-is : (options : ParseOptions) (interrupting : Bool) (line : Line) (text past
     length (rest_cells line r p ++ stop) < 2 ^ 63 →
     length (rest_cells line r p ++ stop) ≤ room → length r.bytes ≤ size →
     HasNew line text past p (past_rest r p) stop (rest_cells line r p ++ stop)
-    (new_front options interrupting room (rest_cells line r p ++ stop) p) (prefixes_new options interrupting size r)
+    (opened_prefixes options interrupting room (rest_cells line r p ++ stop) p) (prefixes_new options interrupting size r)
 new-is options interrupting line text past zero zero r stop p built is h k short some few =
     new-none line text past r stop p is h
 new-is options interrupting line text past zero (suc size) r stop p built is h k short some few =
@@ -256,7 +256,7 @@ new-is options interrupting line text past (suc room) (suc size) r stop p built 
         length (rest_cells line s u ++ stop) < 2 ^ 63 → length (rest_cells line s u ++ stop) ≤ room →
         length s.bytes ≤ size →
         HasNew line text past u (past_rest s u) stop (rest_cells line s u ++ stop)
-        (new_front options false room (rest_cells line s u ++ stop) u) (prefixes_new options false size s)
+        (opened_prefixes options false room (rest_cells line s u ++ stop) u) (prefixes_new options false size s)
 
     go : (passed : Option Passed) (taken : Option Taken) → opens options interrupting r ≡ taken →
         Agree (HasOpening line text past p (past_rest r p) stop cells) passed taken → Further →
@@ -270,10 +270,10 @@ new-is options interrupting line text past (suc room) (suc size) r stop p built 
         let long = ap length one.fed in
         let lt = has.fewer in
         let fewer = opens-leaves options interrupting r t e in
-        new-more line text past p (past_rest r p) stop cells a t (new_front options false room a.cells a.point)
+        new-more line text past p (past_rest r p) stop cells a t (opened_prefixes options false room a.cells a.point)
         (prefixes_new options false size t.rest) has
         (subst (λ (l : List Cell). HasNew line text past a.point (past_rest t.rest a.point) stop l
-        (new_front options false room l a.point) (prefixes_new options false size t.rest)) (sym one.fed)
+        (opened_prefixes options false room l a.point) (prefixes_new options false size t.rest)) (sym one.fed)
         (more t.rest a.point one.stands one.no_ending (omega (arith, long, lt, short)) (omega (arith, long, lt, some))
         (omega (arith, fewer, few))))
 
@@ -354,13 +354,13 @@ held-behind options line text past p end stop cells cs still went on built read 
     let more : Prefixed =
     cond inside (no_prefix on.rest) (prefixes_new options interrupting (length on.rest.bytes) on.rest) in
     let opened : HasNew line text past went.point (past_rest on.rest went.point) stop went.cells new more =
-    new-inside line text past went on stop (new_front options interrupting (length went.cells) went.cells went.point)
+    new-inside line text past went on stop (opened_prefixes options interrupting (length went.cells) went.cells went.point)
     (prefixes_new options interrupting (length on.rest.bytes) on.rest) is.front.fed is.front.stands is.front.no_ending
     inside
     (subst
     (λ (l : List Cell).
     HasNew line text past went.point (past_rest on.rest went.point) stop l
-    (new_front options interrupting (length l) l went.point)
+    (opened_prefixes options interrupting (length l) l went.point)
     (prefixes_new options interrupting (length on.rest.bytes) on.rest))
     (sym is.front.fed)
     (new-is options interrupting line text past (length (rest_cells line on.rest went.point ++ stop))
@@ -368,10 +368,10 @@ held-behind options line text past p end stop cells cs still went on built read 
     (omega (arith, le, size, short)) (omega arith) (omega arith))) in
     let shorter = opened.front.shorter in
     let few = ap length opened.front.fed in
-    let leaf : HeldLeaf = met still (others_of cs went.containers) new.containers in
-    let kept : HeldLeaf = met still (others_of cs on.containers) more.containers in
+    let leaf : HeldLeaf = against still (others_of cs went.containers) new.containers in
+    let kept : HeldLeaf = against still (others_of cs on.containers) more.containers in
     let meets : leaf ≡ kept =
-    ap₂ (λ (w o : List Container). met still (others_of cs w) o) is.front.containers opened.front.containers in
+    ap₂ (λ (w o : List Container). against still (others_of cs w) o) is.front.containers opened.front.containers in
     let kind : row_kind options leaf new.cells ≡ line_kind options kept more.rest =
     ap₂ (row_kind options) meets opened.front.fed
     ∙ kind-rest options kept line text past more.rest new.point stop opened.front.stands opened.front.no_ending k
@@ -399,5 +399,5 @@ pub held-is : (options : ParseOptions) (line : Line) (text past : List ℕ) (cs 
 unfolding held_at contained
 held-is options line text past cs still r stop p built read is h k short =
     held-behind options line text past p (past_rest r p) stop (rest_cells line r p ++ stop) cs still
-    (went_front options cs (rest_cells line r p ++ stop) p) (prefixes_on options cs r) built read k short
+    (continued_prefixes options cs (rest_cells line r p ++ stop) p) (prefixes_on options cs r) built read k short
     (went-is options line text past cs r stop p read is h k short)

@@ -5,16 +5,15 @@
 use Rattle.std.proofs.Common.{◌≡◌, ℕ, zero, suc, ◌<◌, Bool, true, false, cond, ◌&&◌, List, [], ◌∷◌, ◌++◌, length, take}
 use Rattle.std.proofs.Common.{refl, ap, sym, ◌∙◌, append-nil, arith}
 use Rattle.md_engine.specs.declared.configuration.ParseOptions.{ParseOptions}
-use Rattle.md_definition.specs.Rest.{Rest}
-use Rattle.md_definition.specs.State.{Container, Path}
-use Rattle.md_definition.specs.Step.{step, steps}
-use Rattle.markdown_blocks.specs.Change.{open_behind}
-use Rattle.markdown_blocks.specs.Fronted.{Contained}
+use Rattle.md_meaning.specs.Rest.{Rest}
+use Rattle.md_meaning.specs.State.{Container, Path}
+use Rattle.md_meaning.specs.Step.{step, steps}
+use Rattle.md_frame.specs.Change.{open_behind}
+use Rattle.md_rows.specs.Fronted.{Contained}
 use Rattle.markdown_blocks.specs.Parsed.{IsWithoutMdx}
-use Rattle.markdown_blocks.specs.Stands.{IsPlain, containers_of}
+use Rattle.md_rows.specs.Stands.{IsPlain, containers_of}
 use Rattle.markdown_blocks.proofs.LineSteps.{contained_at, goes_further, renewed}
-use Rattle.markdown_blocks.proofs.StepBehind.{GoesOn, containers-all, containers-step, goes-on, plain-renewed}
-use Rattle.markdown_blocks.proofs.StepBehind.{plain-step}
+use Rattle.markdown_blocks.proofs.StepBehind.{GoesOn, containers-all, containers-step, goes-on}
 
 -- what a line does, of which it is told whether it stands over the end of the text
 abbrev pub step_over : ParseOptions → Bool → Path → Rest → Path
@@ -52,14 +51,6 @@ told-some options p (suc n) (r ∷ []) less = absurd (omega arith)
 told-some options p (suc n) (r ∷ s ∷ rs) less = told-some options (step options p r) n (s ∷ rs) (omega arith)
 
 -- What is open behind such a line.
-
-pub plain-over : (options : ParseOptions) (over : Bool) (p : Path) (r : Rest) → IsWithoutMdx options → IsPlain p →
-    IsPlain (step_over options over p r)
-plain-over options over p r built plain = go (over && goes_further options (contained_at options p r))
-  where
-    go : (x : Bool) → IsPlain (cond x (renewed (contained_at options p r).change.stays p) (step options p r))
-    go true = plain-renewed (contained_at options p r).change.stays p plain
-    go false = plain-step options p r built plain
 
 pub containers-over : (options : ParseOptions) (over : Bool) (p : Path) (r : Rest) → IsWithoutMdx options → IsPlain p →
     containers_of (step_over options over p r) ≡ open_behind (contained_at options p r).change

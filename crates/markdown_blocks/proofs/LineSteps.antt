@@ -1,5 +1,5 @@
 -- What one line does to the containers and the leaf that are open, where only leaves that are built may be on.
-use Rattle.markdown_blocks.specs.HeldLeaf.{has_lines, may_go_on, takes_lazy}
+use Rattle.md_frame.specs.HeldLeaf.{has_lines, may_go_on, takes_lazy}
 use Rattle.md_engine.specs.declared.tokenizer.held_leaf.HeldLeaf.TheVariants as held_leaf
 use Rattle.md_engine.specs.declared.tokenizer.held_leaf.HeldLeaf.{HeldLeaf}
 use Rattle.std.proofs.Common.{◌≡◌, ℕ, zero, suc, ◌≤◌, Bool, true, false, cond, ◌&&◌, ◌||◌, List, [], ◌∷◌, ◌++◌}
@@ -8,36 +8,41 @@ use Rattle.std.specs.Prelude.{Option, Some, None}
 use Rattle.std.specs.Option.{is_some}
 use Rattle.md_engine.specs.declared.configuration.ParseOptions.{ParseOptions}
 use Rattle.md_containers.specs.Interrupts.{is_interrupted}
-use Rattle.md_definition.specs.Containers.{Taken, continues, opens}
-use Rattle.md_definition.specs.Leaves.{Came, LazyText, NoText, Opened, goes_on, starts, underline_depth, with_line}
-use Rattle.md_definition.specs.Rest.{Rest, is_blank}
-use Rattle.md_definition.specs.State.{At, Container, Kept, Leaf, NoLeaf, OpenParagraph, Path, Spot, Within, at_spot}
-use Rattle.md_definition.specs.State.{closed, container_block, kept, shut, spot, texts, then_block, then_leaf}
-use Rattle.md_definition.specs.Step.{all_continued, all_continued_by, came, entered, fresh_by, fresh_line, is_concrete}
-use Rattle.md_definition.specs.Step.{is_open_text, lazy_by, leaf_line, leaf_line_by, on_or_fresh, opened, spot_of, step}
-use Rattle.md_definition.specs.Step.{stopped, stopped_by}
-use Rattle.md_definition.specs.Step.{text_line, underline_or_text, with_lazy}
-use Rattle.md_definition.specs.Tree.{Blocks, End}
-use Rattle.md_definition.proofs.ColumnLemmas.{opened_by, step_by}
-use Rattle.md_definition.proofs.ContainerLemmas.{opens-leaves}
-use Rattle.md_definition.proofs.TakenLemmas.{LeavesFewer}
-use Rattle.markdown_blocks.specs.Change.{Change, change_by, interrupts, is_none, met, others_of}
-use Rattle.markdown_blocks.specs.Fronted.{Contained, Prefixed, contained, no_prefix, one_more, prefixes_new}
-use Rattle.markdown_blocks.specs.Fronted.{prefixes_behind, prefixes_on}
+use Rattle.md_meaning.specs.Containers.{Taken, continues, opens}
+use Rattle.md_meaning.specs.Leaves.{LeafResult, LazyText, NoText, Opened, goes_on, starts, underline_depth, with_line}
+use Rattle.md_meaning.specs.Rest.{Rest, is_blank}
+use Rattle.md_meaning.specs.State.{At, Container, ParagraphLine, Leaf, NoLeaf, OpenParagraph, Path, Innermost, Within, at_spot}
+use Rattle.md_meaning.specs.State.{closed, container_block, kept, shut, spot, texts, then_block, then_leaf}
+use Rattle.md_meaning.specs.Step.{all_continued, all_continued_by, came, entered, fresh_by, fresh_line, is_concrete}
+use Rattle.md_meaning.specs.Step.{is_open_text, lazy_by, leaf_line, leaf_line_by, on_or_fresh, opened, spot_of, step}
+use Rattle.md_meaning.specs.Step.{stopped, stopped_by}
+use Rattle.md_meaning.specs.Step.{text_line, underline_or_text, with_lazy}
+use Rattle.md_meaning.specs.Tree.{Blocks, End}
+use Rattle.md_meaning.proofs.ColumnLemmas.{opened_by, step_by}
+use Rattle.md_meaning.proofs.ContainerLemmas.{opens-leaves}
+use Rattle.md_meaning.proofs.TakenLemmas.{LeavesFewer}
+use Rattle.md_frame.specs.Change.{Change, change_by, interrupts, is_none, against, others_of}
+use Rattle.md_rows.specs.Fronted.{Contained, Prefixed, contained, no_prefix, one_more, prefixes_new}
+use Rattle.md_rows.specs.Fronted.{prefixes_behind, prefixes_on}
 use Rattle.markdown_blocks.specs.Parsed.{IsWithoutMdx}
-use Rattle.markdown_blocks.specs.Registry.{LeafName, leaf, shuts_out, text_leaf}
-use Rattle.markdown_blocks.specs.Rows.{BlankRow, LeafRow, RowKind, TextRow, is_further, is_lazy, is_text, takes_head}
-use Rattle.markdown_blocks.specs.Rows.{kind_of, line_kind}
-use Rattle.markdown_blocks.specs.HeldLeaf.{IsBuiltLeaf, kind_of_leaf, met_by}
-use Rattle.markdown_blocks.specs.Stands.{IsPlain, containers_of, still_of}
-use Rattle.markdown_blocks.specs.Leaf.Paragraph.{held_of, open_lines}
-use Rattle.markdown_blocks.proofs.ContainedLemmas.{change-opens, ended-open, lazy-some, lines-unlazy}
-use Rattle.markdown_blocks.proofs.KindLemmas.{kind-plain, kind-starts}
-use Rattle.markdown_blocks.proofs.FurtherSpan.{FurtherSpan, further-span, other-begins, other_kind}
-use Rattle.markdown_blocks.proofs.Registry.{IsAgainst, came_of, insider-none, laws, leaf_at, text-laws}
-use Rattle.markdown_blocks.proofs.Registry.{shuts_out-none, text-starts}
-use Rattle.markdown_blocks.proofs.RegistryFound.{other_at, untabled-at, untext-found}
-use Rattle.markdown_blocks.proofs.TextFound.{front_before, lazy_on, text-comes, text_came, text_on}
+use Rattle.md_frame.specs.LeafName.{LeafName}
+use Rattle.md_frame.specs.TextLines.{text_leaf}
+use Rattle.md_registry.specs.Registry.{leaf, bars_containers}
+use Rattle.md_frame.specs.Row.{BlankRow, LeafRow, RowKind, TextRow}
+use Rattle.md_rows.specs.Rows.{is_further, is_lazy, is_text, takes_head}
+use Rattle.md_rows.specs.Rows.{kind_of, line_kind}
+use Rattle.md_frame.specs.HeldLeaf.{IsBuiltLeaf, kind_of_leaf, met_by}
+use Rattle.md_rows.specs.Stands.{IsPlain, containers_of, still_of}
+use Rattle.md_frame.specs.Leaf.Paragraph.{held_of, open_lines}
+use Rattle.md_rows.proofs.ContainedLemmas.{change-opens, ended-open, lazy-some, lines-unlazy}
+use Rattle.md_rows.proofs.KindLemmas.{kind-plain, kind-starts}
+use Rattle.md_rows.proofs.FurtherSpan.{FurtherSpan, further-span, other-begins, other_kind}
+use Rattle.md_registry.proofs.LeafStarts.{IsAgainst, came_of, leaf_at}
+use Rattle.md_registry.proofs.Registry.{insider-none, laws, text-laws}
+use Rattle.md_registry.proofs.LeafStarts.{text-starts}
+use Rattle.md_registry.proofs.Registry.{bars_containers-none}
+use Rattle.md_rows.proofs.RegistryFound.{other_at, untabled-at, untext-found}
+use Rattle.md_rows.proofs.TextFound.{front_before, lazy_on, text-comes, text_came, text_on}
 
 -- Leaves of several lines.
 
@@ -55,7 +60,7 @@ none-further options on r none = go (line_kind options on r) refl
     go (LeafRow l) e = not l ((leaf l).further on) refl (kind-starts options on r l e)
     go TextRow e = refl
 
--- no line goes on one lazily, and it is not met where its containers did not go on
+-- no line goes on one lazily, and it is not against where its containers did not go on
 lazy-none : (still : HeldLeaf) (opens : List Container) (kind : RowKind) → takes_lazy still ≡ false →
     is_lazy still opens kind ≡ false
 lazy-none still opens kind unlazy = ap (λ (x : Bool). x && is_none opens && is_text kind) unlazy
@@ -84,7 +89,7 @@ front-unlazy false options bs (OpenParagraph lines) unlazy = cc
 front-unlazy false options bs _ unlazy = refl
 
 -- by the line definition one goes on or ends, and takes no lazy line
-span-line : (options : ParseOptions) (s : Spot) (r : Rest) (open_leaf : Leaf) →
+span-line : (options : ParseOptions) (s : Innermost) (r : Rest) (open_leaf : Leaf) →
     has_lines (kind_of_leaf open_leaf) ≡ true →
     leaf_line_by options s r open_leaf ≡ on_or_fresh options s r (goes_on options open_leaf r)
 span-line options s r NoLeaf e = cc
@@ -98,11 +103,11 @@ span-lazy options r _ e = refl
 
 -- and containers open in it, or in what else may be open, where the line definition lets them
 built-concrete : (open_leaf : Leaf) → IsBuiltLeaf open_leaf →
-    is_concrete open_leaf ≡ shuts_out (kind_of_leaf open_leaf)
+    is_concrete open_leaf ≡ bars_containers (kind_of_leaf open_leaf)
 built-concrete open_leaf plain =
-    text-laws.cases (λ (l : Leaf). is_concrete l ≡ shuts_out (kind_of_leaf l))
-    (sym (shuts_out-none held_leaf.None refl))
-    (λ k ks. sym (shuts_out-none (text_on (k ∷ ks)) refl)) (λ l is. (further-span l is).concrete) open_leaf plain
+    text-laws.cases (λ (l : Leaf). is_concrete l ≡ bars_containers (kind_of_leaf l))
+    (sym (bars_containers-none held_leaf.None refl))
+    (λ k ks. sym (bars_containers-none (text_on (k ∷ ks)) refl)) (λ l is. (further-span l is).concrete) open_leaf plain
 
 -- the first of them interrupts what is open if that is text
 text-interrupted : (open_leaf : Leaf) → is_open_text open_leaf ≡ interrupts (kind_of_leaf open_leaf) []
@@ -112,12 +117,12 @@ text-interrupted _ = refl
 -- Lines, one after another.
 
 -- blocks, with what an open text comes to behind them, if one is open
-abbrev behind_text : ParseOptions → Blocks → List Kept → Blocks
+abbrev behind_text : ParseOptions → Blocks → List ParagraphLine → Blocks
 behind_text options bs [] = bs
 behind_text options bs (k ∷ ks) = text_leaf.behind options bs (texts (k ∷ ks))
 
 -- what is open behind a line of this kind, where nothing was but this text
-abbrev pub spot_by : ParseOptions → Blocks → List Kept → Rest → RowKind → Spot
+abbrev pub spot_by : ParseOptions → Blocks → List ParagraphLine → Rest → RowKind → Innermost
 spot_by options bs held r BlankRow = spot_of (behind_text options bs held)
 spot_by options bs held r (LeafRow l) = came (behind_text options bs held) ((leaf l).comes options NoLeaf r)
 spot_by options bs held r TextRow = with_line bs held r
@@ -152,19 +157,19 @@ fresh-found options bs r built =
     (untabled-at options held_leaf.None r refl)))
 
 -- what an open leaf comes to with a line of this kind
-abbrev pub come_by : ParseOptions → Leaf → Rest → RowKind → Came
+abbrev pub come_by : ParseOptions → Leaf → Rest → RowKind → LeafResult
 come_by options open_leaf r (LeafRow l) = (leaf l).comes options open_leaf r
 come_by options open_leaf r kind = Opened open_leaf
 
 -- a line where text is open: it turns the text, or stands behind it, or is one more line of it
-abbrev text_spot : ParseOptions → Blocks → List Kept → Rest → RowKind → Spot
+abbrev text_spot : ParseOptions → Blocks → List ParagraphLine → Rest → RowKind → Innermost
 text_spot options bs lines r kind =
     cond (is_further kind (text_on lines))
     (came (front_before (takes_head kind) options bs (text_leaf.held lines))
     (come_by options (text_leaf.held lines) r kind))
     (spot_by options bs lines r kind)
 
-text-found : (options : ParseOptions) (bs : Blocks) (k : Kept) (ks : List Kept) (r : Rest) → IsWithoutMdx options →
+text-found : (options : ParseOptions) (bs : Blocks) (k : ParagraphLine) (ks : List ParagraphLine) (r : Rest) → IsWithoutMdx options →
     text_line options bs (k ∷ ks) r ≡ text_spot options bs (k ∷ ks) r (line_kind options (text_on (k ∷ ks)) r)
 unfolding text_line
 text-found options bs k ks r built =
@@ -246,7 +251,7 @@ new-found options interrupting (suc n) r h = go (opens options interrupting r) (
 -- Paths.
 
 -- with these lines more in the open text, or in a new one
-abbrev pub longer : Path → List Kept → Path
+abbrev pub longer : Path → List ParagraphLine → Path
 longer (At s) lines = At (record { here = s.here; leaf = text_leaf.held (held_of s.leaf ++ lines) })
 longer (Within before container p) lines = Within before container (longer p lines)
 
@@ -274,7 +279,7 @@ new_line options on (c ∷ cs) r bs = Within bs c (new_line options on cs r End)
 
 -- with what the innermost leaf came to; of a text, that stands behind the definitions at its front, or, where a line takes
 -- the last line of it as its head, behind what the others come to
-abbrev pub with_came : ParseOptions → Bool → Path → Came → Path
+abbrev pub with_came : ParseOptions → Bool → Path → LeafResult → Path
 with_came options heads (At s) c = At (came (front_before heads options s.here s.leaf) c)
 with_came options heads (Within before container p) c = Within before container (with_came options heads p c)
 
@@ -283,7 +288,7 @@ with_came options heads (Within before container p) c = Within before container 
 -- the new containers.
 abbrev pub stepped : ParseOptions → Path → List Container → Prefixed → Path
 stepped options p went new =
-    let on = met (still_of p) (others_of (containers_of p) went) new.containers in
+    let on = against (still_of p) (others_of (containers_of p) went) new.containers in
     let kind = line_kind options on new.rest in
     cond (is_lazy (still_of p) new.containers kind)
     (longer (renewed (went ++ others_of (containers_of p) went) p) (kept new.rest ∷ []))
@@ -351,7 +356,7 @@ IsStepped options bs r open_leaf =
     At (leaf_line options (record { here = bs; leaf = open_leaf }) r) ≡
     stepped options (At (record { here = bs; leaf = open_leaf })) [] (no_prefix r)
 
-text-stepped : (options : ParseOptions) (bs : Blocks) (r : Rest) → IsWithoutMdx options → (k : Kept) (ks : List Kept) →
+text-stepped : (options : ParseOptions) (bs : Blocks) (r : Rest) → IsWithoutMdx options → (k : ParagraphLine) (ks : List ParagraphLine) →
     IsStepped options bs r (text_leaf.held (k ∷ ks))
 text-stepped options bs r built k ks =
     ap At (text-found options bs k ks r built) ∙ go (line_kind options (text_on (k ∷ ks)) r)
@@ -374,12 +379,12 @@ text-stepped options bs r built k ks =
     go TextRow = refl
     go (LeafRow l) = to ((leaf l).further (text_on (k ∷ ks)))
       where
-        turned : Spot
+        turned : Innermost
         turned =
             came (front_before (leaf l).heads options bs (text_leaf.held (k ∷ ks)))
             ((leaf l).comes options (text_leaf.held (k ∷ ks)) r)
 
-        behind : Spot
+        behind : Innermost
         behind = came (text_leaf.behind options bs (texts (k ∷ ks))) ((leaf l).comes options NoLeaf r)
 
         to : (x : Bool) → At (cond x turned behind) ≡ cond x (At turned) (At behind)
@@ -390,13 +395,13 @@ span-stepped : (options : ParseOptions) (bs : Blocks) (r : Rest) → IsWithoutMd
     FurtherSpan open_leaf → IsStepped options bs r open_leaf
 span-stepped options bs r built open_leaf is =
     ap At (span-line options s r open_leaf is.lines)
-    ∙ ap (λ (o : Option Came). At (on_or_fresh options s r o)) (is.goes options r)
+    ∙ ap (λ (o : Option LeafResult). At (on_or_fresh options s r o)) (is.goes options r)
     ∙ go (is.takes options r)
     ∙ ap (by bs) (sym (is.kind options r))
     ∙ ap (λ (x : Blocks). by x (line_kind options still r))
     (sym (front-unlazy (takes_head (line_kind options still r)) options bs open_leaf unlazy_leaf))
   where
-    s : Spot
+    s : Innermost
     s = record { here = bs; leaf = open_leaf }
 
     still : HeldLeaf
@@ -457,7 +462,7 @@ leaf-stepped options bs open_leaf r built plain =
 -- where one did not go on, none is shut out
 new-others : (options : ParseOptions) (still : HeldLeaf) (c : Container) (cs : List Container) (went : Prefixed) →
     prefixes_behind options still (c ∷ cs) went ≡ all_new options (interrupts still (c ∷ cs)) went.rest
-new-others options still c cs went = go (shuts_out still)
+new-others options still c cs went = go (bars_containers still)
   where
     go : (x : Bool) →
         cond (x && false) (no_prefix went.rest) (all_new options (interrupts still (c ∷ cs)) went.rest) ≡
@@ -466,14 +471,14 @@ new-others options still c cs went = go (shuts_out still)
     go false = refl
 
 -- where all containers go on
-step-at : (options : ParseOptions) (s : Spot) (r : Rest) → IsWithoutMdx options → IsBuiltLeaf s.leaf →
+step-at : (options : ParseOptions) (s : Innermost) (r : Rest) → IsWithoutMdx options → IsBuiltLeaf s.leaf →
     all_continued options s r ≡
     stepped options (At s) [] (prefixes_behind options (kind_of_leaf s.leaf) [] (no_prefix r))
 unfolding all_continued
 step-at options s r built plain =
     ap₂ (λ (x y : Bool). all_continued_by options s r (cond x None (opens options y r))) (built-concrete s.leaf plain)
     (text-interrupted s.leaf)
-    ∙ go (shuts_out still)
+    ∙ go (bars_containers still)
   where
     still : HeldLeaf
     still = kind_of_leaf s.leaf
@@ -501,7 +506,7 @@ step-at options s r built plain =
         ∙ ap (stepped options (At s) [])
         (sym (new-found options interrupting (length r.bytes) r (omega arith)))
 
-at_spot-longer : (p : Path) (lines more : List Kept) → (spot p).leaf ≡ text_leaf.held lines →
+at_spot-longer : (p : Path) (lines more : List ParagraphLine) → (spot p).leaf ≡ text_leaf.held lines →
     at_spot p (record { here = (spot p).here; leaf = text_leaf.held (lines ++ more) }) ≡ longer p more
 at_spot-longer (At s) lines more e =
     ap (λ (x : Leaf). At (record { here = s.here; leaf = text_leaf.held (held_of x ++ more) })) (sym e)
@@ -545,13 +550,13 @@ lazy-stepped options before c p r built leaf e plain =
     plain_line : At (fresh_line options bs r) ≡ other (kind_by held_leaf.None (is_blank r.bytes))
     plain_line = fresh ∙ ap other (kind-plain options held_leaf.None r (insider-none held_leaf.None refl))
 
-    text : (k : Kept) (ks : List Kept) → By (text_leaf.held (k ∷ ks))
+    text : (k : ParagraphLine) (ks : List ParagraphLine) → By (text_leaf.held (k ∷ ks))
     text k ks e =
         go (is_blank r.bytes) refl
         ∙ ap (longer_by (text_on (k ∷ ks)))
         (sym (kind-plain options (lazy_on (k ∷ ks)) r (insider-none (lazy_on (k ∷ ks)) refl)))
       where
-        to : Bool → Option Came → Path
+        to : Bool → Option LeafResult → Path
         to x o =
             lazy_by options before c p r
             (cond (x || is_some o) None (Some (text_leaf.held (k ∷ ks ++ kept r ∷ []))))
@@ -641,7 +646,7 @@ stepped-within : (options : ParseOptions) (before : Blocks) (c d : Container) (p
 stepped-within options before c d p went new = go (is_lazy (still_of p) new.containers kind) (is_further kind on)
   where
     on : HeldLeaf
-    on = met (still_of p) (others_of (containers_of p) went) new.containers
+    on = against (still_of p) (others_of (containers_of p) went) new.containers
 
     kind : RowKind
     kind = line_kind options on new.rest
@@ -734,7 +739,7 @@ step-contained options p r built plain =
     new = prefixes_behind options (still_of p) others on
 
     leaf : HeldLeaf
-    leaf = met (still_of p) others new.containers
+    leaf = against (still_of p) others new.containers
 
     kind : RowKind
     kind = line_kind options leaf new.rest
@@ -742,7 +747,7 @@ step-contained options p r built plain =
     lazy : Bool
     lazy = is_lazy (still_of p) new.containers kind
 
-    come : Came
+    come : LeafResult
     come = come_by options (spot p).leaf new.rest kind
 
     by : Bool → Bool → Path
@@ -781,7 +786,7 @@ contained-lazy options p r h =
     new = prefixes_behind options (still_of p) others on
 
     leaf : HeldLeaf
-    leaf = met (still_of p) others new.containers
+    leaf = against (still_of p) others new.containers
 
     lazy : Bool
     lazy = is_lazy (still_of p) new.containers (line_kind options leaf new.rest)

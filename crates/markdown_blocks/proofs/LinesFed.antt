@@ -12,7 +12,6 @@ use Rattle.std.proofs.lemmas.Bool.{eqb-true}
 use Rattle.md_engine.specs.declared.configuration.ParseOptions.{ParseOptions}
 use Rattle.md_engine.specs.declared.event.Event.{Event}
 use Rattle.md_engine.specs.declared.event.Point.{Point}
-use Rattle.md_engine.specs.declared.resolve.name.Name.{Name as ResolveName}
 use Rattle.md_engine.specs.declared.state.Name.{Name as StateName}
 use Rattle.md_engine.specs.declared.state.Name.TheVariants as s
 use Rattle.md_engine.specs.declared.state.document.State.TheVariants as document
@@ -33,21 +32,24 @@ use Rattle.md_engine.proofs.TextFeed.{text-follows}
 use Rattle.md_seam.specs.Spaces.{any_size}
 use Rattle.md_seam.specs.Ahead.{from_ending, line_end}
 use Rattle.md_seam.specs.Events.Nested.{pair}
-use Rattle.md_definition.specs.State.{Container}
+use Rattle.md_meaning.specs.State.{Container}
 use Rattle.md_seam.proofs.FeedLines.{Stops}
-use Rattle.markdown_blocks.specs.Change.{ends_of, open_behind}
+use Rattle.md_frame.specs.Change.{ends_of, open_behind}
 use Rattle.markdown_blocks.specs.Fed.{fed, feeds, flow_begins, line_begins, not_left, place_behind}
-use Rattle.markdown_blocks.specs.FlowRule.{Rule, ended, line_then}
-use Rattle.markdown_blocks.specs.LineFlags.{ending_name}
-use Rattle.markdown_blocks.specs.Rows.{behind_held, Held, Row, after_ending, behind_row, closes_before, held_at}
-use Rattle.markdown_blocks.specs.Rows.{onto_rows, row_events, row_of, rows_at, rows_events}
-use Rattle.markdown_blocks.specs.Stands.{AreOpen}
-use Rattle.markdown_blocks.specs.States.{FlowStep, flow_behaves_by, flow_table_scheme, flow_transition}
-use Rattle.markdown_blocks.specs.TextRows.{text_cells, text_rows, text_setting}
+use Rattle.md_frame.specs.Rule.{Rule}
+use Rattle.md_registry.specs.FlowRule.{ended, line_then}
+use Rattle.md_frame.specs.EndingName.{ending_name}
+use Rattle.md_frame.specs.Row.{Row, behind_row}
+use Rattle.md_rows.specs.Rows.{behind_held, Held, after_ending, closes_before, held_at}
+use Rattle.md_rows.specs.Rows.{onto_rows, row_events, row_of, rows_at, rows_events}
+use Rattle.md_rows.specs.Stands.{AreOpen}
+use Rattle.md_registry.specs.States.{FlowStep, flow_behaves_by, flow_table_scheme, flow_transition}
+use Rattle.md_rows.specs.TextRows.{text_cells, text_rows, text_setting}
 use Rattle.markdown_blocks.proofs.FlowMeans.{Takes, ending-taken, flow-steps-by, flow_stands}
-use Rattle.markdown_blocks.proofs.FlowRows.{Begins, Done, held-shorter, leaving, line-done, next-begins, next_here}
-use Rattle.markdown_blocks.proofs.FlowRows.{no-closes, row-adds, rows_below, text-begins}
-use Rattle.markdown_blocks.proofs.FromEnding.{from_ending-shrinks, from_ending-stops}
+use Rattle.md_rows.proofs.FlowLine.{Begins, Done, line-done}
+use Rattle.md_rows.proofs.FlowRows.{held-shorter, leaving, next-begins, next_here}
+use Rattle.md_rows.proofs.FlowRows.{no-closes, row-adds, rows_below, text-begins}
+use Rattle.md_frame.proofs.FromEnding.{from_ending-shrinks, from_ending-stops}
 
 -- Behind some lines.
 
@@ -110,7 +112,7 @@ drop-next (suc n) (first ∷ all) row below e = drop-next n all row below e
 -- the text
 abbrev line_stop : Rule
 line_stop cells h =
-    Accepts h (record { byte = 0; after = h.point; line = record { start = 0; lazy = false; pierce = false } } ∷ cells)
+    Accepts h (record { byte = 0; after = h.point; line = record { start = 0; lazy = false } } ∷ cells)
 
 -- what is known where it has stopped
 abbrev AtStop : (List Cell → Here → Type 0) → Outcome → Type 0
@@ -302,12 +304,12 @@ comes-called under feed from all n t v name names w =
     ap (λ (x : State). comes_to B feed x v) (sym names) ∙ plain-same B feed v t ∙ w.comes
 
 -- a call that feeds no line
-within-calls : (is_name : ResolveName → ResolveName → Bool) (under : Setting) (feed : Feed) (from : Point)
+within-calls : (under : Setting) (feed : Feed) (from : Point)
     (all : List Row) (n : ℕ) (t : State) (v : World) (t' : State) (v' : World) →
     Follows feed v.setting true → v.setting ≡ under → Within under feed from all n t v →
-    (c : Calls (FlowStep is_name) true t v t' v') → feeds c.name (looks v) ≡ 0 → Within under feed from all n t' v'
-within-calls is_name under feed from all n t v t' v' f o w c none = record {
-  at = flow_stands is_name c.name v t' v' stood c.step;
+    (c : Calls FlowStep true t v t' v') → feeds c.name (looks v) ≡ 0 → Within under feed from all n t' v'
+within-calls under feed from all n t v t' v' f o w c none = record {
+  at = flow_stands c.name v t' v' stood c.step;
   left = w.left;
   begin = w.begin;
   line = w.line;
@@ -329,18 +331,18 @@ within-calls is_name under feed from all n t v t' v' f o w c none = record {
     steps : Steps (line_behaves v.setting) feed (Next c.name) (reading v) t' v'
     steps =
         steps-as (line_behaves v.setting) feed (Next c.name)
-        (flow_transition is_name c.name (reading v)).to t' (reading v)
-        (flow_transition is_name c.name (reading v)).world v' c.step.to_is c.step.new_is
-        (flow-steps-by is_name feed line_stop c.name (reading v) (sees feed v true f c.may) refl stood none)
+        (flow_transition c.name (reading v)).to t' (reading v)
+        (flow_transition c.name (reading v)).world v' c.step.to_is c.step.new_is
+        (flow-steps-by feed line_stop c.name (reading v) (sees feed v true f c.may) refl stood none)
 
 -- the call that takes an ending
-behind-calls : (is_name : ResolveName → ResolveName → Bool) (under : Setting) (feed : Feed) (from : Point)
+behind-calls : (under : Setting) (feed : Feed) (from : Point)
     (all : List Row) (n : ℕ) (t : State) (v : World) (t' : State) (v' : World) →
     Follows feed v.setting true → v.setting ≡ under → Within under feed from all n t v →
-    Calls (FlowStep is_name) true t v t' v' → plain t ≡ Next (s.Document document.FlowEnd) →
-    FlowStep is_name (s.Document document.FlowEnd) (reading v) t' v' → looks v ≡ Some 10 →
+    Calls FlowStep true t v t' v' → plain t ≡ Next (s.Document document.FlowEnd) →
+    FlowStep (s.Document document.FlowEnd) (reading v) t' v' → looks v ≡ Some 10 →
     Behind under feed from all (suc n) t' v'
-behind-calls is_name under feed from all n t v t' v' f o w c names step ten = record {
+behind-calls under feed from all n t v t' v' f o w c names step ten = record {
   to = step.to_is ∙ taken.to_is;
   frames = ap (λ (x : World). x.frames) step.new_is ∙ taken.still;
   line = line-next under.options from all n w.left w.begin w.line (feed v'.point) (here v') ended;
@@ -349,9 +351,9 @@ behind-calls is_name under feed from all n t v t' v' f o w c names step ten = re
     Q : State → Type 0
     Q x = stands flow_table_scheme v x
 
-    taken : Takes line_stop feed (reading v) (flow_transition is_name (s.Document document.FlowEnd) (reading v)).to
-        (flow_transition is_name (s.Document document.FlowEnd) (reading v)).world
-    taken = ending-taken is_name feed line_stop (reading v) (sees feed v true f c.may) (subst Q names w.at) ten
+    taken : Takes line_stop feed (reading v) (flow_transition (s.Document document.FlowEnd) (reading v)).to
+        (flow_transition (s.Document document.FlowEnd) (reading v)).world
+    taken = ending-taken feed line_stop (reading v) (sees feed v true f c.may) (subst Q names w.at) ten
 
     ended : line_then under.options line_stop w.left w.begin ≡ line_stop (feed v'.point) (here v')
     ended =
@@ -369,14 +371,14 @@ behind-calls is_name under feed from all n t v t' v' f o w c names step ten = re
         ∙ ap (λ (x : World). line_stop (feed x.point) (here x)) (sym step.new_is)
 
 -- by the state that is called
-behind-feed : (is_name : ResolveName → ResolveName → Bool) (under : Setting) (feed : Feed) (from : Point)
+behind-feed : (under : Setting) (feed : Feed) (from : Point)
     (all : List Row) (n : ℕ) (t : State) (v : World) (t' : State) (v' : World) →
     Follows feed v.setting true → v.setting ≡ under → Within under feed from all n t v →
-    (c : Calls (FlowStep is_name) true t v t' v') → c.name ≡ s.Document document.FlowEnd → looks v ≡ Some 10 →
+    (c : Calls FlowStep true t v t' v') → c.name ≡ s.Document document.FlowEnd → looks v ≡ Some 10 →
     Behind under feed from all (suc n) t' v'
-behind-feed is_name under feed from all n t v t' v' f o w c e ten =
-    let P : StateName → Type 0 = λ x. FlowStep is_name x (reading v) t' v' in
-    behind-calls is_name under feed from all n t v t' v' f o w c (c.names ∙ ap (λ (x : StateName). Next x) e)
+behind-feed under feed from all n t v t' v' f o w c e ten =
+    let P : StateName → Type 0 = λ x. FlowStep x (reading v) t' v' in
+    behind-calls under feed from all n t v t' v' f o w c (c.names ∙ ap (λ (x : StateName). Next x) e)
     (subst P e c.step) ten
 
 -- there the tokenizer reads the next line
@@ -395,11 +397,11 @@ behind-within under feed from all n t v at b = record {
 }
 
 -- so any call leads on
-within-next : (is_name : ResolveName → ResolveName → Bool) (under : Setting) (feed : Feed) (from : Point)
+within-next : (under : Setting) (feed : Feed) (from : Point)
     (all : List Row) (n : ℕ) (t : State) (v : World) (t' : State) (v' : World) →
     Follows feed v.setting true → v.setting ≡ under → Within under feed from all n t v →
-    (c : Calls (FlowStep is_name) true t v t' v') → Within under feed from all (feeds c.name (looks v) + n) t' v'
-within-next is_name under feed from all n t v t' v' f o w c = go (none-or-ending c.name (looks v))
+    (c : Calls FlowStep true t v t' v') → Within under feed from all (feeds c.name (looks v) + n) t' v'
+within-next under feed from all n t v t' v' f o w c = go (none-or-ending c.name (looks v))
   where
     P : ℕ → Type 0
     P k = Within under feed from all k t' v'
@@ -408,37 +410,37 @@ within-next is_name under feed from all n t v t' v' f o w c = go (none-or-ending
     Q x = stands flow_table_scheme v x
 
     at : stands flow_table_scheme v' (plain t')
-    at = flow_stands is_name c.name v t' v' (subst Q c.names w.at) c.step
+    at = flow_stands c.name v t' v' (subst Q c.names w.at) c.step
 
     go : (feeds c.name (looks v) ≡ 0) ⊎ ((c.name ≡ s.Document document.FlowEnd) × (looks v ≡ Some 10)) →
         Within under feed from all (feeds c.name (looks v) + n) t' v'
     go (inl none) =
         let same : n ≡ feeds c.name (looks v) + n = omega (arith, none) in
-        subst P same (within-calls is_name under feed from all n t v t' v' f o w c none)
+        subst P same (within-calls under feed from all n t v t' v' f o w c none)
     go (inr one) =
         let lines : feeds c.name (looks v) ≡ 1 = ap (λ (x : StateName). feeds x (looks v)) one.0
         ∙ ap (λ (x : Option ℕ). feeds (s.Document document.FlowEnd) x) one.1 in
         let same : suc n ≡ feeds c.name (looks v) + n = omega (arith, lines) in
         subst P same
         (behind-within under feed from all (suc n) t' v' at
-        (behind-feed is_name under feed from all n t v t' v' f o w c one.0 one.1))
+        (behind-feed under feed from all n t v t' v' f o w c one.0 one.1))
 
 -- and all of a run does
-within-run : (is_name : ResolveName → ResolveName → Bool) (under : Setting) (feed : Feed) (from : Point)
+within-run : (under : Setting) (feed : Feed) (from : Point)
     (all : List Row) (begin : State) (w : World) →
     Follows feed w.setting true → w.setting ≡ under → Within under feed from all 0 begin w →
-    (t : State) (v : World) (run : Runs (FlowStep is_name) true begin w t v) →
-    Within under feed from all (fed (FlowStep is_name) true begin w t v run) t v
-within-run is_name under feed from all begin w f o begun t v Stays = begun
-within-run is_name under feed from all begin w f o begun to new (ThenLeaves t v t' v' run l) =
-    within-leaves under feed from all (fed (FlowStep is_name) true begin w t v run) t v t' v'
-    (within-run is_name under feed from all begin w f o begun t v run) l
-within-run is_name under feed from all begin w f o begun to new (ThenCalls t v t' v' run c) =
+    (t : State) (v : World) (run : Runs FlowStep true begin w t v) →
+    Within under feed from all (fed FlowStep true begin w t v run) t v
+within-run under feed from all begin w f o begun t v Stays = begun
+within-run under feed from all begin w f o begun to new (ThenLeaves t v t' v' run l) =
+    within-leaves under feed from all (fed FlowStep true begin w t v run) t v t' v'
+    (within-run under feed from all begin w f o begun t v run) l
+within-run under feed from all begin w f o begun to new (ThenCalls t v t' v' run c) =
     let P : Setting → Type 0 = λ x. Follows feed x true in
-    let kept : v.setting ≡ w.setting = runs-setting (FlowStep is_name) true begin w t v run in
-    within-next is_name under feed from all (fed (FlowStep is_name) true begin w t v run) t v t' v'
+    let kept : v.setting ≡ w.setting = runs-setting FlowStep true begin w t v run in
+    within-next under feed from all (fed FlowStep true begin w t v run) t v t' v'
     (subst P (sym kept) f) (kept ∙ o)
-    (within-run is_name under feed from all begin w f o begun t v run) c
+    (within-run under feed from all begin w f o begun t v run) c
 
 -- A text.
 
@@ -471,13 +473,13 @@ text-follows_it bytes options p small =
     text-follows (text_setting bytes options p) (length bytes) true small (omega arith) (λ e. refl)
 
 -- a run over it reads one line after another
-text-within : (is_name : ResolveName → ResolveName → Bool) (bytes : List ℕ) (options : ParseOptions) (p : Point) →
+text-within : (bytes : List ℕ) (options : ParseOptions) (p : Point) →
     length bytes < 2 ^ 61 →
-    (t : State) (v : World) (run : Runs (FlowStep is_name) true line_begins (flow_begins bytes options p) t v) →
+    (t : State) (v : World) (run : Runs FlowStep true line_begins (flow_begins bytes options p) t v) →
     Within (text_setting bytes options p) (feed_of bytes options p) p (text_rows options bytes p)
-    (fed (FlowStep is_name) true line_begins (flow_begins bytes options p) t v run) t v
-text-within is_name bytes options p small t v run =
-    within-run is_name (text_setting bytes options p) (feed_of bytes options p) p (text_rows options bytes p)
+    (fed FlowStep true line_begins (flow_begins bytes options p) t v run) t v
+text-within bytes options p small t v run =
+    within-run (text_setting bytes options p) (feed_of bytes options p) p (text_rows options bytes p)
     line_begins (flow_begins bytes options p) (text-follows_it bytes options p small) refl begun t v run
   where
     closed : (held_at options [] held_leaf.None (text_cells bytes options p) p).change.closes ≡ []
@@ -510,14 +512,14 @@ text-within is_name bytes options p small t v run =
     }
 
 -- whenever it has fed a line, it stands at the begin of the next
-pub line-fed : (is_name : ResolveName → ResolveName → Bool) (bytes : List ℕ) (options : ParseOptions) (p : Point) →
+pub line-fed : (bytes : List ℕ) (options : ParseOptions) (p : Point) →
     length bytes < 2 ^ 61 →
     (t : State) (v : World) (t' : State) (v' : World)
-    (run : Runs (FlowStep is_name) true line_begins (flow_begins bytes options p) t v)
-    (calls : Calls (FlowStep is_name) true t v t' v') →
+    (run : Runs FlowStep true line_begins (flow_begins bytes options p) t v)
+    (calls : Calls FlowStep true t v t' v') →
     feeds calls.name (looks v) ≡ 1 →
-    LineFed bytes options p (suc (fed (FlowStep is_name) true line_begins (flow_begins bytes options p) t v run)) v'
-line-fed is_name bytes options p small t v t' v' run c one = record {
+    LineFed bytes options p (suc (fed FlowStep true line_begins (flow_begins bytes options p) t v run)) v'
+line-fed bytes options p small t v t' v' run c one = record {
   frames = b.frames;
   further =
       is-further options (text_rows options bytes p) (suc n) b.line.size b.line.containers b.line.still
@@ -531,10 +533,10 @@ line-fed is_name bytes options p small t v t' v' run c one = record {
 }
   where
     n : ℕ
-    n = fed (FlowStep is_name) true line_begins (flow_begins bytes options p) t v run
+    n = fed FlowStep true line_begins (flow_begins bytes options p) t v run
 
     kept : v.setting ≡ text_setting bytes options p
-    kept = runs-setting (FlowStep is_name) true line_begins (flow_begins bytes options p) t v run
+    kept = runs-setting FlowStep true line_begins (flow_begins bytes options p) t v run
 
     ending : (c.name ≡ s.Document document.FlowEnd) × (looks v ≡ Some 10)
     ending = ending-fed c.name (looks v) one
@@ -542,10 +544,10 @@ line-fed is_name bytes options p small t v t' v' run c one = record {
     b : Behind (text_setting bytes options p) (feed_of bytes options p) p (text_rows options bytes p) (suc n) t' v'
     b =
         let P : Setting → Type 0 = λ x. Follows (feed_of bytes options p) x true in
-        behind-feed is_name (text_setting bytes options p) (feed_of bytes options p) p (text_rows options bytes p) n t v
+        behind-feed (text_setting bytes options p) (feed_of bytes options p) p (text_rows options bytes p) n t v
         t' v'
         (subst P (sym kept) (text-follows_it bytes options p small)) kept
-        (text-within is_name bytes options p small t v run) c ending.0 ending.1
+        (text-within bytes options p small t v run) c ending.0 ending.1
 
 -- The last line.
 
@@ -584,15 +586,15 @@ line-last options from all n left h l new is = by l.size l.fits l.rows
             absurd (subst (AtStop (λ cells k. Unit {0})) (sym stopped) tt)
 
 -- a run that ends with the text has fed all lines but the last
-pub lines-fed : (is_name : ResolveName → ResolveName → Bool) (bytes : List ℕ) (options : ParseOptions) (p : Point) →
+pub lines-fed : (bytes : List ℕ) (options : ParseOptions) (p : Point) →
     length bytes < 2 ^ 61 →
-    (end : State) (at : World) (run : Runs (FlowStep is_name) true line_begins (flow_begins bytes options p) end at) →
+    (end : State) (at : World) (run : Runs FlowStep true line_begins (flow_begins bytes options p) end at) →
     end ≡ Ok → at.frames ≡ [] → text_feed (text_setting bytes options p) at.point ≡ [] →
-    suc (fed (FlowStep is_name) true line_begins (flow_begins bytes options p) end at run) ≡
+    suc (fed FlowStep true line_begins (flow_begins bytes options p) end at run) ≡
     length (text_rows options bytes p)
-lines-fed is_name bytes options p small end at run ok none done =
+lines-fed bytes options p small end at run ok none done =
     line-last options p (text_rows options bytes p)
-    (fed (FlowStep is_name) true line_begins (flow_begins bytes options p) end at run) w.left w.begin w.line
+    (fed FlowStep true line_begins (flow_begins bytes options p) end at run) w.left w.begin w.line
     (here at)
     (sym w.comes
     ∙ ap (λ (x : State). comes_to B feed x at) ok
@@ -606,5 +608,5 @@ lines-fed is_name bytes options p small end at run ok none done =
     feed = feed_of bytes options p
 
     w : Within (text_setting bytes options p) (feed_of bytes options p) p (text_rows options bytes p)
-        (fed (FlowStep is_name) true line_begins (flow_begins bytes options p) end at run) end at
-    w = text-within is_name bytes options p small end at run
+        (fed FlowStep true line_begins (flow_begins bytes options p) end at run) end at
+    w = text-within bytes options p small end at run

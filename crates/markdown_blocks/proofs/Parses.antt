@@ -18,20 +18,23 @@ use Rattle.md_seam.specs.Events.Tiles.{IsBlockList, plain_read}
 use Rattle.md_seam.specs.Substituted.{Substituted}
 use Rattle.md_seam.specs.TextPart.{text_readings, wants_text}
 use Rattle.md_seam.proofs.PlainTiles.{plain-only}
-use Rattle.markdown_blocks.specs.BlockList.{block_list}
-use Rattle.markdown_blocks.specs.Front.{body_point, front_events}
-use Rattle.markdown_blocks.specs.Parsed.{IsParsed, IsRead, IsSmall, IsWithoutMdx, reads_plain}
-use Rattle.markdown_blocks.specs.Rows.{Row, groups, groups_events}
-use Rattle.markdown_blocks.proofs.Begun.{begun, front-nested}
-use Rattle.markdown_blocks.proofs.EndingRows.{events-endings}
-use Rattle.markdown_blocks.proofs.GrammarRows.{events-grammar}
-use Rattle.markdown_blocks.proofs.HeldRows.{events-held}
-use Rattle.markdown_blocks.proofs.NestedRows.{Nests, rows-nest}
-use Rattle.markdown_blocks.proofs.PieceRows.{events-pieces}
-use Rattle.markdown_blocks.proofs.RowFacts.{AreRows}
+use Rattle.md_rows.specs.BlockList.{block_list}
+use Rattle.md_frame.specs.Front.{body_point, front_events}
+use Rattle.md_frame.specs.ReadsPlain.{reads_plain}
+use Rattle.markdown_blocks.specs.Parsed.{IsParsed, IsRead, IsWithoutMdx}
+use Rattle.md_meaning.specs.Wrapped.{IsSmall}
+use Rattle.md_frame.specs.Row.{Row}
+use Rattle.md_rows.specs.Rows.{groups, groups_events}
+use Rattle.md_rows.proofs.Begun.{begun, front-nested}
+use Rattle.md_rows.proofs.EndingRows.{events-endings}
+use Rattle.md_rows.proofs.GrammarRows.{events-grammar}
+use Rattle.md_rows.proofs.HeldRows.{events-held}
+use Rattle.md_rows.proofs.NestedRows.{Nests, rows-nest}
+use Rattle.md_rows.proofs.PieceRows.{events-pieces}
+use Rattle.md_rows.proofs.RowFacts.{AreRows}
 use Rattle.markdown_blocks.proofs.TextBlocks.{lines_of, part-of, read-is, read_of, rows_of, text-are}
 use Rattle.markdown_blocks.proofs.TextBlocks.{text-quiet}
-use Rattle.markdown_blocks.proofs.TileReads.{end-read}
+use Rattle.md_rows.proofs.TileReads.{end-read}
 
 -- What is known of the list of events that the plain layer reads.
 pub record ReadsPlain (options : ParseOptions) (bytes : List ℕ) : Type 0 where

@@ -12,9 +12,9 @@ use Rattle.md_engine.specs.declared.parse_state.ParseState.{ParseState}
 use Rattle.md_engine.specs.Found.{Found}
 use Rattle.md_engine.specs.Place.{IsPlaced}
 use Rattle.md_engine.specs.World.{World}
-use Rattle.md_definition.specs.Label.{labels}
-use Rattle.md_definition.specs.Meaning.{tree}
-use Rattle.md_definition.specs.Tree.{Blocks}
+use Rattle.md_meaning.specs.Label.{labels}
+use Rattle.md_meaning.specs.Meaning.{tree}
+use Rattle.md_meaning.specs.Tree.{Blocks}
 use Rattle.md_outline.proofs.LayerOutlined.{outlined-layer}
 use Rattle.md_outline.specs.Outlined.{IsOutlined}
 use Rattle.md_seam.specs.Events.Inline.{KeepsFrame, Part}
@@ -32,15 +32,15 @@ use Rattle.md_seam.proofs.NestsLemmas.{tiles-nested, tiles-placed}
 use Rattle.md_seam.proofs.OnLemmas.{tree-on}
 use Rattle.md_seam.proofs.PartsLemmas.{tiles-spelled}
 use Rattle.md_seam.proofs.ReachedLemmas.{events-placed}
-use Rattle.markdown_blocks.specs.BlockList.{block_list}
+use Rattle.md_rows.specs.BlockList.{block_list}
 use Rattle.markdown_blocks.specs.FlowReads.{FlowReads}
-use Rattle.markdown_blocks.specs.Footnotes.{footnotes_listed}
-use Rattle.markdown_blocks.specs.Front.{body_point, front_events}
+use Rattle.md_frame.specs.Footnotes.{footnotes_listed}
+use Rattle.md_frame.specs.Front.{body_point, front_events}
 use Rattle.markdown_blocks.specs.Parsed.{IsRead, IsWithoutMdx}
-use Rattle.markdown_blocks.proofs.FrontUnlinked.{front-stays}
+use Rattle.md_frame.proofs.FrontUnlinked.{front-stays}
 use Rattle.markdown_blocks.proofs.TextBlocks.{HasBlocks, blocks-read, has-blocks, parsed-footnotes, parsed-labels}
-use Rattle.markdown_blocks.proofs.TextItemised.{text-itemised}
-use Rattle.markdown_blocks.proofs.TextQuoted.{text-quoted}
+use Rattle.md_frame.proofs.TextItemised.{text-itemised}
+use Rattle.md_frame.proofs.TextQuoted.{text-quoted}
 
 -- What the calls in front of the last loop gave: the front of a text, and what flow reads behind it; and the labels in
 -- the state are those that were found.

@@ -15,28 +15,31 @@ use Rattle.md_engine.specs.World.{Setting}
 use Rattle.md_engine.proofs.TextFeed.{text-follows}
 use Rattle.md_seam.specs.Ahead.{from_ending, line_end}
 use Rattle.md_seam.specs.Events.Places.{past_text}
-use Rattle.md_definition.specs.Rest.{Rest}
-use Rattle.md_definition.specs.State.{Container}
-use Rattle.md_definition.specs.Texts.{split_lines}
+use Rattle.md_meaning.specs.Rest.{Rest}
+use Rattle.md_meaning.specs.State.{Container}
+use Rattle.md_meaning.specs.Texts.{split_lines}
 use Rattle.md_seam.proofs.FeedLines.{HasEnding, HasLine, Stops, begun-none, cell, drop-past, ending-feed, ending-some}
 use Rattle.md_seam.proofs.FeedLines.{feed-none, front-within, is-ending, line-feed, past_ending, slice-front, spread}
 use Rattle.md_seam.proofs.InlineLemmas.{past-index}
 use Rattle.md_seam.proofs.RestCells.{RestAt, rest_cells}
-use Rattle.md_definition.proofs.TextsLemmas.{Both, Ending, EndsBefore, LineFeed, NoEnding, Return, ending_bytes}
-use Rattle.md_definition.proofs.TextsLemmas.{split-line, split-next}
-use Rattle.markdown_blocks.specs.Change.{open_behind}
-use Rattle.markdown_blocks.specs.FlowReads.{text_cells, text_rows, text_setting}
-use Rattle.markdown_blocks.specs.Fronted.{Contained, contained, rest_from, rest_line}
+use Rattle.md_meaning.proofs.TextsLemmas.{Both, Ending, EndsBefore, LineFeed, NoEnding, Return, ending_bytes}
+use Rattle.md_meaning.proofs.TextsLemmas.{split-line, split-next}
+use Rattle.md_frame.specs.Change.{open_behind}
+use Rattle.md_rows.specs.TextRows.{text_cells, text_rows, text_setting}
+use Rattle.md_rows.specs.Fronted.{Contained, contained, rest_from}
+use Rattle.md_frame.specs.RestLine.{rest_line}
 use Rattle.markdown_blocks.specs.Parsed.{IsWithoutMdx}
-use Rattle.markdown_blocks.specs.Rows.{behind_held, leaf_behind, Held, Row, RowKind, after_ending, closes_before}
-use Rattle.markdown_blocks.specs.Rows.{ends_blank, held_at, inside_of}
-use Rattle.markdown_blocks.specs.Rows.{line_kind, onto_rows, row_kind, row_of, rows_at, rows_by, stays_blank}
+use Rattle.md_frame.specs.Row.{Row, RowKind}
+use Rattle.md_rows.specs.Rows.{behind_held, leaf_behind, Held, after_ending, closes_before}
+use Rattle.md_rows.specs.Rows.{ends_blank, held_at, inside_of}
+use Rattle.md_rows.specs.Rows.{line_kind, onto_rows, row_kind, row_of, rows_at, rows_by, stays_blank}
 use Rattle.markdown_blocks.proofs.FrontRows.{HasHeld, held-is}
-use Rattle.markdown_blocks.proofs.RestFacts.{rest-line_end, rest-no_ending}
-use Rattle.markdown_blocks.proofs.RestRows.{rest-blank, rest-cut, rest-empty, rest-ending, rest-past, rest-whole}
-use Rattle.markdown_blocks.proofs.RowFacts.{AreRows, IsEnding, IsLine, IsRow, behind_line}
-use Rattle.markdown_blocks.proofs.RowKinds.{behind-rest, blank-inside, kind-rest, leaf-inside}
-use Rattle.markdown_blocks.proofs.RegistryRead.{AreRead}
+use Rattle.md_frame.proofs.RestFacts.{rest-line_end, rest-no_ending}
+use Rattle.md_frame.proofs.RestRows.{rest-blank, rest-cut, rest-empty, rest-ending, rest-past, rest-whole}
+use Rattle.md_rows.proofs.RowFacts.{AreRows, IsLine, IsRow, behind_line}
+use Rattle.md_seam.proofs.FeedLines.{IsEnding}
+use Rattle.md_rows.proofs.RowKinds.{behind-rest, blank-inside, kind-rest, leaf-inside}
+use Rattle.md_frame.proofs.RegistryRead.{AreRead}
 
 -- A row.
 
@@ -94,7 +97,6 @@ held-row options bytes behind said r stop h below small fed short is none k =
       leaf_is =
           λ l e. inside (row_kind options h.on h.cells)
           ∙ leaf-inside options h.on said bytes behind r p stop (row_kind options h.on h.cells) is none k few kind l e;
-      no_inside = λ e. ap (inside_of options h.on h.cells p) e;
     } in
     (row, refl)
 
@@ -254,7 +256,7 @@ has-row options bytes behind said open_before still line p stop built room read 
 rows-onto : (options : ParseOptions) (bytes line : List ℕ) (open_before : List Container) (still : HeldLeaf) (row : Row)
     (p q : Point) (lines : List (List ℕ)) (rows : List Row) →
     IsLine options bytes open_before still p line row →
-    row.leaves ≡ closes_before (behind_line options open_before still p line) rows →
+    row.closed_after ≡ closes_before (behind_line options open_before still p line) rows →
     row.after ≡ Some q → IsEnding bytes row.end q →
     AreRows options bytes (behind_line options open_before still p line) row.behind q lines rows →
     AreRows options bytes open_before still p (line ∷ lines) (row ∷ rows)

@@ -8,33 +8,38 @@ use Rattle.md_engine.specs.declared.configuration.ParseOptions.{ParseOptions}
 use Rattle.md_engine.specs.declared.event.Event.{Event}
 use Rattle.md_engine.specs.declared.tokenizer.held_leaf.HeldLeaf.TheVariants as held_leaf
 use Rattle.md_engine.specs.declared.tokenizer.held_leaf.OpenText.{OpenText}
-use Rattle.md_definition.specs.Definition.{Defined, cut_at_most, cut_definitions}
-use Rattle.md_definition.specs.Leaves.{Came, Opened}
-use Rattle.md_definition.specs.Rest.{is_blank, trim}
-use Rattle.md_definition.specs.State.{At, Kept, Leaf, NoLeaf, OpenTable, Path, Within, kept, shut, shut_paragraph, spot}
-use Rattle.md_definition.specs.State.{texts, then_definitions, then_leaf, then_paragraph}
-use Rattle.md_definition.specs.Step.{came}
-use Rattle.md_definition.specs.Table.{row_cells}
-use Rattle.md_definition.specs.Tree.{Blocks}
-use Rattle.md_seam.specs.Events.Spelled.{Around, Reading, read}
-use Rattle.markdown_blocks.specs.Leaf.GfmTable.{first_cells, may_be_table, table_leaf}
-use Rattle.markdown_blocks.specs.Leaf.Paragraph.{held_of}
-use Rattle.markdown_blocks.specs.LineFlags.{ending_name}
-use Rattle.markdown_blocks.specs.Registry.{GfmTable, LeafName, leaf, text_leaf}
-use Rattle.markdown_blocks.specs.Rows.{Group, Headed, LeafRow, Row, TextRow, groups_events, headed_done}
-use Rattle.markdown_blocks.specs.Rows.{is_blank_row, last_row, tail_events}
-use Rattle.markdown_blocks.specs.Stands.{around_of, reading, reading_on}
-use Rattle.markdown_blocks.proofs.GfmTable.TableForm.{IsFilledLine}
-use Rattle.markdown_blocks.proofs.GfmTable.TableLaws.{AreFilled, cells-trimmed, table-facts, table-shuts}
-use Rattle.markdown_blocks.proofs.HeadedTable.{line-filled}
+use Rattle.md_meaning.specs.Definition.{Defined, cut_at_most, cut_definitions}
+use Rattle.md_meaning.specs.Leaves.{LeafResult, Opened}
+use Rattle.md_meaning.specs.Rest.{is_blank, trim}
+use Rattle.md_meaning.specs.State.{At, ParagraphLine, Leaf, NoLeaf, OpenTable, Path, Within, kept, shut, shut_paragraph, spot}
+use Rattle.md_meaning.specs.State.{texts, then_definitions, then_leaf, then_paragraph}
+use Rattle.md_meaning.specs.Step.{came}
+use Rattle.md_meaning.specs.Table.{row_cells}
+use Rattle.md_meaning.specs.Tree.{Blocks}
+use Rattle.md_seam.specs.Events.Spelled.{OpenContainer, Reading, read}
+use Rattle.md_table_rooms.specs.Leaf.GfmTable.{first_cells, may_be_table, table_leaf}
+use Rattle.md_frame.specs.Leaf.Paragraph.{held_of}
+use Rattle.md_frame.specs.EndingName.{ending_name}
+use Rattle.md_frame.specs.LeafName.{GfmTable, LeafName}
+use Rattle.md_frame.specs.TextLines.{text_leaf}
+use Rattle.md_registry.specs.Registry.{leaf}
+use Rattle.md_frame.specs.Row.{LeafRow, Row, TextRow, headed_done}
+use Rattle.md_rows.specs.Rows.{Group, Headed, groups_events}
+use Rattle.md_frame.specs.Row.{is_blank_row, last_row}
+use Rattle.md_rows.specs.Rows.{tail_events}
+use Rattle.md_frame.specs.Around.{around_of}
+use Rattle.md_rows.specs.Stands.{reading, reading_on}
+use Rattle.md_table_rooms.proofs.GfmTable.TableForm.{IsFilledLine}
+use Rattle.md_table_rooms.proofs.GfmTable.TableLaws.{AreFilled, cells-trimmed, table-facts, table-shuts}
+use Rattle.md_rows.proofs.HeadedTable.{line-filled}
 use Rattle.markdown_blocks.proofs.LineSteps.{longer, with_came}
-use Rattle.markdown_blocks.proofs.Registry.{text-laws}
-use Rattle.markdown_blocks.proofs.RowFacts as f
-use Rattle.markdown_blocks.proofs.RowLeaf.{leaf-at}
-use Rattle.markdown_blocks.proofs.SpanLaws.{AreBehind, come_behind}
-use Rattle.markdown_blocks.proofs.SpelledParagraphs.{text-filled}
-use Rattle.markdown_blocks.proofs.TextFound.{front-is}
-use Rattle.markdown_blocks.proofs.UnderNames.{heads-table}
+use Rattle.md_registry.proofs.Registry.{text-laws}
+use Rattle.md_rows.proofs.RowFacts as f
+use Rattle.md_rows.proofs.RowLeaf.{leaf-at}
+use Rattle.md_frame.proofs.SpanLaws.{AreBehind, come_behind}
+use Rattle.md_rows.proofs.SpelledParagraphs.{text-filled}
+use Rattle.md_rows.proofs.TextFound.{front-is}
+use Rattle.md_registry.proofs.UnderNames.{heads-table}
 
 -- Lines on which something stands.
 
@@ -71,7 +76,7 @@ dark-filled options bytes row (next ∷ rows) are dark =
 
 -- with the lines of a table, behind its head
 abbrev pub head_come : (options : ParseOptions) (bytes : List ℕ) (row next : Row) (rows : List Row) →
-    AreBehind options bytes table_leaf row (next ∷ rows) → Leaf → Came
+    AreBehind options bytes table_leaf row (next ∷ rows) → Leaf → LeafResult
 head_come options bytes row next rows are open_leaf =
     come_behind options bytes table_leaf next rows are.7 (table_leaf.comes options open_leaf are.6.rest)
 
@@ -122,23 +127,23 @@ none-of_text options bs = go options.constructs.definition
     go true = refl
     go false = refl
 
-pub text-of_text : (options : ParseOptions) (lines : List Kept) → IsOfText options (text_leaf.held lines)
+pub text-of_text : (options : ParseOptions) (lines : List ParagraphLine) → IsOfText options (text_leaf.held lines)
 text-of_text options lines bs = text-laws.shut options bs lines
 
-pub longer-spot : (p : Path) (lines : List Kept) →
+pub longer-spot : (p : Path) (lines : List ParagraphLine) →
     (spot (longer p lines)).leaf ≡ text_leaf.held (held_of (spot p).leaf ++ lines)
 longer-spot (At s) lines = refl
 longer-spot (Within before container p) lines = longer-spot p lines
 
 -- what is read where the head has been turned: all in front of it is shut
-reading-head : (options : ParseOptions) (outer : List Around) (p : Path) (k : Kept) (c : Came) →
+reading-head : (options : ParseOptions) (outer : List OpenContainer) (p : Path) (k : ParagraphLine) (c : LeafResult) →
     IsOfText options (spot p).leaf →
     reading_on options outer (with_came options true (longer p (k ∷ [])) c) ≡
     record (reading_on options outer p) { here = shut options (came (reading_on options outer p).here c) }
 reading-head options outer (At s) k c text =
     ap
     (λ (bs : Blocks). record { outer = outer; here = shut options (came bs c); leaf = None; text = None })
-    (ap (λ (l : List Kept). text_leaf.behind options s.here (texts l)) (front-is (held_of s.leaf) k)
+    (ap (λ (l : List ParagraphLine). text_leaf.behind options s.here (texts l)) (front-is (held_of s.leaf) k)
     ∙ sym (text s.here))
 reading-head options outer (Within before container p) k c text =
     reading-head options (around_of container before ∷ outer) p k c text
@@ -155,7 +160,7 @@ head-read options bytes line p row next rows at is text are filled on of_text =
     (table-facts options bytes row next rows at head are filled on).reads s refl refl
     ∙ ap (λ (bs : Blocks). record s { here = bs })
     (sym (table-shuts options bytes row next rows (row_cells is.rest.bytes) s.here are filled))
-    ∙ ap (λ (c : Came). record s { here = shut options (came s.here c) }) (sym comes)
+    ∙ ap (λ (c : LeafResult). record s { here = shut options (came s.here c) }) (sym comes)
     ∙ sym
     (reading-head options [] p (kept is.rest) (head_come options bytes row next rows are (spot q).leaf) of_text)
   where
@@ -173,10 +178,10 @@ head-read options bytes line p row next rows at is text are filled on of_text =
       filled = (text-filled options bytes line row is text).filled;
     }
 
-    held : List Kept
+    held : List ParagraphLine
     held = held_of (spot p).leaf
 
-    open_table : List (List ℕ) → Came
+    open_table : List (List ℕ) → LeafResult
     open_table cells =
         come_behind options bytes table_leaf next rows are.7 (Opened (OpenTable (trim are.6.rest.bytes) (cells ∷ [])))
 

@@ -1,28 +1,27 @@
 -- What is read where a path is open: how containers end and begin, and the leaf of the innermost.
 use Rattle.md_engine.specs.declared.tokenizer.held_leaf.HeldLeaf.{HeldLeaf}
-use Rattle.std.proofs.Common.{◌≡◌, ℕ, zero, suc, List, [], ◌∷◌, ◌++◌}
-use Rattle.std.proofs.Common.{length, map, refl, ap, sym, ◌∙◌, append_assoc}
+use Rattle.std.proofs.Common.{◌≡◌, ℕ, zero, suc, List, [], ◌∷◌, ◌++◌, length, map, refl, ap, sym, ◌∙◌, append_assoc}
 use Rattle.std.specs.Prelude.{None}
 use Rattle.md_engine.specs.declared.configuration.ParseOptions.{ParseOptions}
-use Rattle.md_definition.specs.Rest.{Rest}
-use Rattle.md_seam.specs.Events.Spelled.{Around, Reading, Shape, left}
-use Rattle.md_definition.specs.State.{At, Container, Kept, Leaf, NoLeaf, Path, Spot, Within, closed, shut, spot}
-use Rattle.md_definition.specs.State.{texts, then_block, then_leaf}
-use Rattle.md_definition.specs.Step.{spot_of}
-use Rattle.md_definition.specs.Tree.{Block, Blocks, End}
-use Rattle.markdown_blocks.specs.Registry.{shape_of, text_leaf}
-use Rattle.markdown_blocks.specs.Fed.{close_containers}
-use Rattle.markdown_blocks.specs.Fronted.{Contained}
-use Rattle.markdown_blocks.specs.Rows.{RowKind}
-use Rattle.markdown_blocks.specs.Rows.{line_kind}
-use Rattle.markdown_blocks.specs.Stands.{around_of, containers_of, final_on, outer_on}
-use Rattle.markdown_blocks.specs.Stands.{reading, reading_on}
-use Rattle.markdown_blocks.proofs.LineSteps.{behind_path}
-use Rattle.markdown_blocks.proofs.LineSteps.{kept_to, longer, new_line, new_path, renewed, spot_by}
-use Rattle.markdown_blocks.specs.Leaf.Paragraph.{held_of}
-use Rattle.markdown_blocks.proofs.Registry.{text-laws}
-use Rattle.markdown_blocks.proofs.PrefixFacts.{begins}
-use Rattle.markdown_blocks.proofs.ContainerNames.{container-facts}
+use Rattle.md_meaning.specs.Rest.{Rest}
+use Rattle.md_seam.specs.Events.Spelled.{OpenContainer, Reading, Shape, left}
+use Rattle.md_meaning.specs.State.{At, Container, ParagraphLine, Leaf, NoLeaf, Path, Innermost, Within, closed, shut, spot, texts}
+use Rattle.md_meaning.specs.State.{then_block, then_leaf}
+use Rattle.md_meaning.specs.Step.{spot_of}
+use Rattle.md_meaning.specs.Tree.{Block, Blocks, End}
+use Rattle.md_frame.specs.TextLines.{text_leaf}
+use Rattle.md_frame.specs.ContainerNames.{shape_of}
+use Rattle.md_frame.specs.Closed.{close_containers}
+use Rattle.md_rows.specs.Fronted.{Contained}
+use Rattle.md_frame.specs.Row.{RowKind}
+use Rattle.md_rows.specs.Rows.{line_kind}
+use Rattle.md_frame.specs.Around.{around_of}
+use Rattle.md_rows.specs.Stands.{containers_of, final_on, outer_on, reading, reading_on}
+use Rattle.markdown_blocks.proofs.LineSteps.{behind_path, kept_to, longer, new_line, new_path, renewed, spot_by}
+use Rattle.md_frame.specs.Leaf.Paragraph.{held_of}
+use Rattle.md_registry.proofs.Registry.{text-laws}
+use Rattle.md_frame.proofs.ContainerNames.{container-facts}
+use Rattle.md_frame.proofs.Enters.{enters}
 
 -- The ends and begins of containers.
 
@@ -37,12 +36,12 @@ close_containers-between zero r t l = (t, l)
 close_containers-between (suc size) r t l =
     let next = go r.outer in close_containers-between size (left r.outer r) next.0 next.1
   where
-    go : (outer : List Around) → ((left outer r).text ≡ None) × ((left outer r).leaf ≡ None)
+    go : (outer : List OpenContainer) → ((left outer r).text ≡ None) × ((left outer r).leaf ≡ None)
     go [] = (t, l)
     go (x ∷ outer) = (t, l)
 
 -- where all containers of a path end, all of it is closed
-pub close_containers-all : (options : ParseOptions) (outer : List Around) (p : Path) →
+pub close_containers-all : (options : ParseOptions) (outer : List OpenContainer) (p : Path) →
     close_containers (length (containers_of p)) (reading_on options outer p) ≡ final_on options outer p
 close_containers-all options outer (At s) = refl
 close_containers-all options outer (Within before container p) =
@@ -68,7 +67,7 @@ pub around-same : (c d : Container) (before : Blocks) → shape_of c ≡ shape_o
 around-same c d before e = ap (λ (shape : Shape). record { shape = shape; before = before }) e
 
 -- where some end, the others are kept
-pub close_containers-kept : (options : ParseOptions) (stays closes : List Container) (outer : List Around) (p : Path) →
+pub close_containers-kept : (options : ParseOptions) (stays closes : List Container) (outer : List OpenContainer) (p : Path) →
     AreShapes stays closes p →
     close_containers (length closes) (reading_on options outer p) ≡ reading_on options outer (kept_to options stays p)
 close_containers-kept options [] closes outer p e =
@@ -79,12 +78,12 @@ close_containers-kept options (c ∷ stays) closes outer (Within before containe
     let same : shape_of c ≡ shape_of container = cc in
     let more : AreShapes stays closes p = cc in
     close_containers-kept options stays closes (around_of container before ∷ outer) p more
-    ∙ ap (λ (around : Around). reading_on options (around ∷ outer) (kept_to options stays p))
+    ∙ ap (λ (around : OpenContainer). reading_on options (around ∷ outer) (kept_to options stays p))
     (sym (around-same c container before same))
 
 -- what a line changes of those that stay, the events do not tell
-pub reading-renewed : (options : ParseOptions) (stays closes : List Container) (outer : List Around) (p : Path)
-    (lines : List Kept) →
+pub reading-renewed : (options : ParseOptions) (stays closes : List Container) (outer : List OpenContainer) (p : Path)
+    (lines : List ParagraphLine) →
     AreShapes stays closes p →
     reading_on options outer (longer (renewed stays p) lines) ≡ reading_on options outer (longer p lines)
 reading-renewed options [] closes outer p lines e = refl
@@ -92,14 +91,9 @@ reading-renewed options (c ∷ stays) closes outer (At s) lines e = refl
 reading-renewed options (c ∷ stays) closes outer (Within before container p) lines e =
     let same : shape_of c ≡ shape_of container = cc in
     let more : AreShapes stays closes p = cc in
-    ap (λ (around : Around). reading_on options (around ∷ outer) (longer (renewed stays p) lines))
+    ap (λ (around : OpenContainer). reading_on options (around ∷ outer) (longer (renewed stays p) lines))
     (around-same c container before same)
     ∙ reading-renewed options stays closes (around_of container before ∷ outer) p lines more
-
--- containers begin, each in the one before
-abbrev pub enters : List Container → Reading → Reading
-enters [] r = r
-enters (c ∷ cs) r = enters cs (begins c r)
 
 -- new containers with nothing in them
 abbrev pub new_none : List Container → Blocks → Path
@@ -110,7 +104,7 @@ new_none (c ∷ cs) bs = Within bs c (new_none cs End)
 abbrev pub open_path : ParseOptions → Path → Contained → Path
 open_path options p c = behind_path (kept_to options c.change.stays p) (new_none c.change.opens)
 
-pub reading-behind : (options : ParseOptions) (outer : List Around) (p : Path) (f : Blocks → Path) →
+pub reading-behind : (options : ParseOptions) (outer : List OpenContainer) (p : Path) (f : Blocks → Path) →
     reading_on options outer (behind_path p f) ≡ reading_on options (outer_on outer p) (f (spot p).here)
 reading-behind options outer (At s) f = refl
 reading-behind options outer (Within before container p) f =
@@ -122,10 +116,10 @@ kept-none options [] p = refl
 kept-none options (c ∷ stays) (At s) = refl
 kept-none options (c ∷ stays) (Within before container p) = kept-none options stays p
 
-pub none-shut : (options : ParseOptions) (s : Spot) → s.leaf ≡ NoLeaf → shut options s ≡ s.here
+pub none-shut : (options : ParseOptions) (s : Innermost) → s.leaf ≡ NoLeaf → shut options s ≡ s.here
 none-shut options s e = ap (then_leaf options s.here) e
 
-pub reading-none : (options : ParseOptions) (outer : List Around) (opens : List Container) (bs : Blocks) →
+pub reading-none : (options : ParseOptions) (outer : List OpenContainer) (opens : List Container) (bs : Blocks) →
     reading_on options outer (new_none opens bs) ≡
     enters opens (record { outer = outer; here = bs; leaf = None; text = None })
 reading-none options outer [] bs = refl
@@ -147,18 +141,18 @@ reading-open options p c shapes =
 -- Leaves.
 
 -- a path whose innermost container has something else in it
-abbrev pub with_spot : Path → (Blocks → Spot) → Path
+abbrev pub with_spot : Path → (Blocks → Innermost) → Path
 with_spot p s = behind_path p (λ bs. At (s bs))
 
-pub outer-with : (outer : List Around) (p : Path) (s : Blocks → Spot) → outer_on outer (with_spot p s) ≡ outer_on outer p
+pub outer-with : (outer : List OpenContainer) (p : Path) (s : Blocks → Innermost) → outer_on outer (with_spot p s) ≡ outer_on outer p
 outer-with outer (At x) s = refl
 outer-with outer (Within before container p) s = outer-with (around_of container before ∷ outer) p s
 
-pub spot-with : (p : Path) (s : Blocks → Spot) → spot (with_spot p s) ≡ s (spot p).here
+pub spot-with : (p : Path) (s : Blocks → Innermost) → spot (with_spot p s) ≡ s (spot p).here
 spot-with (At x) s = refl
 spot-with (Within before container p) s = spot-with p s
 
-pub behind-behind : (p : Path) (f : Blocks → Path) (s : Blocks → Spot) →
+pub behind-behind : (p : Path) (f : Blocks → Path) (s : Blocks → Innermost) →
     with_spot (behind_path p f) s ≡ behind_path p (λ bs. with_spot (f bs) s)
 behind-behind (At x) f s = refl
 behind-behind (Within before container p) f s = ap (Within before container) (behind-behind p f s)
@@ -199,31 +193,31 @@ open-none options p c =
     behind-leaf (kept_to options c.change.stays p) (new_none c.change.opens) (none-none c.change.opens)
 
 -- a leaf where nothing is open
-pub reading-with : (options : ParseOptions) (p : Path) (s : Blocks → Spot) → (spot p).leaf ≡ NoLeaf →
+pub reading-with : (options : ParseOptions) (p : Path) (s : Blocks → Innermost) → (spot p).leaf ≡ NoLeaf →
     reading options (with_spot p s) ≡ record (reading options p) { here = shut options (s (reading options p).here) }
 reading-with options p s none =
     ap
-    (λ (outer : List Around).
+    (λ (outer : List OpenContainer).
     record { outer = outer; here = shut options (spot (with_spot p s)); leaf = None; text = None })
     (outer-with [] p s)
-    ∙ ap (λ (x : Spot). record { outer = outer_on [] p; here = shut options x; leaf = None; text = None })
+    ∙ ap (λ (x : Innermost). record { outer = outer_on [] p; here = shut options x; leaf = None; text = None })
     (spot-with p s)
     ∙ ap (λ (bs : Blocks). record { outer = outer_on [] p; here = shut options (s bs); leaf = None; text = None })
     (sym (none-shut options (spot p) none))
 
 -- a text with more lines
-pub longer-with : (p : Path) (lines : List Kept) → (spot p).leaf ≡ NoLeaf →
+pub longer-with : (p : Path) (lines : List ParagraphLine) → (spot p).leaf ≡ NoLeaf →
     longer p lines ≡ with_spot p (λ bs. record { here = bs; leaf = text_leaf.held lines })
 longer-with (At s) lines none =
     ap (λ (x : Leaf). At (record { here = s.here; leaf = text_leaf.held (held_of x ++ lines) })) none
 longer-with (Within before container p) lines none = ap (Within before container) (longer-with p lines none)
 
-pub longer-longer : (p : Path) (xs ys : List Kept) → longer (longer p xs) ys ≡ longer p (xs ++ ys)
+pub longer-longer : (p : Path) (xs ys : List ParagraphLine) → longer (longer p xs) ys ≡ longer p (xs ++ ys)
 longer-longer (At s) xs ys =
-    ap (λ (l : List Kept). At (record { here = s.here; leaf = text_leaf.held l })) (append_assoc (held_of s.leaf) xs ys)
+    ap (λ (l : List ParagraphLine). At (record { here = s.here; leaf = text_leaf.held l })) (append_assoc (held_of s.leaf) xs ys)
 longer-longer (Within before container p) xs ys = ap (Within before container) (longer-longer p xs ys)
 
-pub reading-longer : (options : ParseOptions) (p : Path) (lines : List Kept) → (spot p).leaf ≡ NoLeaf →
+pub reading-longer : (options : ParseOptions) (p : Path) (lines : List ParagraphLine) → (spot p).leaf ≡ NoLeaf →
     reading options (longer p lines) ≡
     record (reading options p) { here = text_leaf.behind options (reading options p).here (texts lines) }
 reading-longer options p lines none =

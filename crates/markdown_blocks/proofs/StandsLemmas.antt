@@ -8,33 +8,34 @@ use Rattle.md_engine.specs.declared.configuration.ParseOptions.{ParseOptions}
 use Rattle.md_engine.specs.declared.event.Point.{Point}
 use Rattle.md_engine.specs.declared.state.State.{State}
 use Rattle.md_engine.specs.declared.state.State.TheVariants.{Ok}
-use Rattle.md_engine.specs.Resolvers.{same_name}
 use Rattle.md_engine.specs.Run.{Runs}
 use Rattle.md_engine.specs.TextFeed.{text_feed}
 use Rattle.md_engine.specs.World.{Flags, World}
 use Rattle.std.proofs.lemmas.List.{length-map}
-use Rattle.md_definition.specs.Preamble.{rest_at}
-use Rattle.md_definition.specs.Rest.{Rest}
+use Rattle.md_meaning.specs.Preamble.{rest_at}
+use Rattle.md_meaning.specs.Rest.{Rest}
 use Rattle.md_seam.specs.Events.Spelled.{Reading, read, unread}
-use Rattle.md_definition.specs.State.{At, Container, Path}
-use Rattle.md_definition.specs.Step.{spot_of, step, steps}
-use Rattle.md_definition.specs.Texts.{split_lines}
-use Rattle.md_definition.specs.Tree.{End}
-use Rattle.markdown_blocks.specs.Change.{open_behind}
-use Rattle.markdown_blocks.specs.Fed.{FlowRan, StandsBehind, fed, flow_begins, last_leaves, close_containers}
+use Rattle.md_meaning.specs.State.{At, Container, Path}
+use Rattle.md_meaning.specs.Step.{spot_of, step, steps}
+use Rattle.md_meaning.specs.Texts.{split_lines}
+use Rattle.md_meaning.specs.Tree.{End}
+use Rattle.md_frame.specs.Change.{open_behind}
+use Rattle.md_frame.specs.Closed.{close_containers}
+use Rattle.markdown_blocks.specs.Fed.{FlowRan, StandsBehind, fed, flow_begins, last_leaves}
 use Rattle.markdown_blocks.specs.Fed.{line_begins, rests_from}
-use Rattle.markdown_blocks.specs.Fronted.{rest_from}
+use Rattle.md_rows.specs.Fronted.{rest_from}
 use Rattle.markdown_blocks.specs.Parsed.{IsWithoutMdx}
-use Rattle.markdown_blocks.specs.Rows.{Row, groups, groups_events}
-use Rattle.markdown_blocks.specs.Stands.{AreOpen, IsPlain, StandsFor, containers_of, still_of, reading}
-use Rattle.markdown_blocks.specs.States.{FlowStep}
-use Rattle.markdown_blocks.specs.TextRows.{text_rows, text_setting}
+use Rattle.md_frame.specs.Row.{Row}
+use Rattle.md_rows.specs.Rows.{groups, groups_events}
+use Rattle.md_rows.specs.Stands.{AreOpen, IsPlain, StandsFor, containers_of, still_of, reading}
+use Rattle.md_registry.specs.States.{FlowStep}
+use Rattle.md_rows.specs.TextRows.{text_rows, text_setting}
 use Rattle.markdown_blocks.proofs.LinesFed.{LineFed, line-fed, lines-fed, open_after, leaf_after}
 use Rattle.markdown_blocks.proofs.StepBehind.{containers-step, plain-step}
 use Rattle.markdown_blocks.proofs.LastLine.{told-some}
-use Rattle.markdown_blocks.proofs.RowFacts as f
+use Rattle.md_rows.proofs.RowFacts as f
 use Rattle.markdown_blocks.proofs.RowLemmas.{fresh-rows}
-use Rattle.markdown_blocks.proofs.SpelledGroups.{still-line}
+use Rattle.markdown_blocks.proofs.SpelledLines.{still-line}
 use Rattle.markdown_blocks.proofs.SpelledRows.{lines-read, rests-behind, rows-below}
 
 -- Lines, one after another.
@@ -138,13 +139,13 @@ stands-behind bytes options p n w built small index whole column is =
 -- where all of it was read
 pub flow-ran : (bytes : List ℕ) (options : ParseOptions) (p : Point) (end : State) (at : World) →
     length bytes < 2 ^ 61 →
-    Runs (FlowStep same_name) true line_begins (flow_begins bytes options p) end at → end ≡ Ok → at.frames ≡ [] →
+    Runs FlowStep true line_begins (flow_begins bytes options p) end at → end ≡ Ok → at.frames ≡ [] →
     text_feed (text_setting bytes options p) at.point ≡ [] → FlowRan bytes options p end at
 flow-ran bytes options p end at small run ok none done = record {
   run = run;
-  lines = lines-fed same_name bytes options p small end at run ok none done;
+  lines = lines-fed bytes options p small end at run ok none done;
   stands =
       λ built index whole column t v t' v' before call feeds. stands-behind bytes options p
-      (suc (fed (FlowStep same_name) true line_begins (flow_begins bytes options p) t v before)) v' built small index whole column
-      (line-fed same_name bytes options p small t v t' v' before call feeds);
+      (suc (fed FlowStep true line_begins (flow_begins bytes options p) t v before)) v' built small index whole column
+      (line-fed bytes options p small t v t' v' before call feeds);
 }

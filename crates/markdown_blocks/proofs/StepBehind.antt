@@ -8,42 +8,48 @@ use Rattle.md_engine.specs.declared.tokenizer.held_leaf.HeldLeaf.{HeldLeaf}
 use Rattle.md_engine.specs.declared.tokenizer.held_leaf.HeldLeaf.TheVariants as held_leaf
 use Rattle.md_engine.specs.declared.tokenizer.held_leaf.Progress.TheVariants.{Fresh}
 use Rattle.md_engine.specs.declared.tokenizer.held_leaf.Progress.{Progress}
-use Rattle.md_definition.specs.Leaves.{Came, Finished, Opened}
-use Rattle.md_definition.specs.Rest.{Rest}
-use Rattle.md_definition.specs.Rest.{trim_start}
-use Rattle.md_definition.specs.State.{At, Container, Kept, Leaf, NoLeaf, OpenParagraph, Path, Spot, Within, cut, kept, spot, texts}
-use Rattle.md_definition.specs.Step.{came, step}
-use Rattle.md_definition.specs.Tree.{Blocks, End}
-use Rattle.markdown_blocks.proofs.TextProgress.{IsFresh, contained-progress, unlazy-fresh}
-use Rattle.markdown_blocks.specs.Change.{is_none, open_behind}
-use Rattle.markdown_blocks.specs.Fronted.{Contained}
-use Rattle.markdown_blocks.specs.HeldLeaf.{IsBuiltLeaf, has_lines, kind_of_leaf, left_by, may_go_on, takes_lazy}
-use Rattle.markdown_blocks.specs.Leaf.Paragraph.{held_of, open_lines}
+use Rattle.md_meaning.specs.Leaves.{LeafResult, Finished, Opened}
+use Rattle.md_meaning.specs.Rest.{Rest}
+use Rattle.md_meaning.specs.Rest.{trim_start}
+use Rattle.md_meaning.specs.State.{At, Container, ParagraphLine, Leaf, NoLeaf, OpenParagraph, Path, Innermost, Within, cut, kept, spot, texts}
+use Rattle.md_meaning.specs.Step.{came, step}
+use Rattle.md_meaning.specs.Tree.{Blocks, End}
+use Rattle.md_rows.proofs.TextProgress.{IsFresh, contained-progress, unlazy-fresh}
+use Rattle.md_frame.specs.Change.{is_none, open_behind}
+use Rattle.md_rows.specs.Fronted.{Contained}
+use Rattle.md_frame.specs.HeldLeaf.{IsBuiltLeaf, has_lines, kind_of_leaf, left_by, may_go_on, takes_lazy}
+use Rattle.md_frame.specs.Leaf.Paragraph.{held_of, open_lines}
 use Rattle.markdown_blocks.specs.Parsed.{IsWithoutMdx}
-use Rattle.markdown_blocks.specs.Registry.{GfmTable, IsOpenSpan, LeafName, further_of, leaf, text_leaf, turn_leaf}
-use Rattle.markdown_blocks.specs.Rows.{BlankRow, LeafRow, RowKind, TextRow, is_further, is_lazy, is_text, line_behind}
-use Rattle.markdown_blocks.specs.Rows.{line_kind, takes_head}
-use Rattle.markdown_blocks.specs.Stands.{IsPlain, containers_of, still_of}
-use Rattle.markdown_blocks.proofs.ContainedLemmas.{contained-met, contained-size, contained-still, lazy-opens}
-use Rattle.markdown_blocks.proofs.ContainedLemmas.{lines-open}
-use Rattle.markdown_blocks.proofs.KindLemmas.{kind-starts}
-use Rattle.markdown_blocks.proofs.FurtherSpan.{FurtherSpan, further-span, other-begins, other_kind}
-use Rattle.markdown_blocks.proofs.LastKept.{last-is}
+use Rattle.md_frame.specs.LeafName.{GfmTable, LeafName}
+use Rattle.md_frame.specs.OpenSpan.{IsOpenSpan}
+use Rattle.md_frame.specs.TextLines.{text_leaf, turn_leaf}
+use Rattle.md_registry.specs.Registry.{further_of, leaf}
+use Rattle.md_frame.specs.Row.{BlankRow, LeafRow, RowKind, TextRow}
+use Rattle.md_rows.specs.Rows.{is_further, is_lazy, is_text, line_behind}
+use Rattle.md_rows.specs.Rows.{line_kind, takes_head}
+use Rattle.md_rows.specs.Stands.{IsPlain, containers_of, still_of}
+use Rattle.md_rows.proofs.ContainedLemmas.{contained-met, contained-size, contained-still, lazy-opens}
+use Rattle.md_rows.proofs.ContainedLemmas.{lines-open}
+use Rattle.md_rows.proofs.KindLemmas.{kind-starts}
+use Rattle.md_rows.proofs.FurtherSpan.{FurtherSpan, further-span, other-begins, other_kind}
+use Rattle.md_frame.proofs.LastKept.{last-is}
 use Rattle.markdown_blocks.proofs.LineSteps.{behind_path, come_by, contained-lazy, contained_at}
 use Rattle.markdown_blocks.proofs.LineSteps.{further_path}
 use Rattle.markdown_blocks.proofs.LineSteps.{goes_further, goes_lazy, kept_to, longer, new_line, none-further}
 use Rattle.markdown_blocks.proofs.LineSteps.{path_by, renewed, renewed-spot, spot_by}
 use Rattle.markdown_blocks.proofs.LineSteps.{step-contained, with_came}
-use Rattle.markdown_blocks.proofs.OpenSpan.{Begun, ComesShallow, TurnsText}
-use Rattle.markdown_blocks.proofs.Registry.{laws, leaf-begun, text-laws, text-turns}
-use Rattle.markdown_blocks.proofs.ShallowBlocks.{shallow-then}
-use Rattle.markdown_blocks.proofs.UnderNames.{heads-table}
-use Rattle.markdown_blocks.proofs.TextFound.{front_before, text_on}
-use Rattle.md_parts.proofs.ProgressLemmas.{progress-snoc}
-use Rattle.md_parts.specs.Head.{head_columns}
-use Rattle.md_parts.specs.OpenText.{open_text, text_behind}
-use Rattle.md_parts.specs.Progress.{progress, progress_of, steps}
-use Rattle.md_parts.specs.Progress as stepped
+use Rattle.md_registry.proofs.OpenSpan.{Begun, ComesShallow, TurnsText}
+use Rattle.md_registry.proofs.LeafStarts.{text-turns}
+use Rattle.md_registry.proofs.SpanLeaves.{leaf-begun}
+use Rattle.md_registry.proofs.Registry.{laws, text-laws}
+use Rattle.md_frame.proofs.ShallowBlocks.{shallow-then}
+use Rattle.md_registry.proofs.UnderNames.{heads-table}
+use Rattle.md_rows.proofs.TextFound.{front_before, text_on}
+use Rattle.md_link_definitions.proofs.ProgressLemmas.{progress-snoc}
+use Rattle.md_link_definitions.specs.Head.{head_columns}
+use Rattle.md_link_definitions.specs.OpenText.{open_text, text_behind}
+use Rattle.md_link_definitions.specs.Progress.{progress, progress_of, steps}
+use Rattle.md_link_definitions.specs.Progress as stepped
 
 -- Where a line goes on the leaf that is open: it is one of several lines, or text that the line turns.
 
@@ -108,7 +114,7 @@ span-takes options r open_leaf is goes = record {
     starts = kind-starts options on r is.name kind
 
 -- one that goes on text turns it, or makes its last line the head of a table
-turn-takes : (options : ParseOptions) (r : Rest) (lines : List Kept) (l : LeafName) →
+turn-takes : (options : ParseOptions) (r : Rest) (lines : List ParagraphLine) (l : LeafName) →
     line_kind options (text_on lines) r ≡ LeafRow l → (leaf l).further (text_on lines) ≡ true →
     (leaf l).heads ≡ false → Takes options (text_leaf.held lines) r
 turn-takes options r lines l e further heads =
@@ -124,13 +130,13 @@ turn-takes options r lines l e further heads =
       further = further;
       kind = e;
       starts = kind-starts options (text_on lines) r l e;
-      built = subst (λ (c : Came). IsBuiltLeaf (left_by c)) (sym comes) tt;
+      built = subst (λ (c : LeafResult). IsBuiltLeaf (left_by c)) (sym comes) tt;
       shallow =
           subst ComesShallow (sym comes)
           (λ bs h. shallow-then bs (turn_leaf.block left r) h (turns.shallow left r));
     }
 
-head-takes : (options : ParseOptions) (r : Rest) (lines : List Kept) (l : LeafName) →
+head-takes : (options : ParseOptions) (r : Rest) (lines : List ParagraphLine) (l : LeafName) →
     line_kind options (text_on lines) r ≡ LeafRow l → l ≡ GfmTable → Takes options (text_leaf.held lines) r
 unfolding IsOpenSpan
 head-takes options r lines l e name =
@@ -147,7 +153,7 @@ head-takes options r lines l e name =
       shallow = λ bs h. h;
     }
 
-text-takes : (options : ParseOptions) (r : Rest) (lines : List Kept) →
+text-takes : (options : ParseOptions) (r : Rest) (lines : List ParagraphLine) →
     is_further (line_kind options (text_on lines) r) (text_on lines) ≡ true → Takes options (text_leaf.held lines) r
 text-takes options r lines goes = go (line_kind options (text_on lines) r) refl goes
   where
@@ -201,12 +207,12 @@ goes-on options p r plain goes =
 -- Plain paths stay such.
 
 pub plain-renewed : (cs : List Container) (p : Path) → IsPlain p → IsPlain (renewed cs p)
-plain-renewed cs p plain = subst (λ (s : Spot). IsBuiltLeaf s.leaf) (sym (renewed-spot cs p)) plain
+plain-renewed cs p plain = subst (λ (s : Innermost). IsBuiltLeaf s.leaf) (sym (renewed-spot cs p)) plain
 
-pub plain-longer : (p : Path) (k : Kept) (ks : List Kept) → IsPlain p → IsPlain (longer p (k ∷ ks))
+pub plain-longer : (p : Path) (k : ParagraphLine) (ks : List ParagraphLine) → IsPlain p → IsPlain (longer p (k ∷ ks))
 plain-longer (At s) k ks plain = some (held_of s.leaf)
   where
-    some : (lines : List Kept) → IsBuiltLeaf (text_leaf.held (lines ++ k ∷ ks))
+    some : (lines : List ParagraphLine) → IsBuiltLeaf (text_leaf.held (lines ++ k ∷ ks))
     some [] = tt
     some (j ∷ js) = tt
 plain-longer (Within before container p) k ks plain = plain-longer p k ks plain
@@ -215,11 +221,11 @@ plain-behind : (p : Path) (f : Blocks → Path) → ((bs : Blocks) → IsPlain (
 plain-behind (At s) f each = each s.here
 plain-behind (Within before container p) f each = plain-behind p f each
 
-came-leaf : (bs : Blocks) (c : Came) → (came bs c).leaf ≡ left_by c
+came-leaf : (bs : Blocks) (c : LeafResult) → (came bs c).leaf ≡ left_by c
 came-leaf bs (Opened open_leaf) = refl
 came-leaf bs (Finished block) = refl
 
-pub came-spot : (options : ParseOptions) (heads : Bool) (p : Path) (c : Came) →
+pub came-spot : (options : ParseOptions) (heads : Bool) (p : Path) (c : LeafResult) →
     (spot (with_came options heads p c)).leaf ≡ left_by c
 came-spot options heads (At s) c = came-leaf (front_before heads options s.here s.leaf) c
 came-spot options heads (Within before container p) c = came-spot options heads p c
@@ -293,7 +299,7 @@ further-unlazy still on opens TextRow e = cc
 
 -- Which containers are open behind a line.
 
-pub containers-longer : (p : Path) (ks : List Kept) → containers_of (longer p ks) ≡ containers_of p
+pub containers-longer : (p : Path) (ks : List ParagraphLine) → containers_of (longer p ks) ≡ containers_of p
 containers-longer (At s) ks = refl
 containers-longer (Within before container p) ks = ap (λ (cs : List Container). container ∷ cs) (containers-longer p ks)
 
@@ -325,7 +331,7 @@ containers-new_line options on [] r bs = refl
 containers-new_line options on (c ∷ cs) r bs =
     ap (λ (l : List Container). c ∷ l) (containers-new_line options on cs r End)
 
-containers-came : (options : ParseOptions) (heads : Bool) (p : Path) (c : Came) →
+containers-came : (options : ParseOptions) (heads : Bool) (p : Path) (c : LeafResult) →
     containers_of (with_came options heads p c) ≡ containers_of p
 containers-came options heads (At s) c = refl
 containers-came options heads (Within before container p) c =
@@ -403,7 +409,7 @@ one-longer open_leaf r =
     ∙ progress-snoc (texts (held_of open_leaf)) (trim_start r.bytes)
     ∙ ap (λ (at : Progress). stepped.step at (trim_start r.bytes)) (sym (held-progress open_leaf)))
   where
-    longer_lines : List Kept
+    longer_lines : List ParagraphLine
     longer_lines = held_of open_leaf ++ kept r ∷ []
 
 still-longer : (p : Path) (r : Rest) → still_of (longer p (kept r ∷ [])) ≡ text_behind (still_of p) r
@@ -487,7 +493,7 @@ still-step options p r built plain =
         still_of (path_by options p c x y) ≡ line_behind options c.on c.rest kind
     go true y e f =
         still-longer (renewed c.change.stays p) c.rest
-        ∙ ap (λ (s : Spot). text_behind (kind_of_leaf s.leaf) c.rest) (renewed-spot c.change.stays p)
+        ∙ ap (λ (s : Innermost). text_behind (kind_of_leaf s.leaf) c.rest) (renewed-spot c.change.stays p)
         ∙ ap (λ (at : Progress). held_leaf.Text (open_text (stepped.step at (trim_start c.rest.bytes)) (kept c.rest))) (sym (lazy-on e))
         ∙ sym (text-left options c.on c.rest kind (lazy-text (still_of p) c.change.opens kind e))
     go false true e f = still-further options p c (goes-on options p r plain f)

@@ -14,7 +14,7 @@ use Rattle.md_engine.specs.World.{World}
 use Rattle.md_containers.specs.ItemsHeld.{ItemsHeld}
 use Rattle.md_containers.specs.ItemsStand.{ItemsStand, root}
 use Rattle.md_containers.specs.Listed.{listed}
-use Rattle.markdown_blocks.specs.FlowReads.{lines_joined, tables_set}
+use Rattle.md_frame.specs.Joins.{lines_joined, tables_set}
 use Rattle.md_containers.proofs.ListedBlocks.{IsUnlisted, listed-blocks, listed-covers}
 use Rattle.md_containers.proofs.ListedFilled.{listed-plain, plain-inline}
 use Rattle.md_containers.proofs.ListedKept.{listed-placed}
@@ -22,64 +22,67 @@ use Rattle.md_containers.proofs.ListedReads.{listed-spelled}
 use Rattle.md_content.specs.ContentReads.{content_readings, wants_content}
 use Rattle.md_content.specs.FootnoteLabels.{footnote_labels_in}
 use Rattle.md_content.specs.Labels.{labels_in}
-use Rattle.md_definition.specs.Grouped.{grouped}
-use Rattle.md_definition.specs.Label.{labels}
+use Rattle.md_meaning.specs.Grouped.{grouped}
+use Rattle.md_meaning.specs.Label.{labels}
 use Rattle.md_leaves.specs.Turned.{turned}
 use Rattle.md_seam.specs.Events.Inline.{Covers, pieces, together}
-use Rattle.md_definition.specs.Meaning.{tree, with_frontmatter}
+use Rattle.md_meaning.specs.Meaning.{tree, with_frontmatter}
 use Rattle.md_seam.specs.Events.Nested.{Nested}
 use Rattle.md_seam.specs.Events.Places.{are_placed}
 use Rattle.md_seam.specs.Events.Spelled.{spelled}
 use Rattle.md_seam.specs.Substituted.{Substituted}
-use Rattle.md_definition.specs.Texts.{split_lines}
+use Rattle.md_meaning.specs.Texts.{split_lines}
 use Rattle.md_seam.specs.Events.Tiles.{IsBlockList, end_point, parts, plain_lists, plain_read}
 use Rattle.md_outline.specs.HeadingDepths.{are_shallow}
 use Rattle.md_outline.specs.Outlined.{IsOutlined}
 use Rattle.md_seam.proofs.FilledLemmas.{spelled-filled}
 use Rattle.md_seam.proofs.OnLemmas.{tree-on}
-use Rattle.markdown_blocks.specs.BlockList.{block_list}
-use Rattle.markdown_blocks.specs.Front.{body_point, front_events}
-use Rattle.markdown_blocks.specs.FlowReads.{FlowReads, text_cells, text_rows}
-use Rattle.markdown_blocks.specs.Footnotes.{footnotes_listed}
+use Rattle.md_rows.specs.BlockList.{block_list}
+use Rattle.md_frame.specs.Front.{body_point, front_events}
+use Rattle.markdown_blocks.specs.FlowReads.{FlowReads}
+use Rattle.md_rows.specs.TextRows.{text_cells, text_rows}
+use Rattle.md_frame.specs.Footnotes.{footnotes_listed}
 use Rattle.markdown_blocks.specs.Parsed.{IsWithoutMdx}
-use Rattle.markdown_blocks.specs.Registry.{resolved}
-use Rattle.markdown_blocks.specs.Rows.{Row, groups, groups_events}
-use Rattle.markdown_blocks.specs.Unread.{listed_groups, unread_groups}
-use Rattle.markdown_blocks.proofs.BetweenRows.{rows-between}
-use Rattle.markdown_blocks.proofs.EndingRows.{blocks-endings}
-use Rattle.markdown_blocks.proofs.GrammarRows.{blocks-grammar}
-use Rattle.markdown_blocks.proofs.HeldRows.{blocks-held, events-held}
-use Rattle.markdown_blocks.proofs.StandRows.{events-stand, rows-stand}
-use Rattle.markdown_blocks.proofs.ContentFacts.{content-alone}
-use Rattle.markdown_blocks.proofs.ContentCut.{content-reads}
-use Rattle.markdown_blocks.proofs.GroupLemmas.{content-read}
-use Rattle.markdown_blocks.proofs.GroupsAre.{groups-are}
-use Rattle.markdown_blocks.proofs.HeadJoined.{heads-joined}
+use Rattle.md_frame.specs.Resolving.{resolved}
+use Rattle.md_frame.specs.Row.{Row}
+use Rattle.md_rows.specs.Rows.{groups, groups_events}
+use Rattle.md_rows.specs.BlockList.{tabled_groups}
+use Rattle.md_rows.specs.Unread.{unread_groups}
+use Rattle.md_rows.proofs.BetweenRows.{rows-between}
+use Rattle.md_rows.proofs.EndingRows.{blocks-endings}
+use Rattle.md_rows.proofs.GrammarRows.{blocks-grammar}
+use Rattle.md_rows.proofs.HeldRows.{blocks-held, events-held}
+use Rattle.md_rows.proofs.StandRows.{events-stand, rows-stand}
+use Rattle.md_frame.proofs.ContentFacts.{content-alone}
+use Rattle.md_rows.proofs.ContentCut.{content-reads}
+use Rattle.md_rows.proofs.GroupLemmas.{content-read}
+use Rattle.md_rows.proofs.GroupsAre.{groups-are}
+use Rattle.md_rows.proofs.HeadJoined.{heads-joined}
 use Rattle.markdown_blocks.proofs.Labels.Rows.{rows-labels}
-use Rattle.markdown_blocks.proofs.Labels.Footnotes.{stand-labels}
-use Rattle.markdown_blocks.proofs.Labels.Kept.{listed-labels, read-labels}
-use Rattle.markdown_blocks.proofs.Labels.Off.{off-in}
-use Rattle.markdown_blocks.proofs.Labels.Trees.{defined_in, grouped-defined, grouped-noted, noted_in}
-use Rattle.markdown_blocks.proofs.PartedRows.{rows-parted}
-use Rattle.markdown_blocks.proofs.SpannedGroups.{lines-joined}
+use Rattle.md_content_rooms.proofs.Labels.Footnotes.{stand-labels}
+use Rattle.md_content_rooms.proofs.Labels.Kept.{listed-labels, read-labels}
+use Rattle.md_content_rooms.proofs.Labels.Off.{off-in}
+use Rattle.md_content_rooms.proofs.Labels.Trees.{defined_in, grouped-defined, grouped-noted, noted_in}
+use Rattle.md_rows.proofs.PartedRows.{rows-parted}
+use Rattle.md_rows.proofs.SpannedGroups.{lines-joined}
 use Rattle.markdown_blocks.proofs.SpelledRows.{rows-outer}
-use Rattle.markdown_blocks.proofs.JoinedLemmas.{EachNoContent, rows_at-no_content}
-use Rattle.markdown_blocks.proofs.ListedOutlined.{listed-outlined}
-use Rattle.markdown_blocks.proofs.Begun.{begun, front-nested, front-spelled, front-unlisted, fronts-defined}
-use Rattle.markdown_blocks.proofs.Begun.{fronts-grouped, fronts-noted, fronts-shallow}
-use Rattle.markdown_blocks.proofs.FillFacts.{fill-same}
-use Rattle.markdown_blocks.proofs.PartsStand.{stands-outside}
-use Rattle.markdown_blocks.proofs.Frontmatter.Whole.{FrontPart}
-use Rattle.markdown_blocks.proofs.NestedRows.{Nests, rows-nest}
-use Rattle.markdown_blocks.proofs.PieceRows.{blocks-pieces}
-use Rattle.markdown_blocks.proofs.PlainEvents.{groups-unlisted}
-use Rattle.markdown_blocks.proofs.RowFacts.{AreRows}
+use Rattle.md_rows.proofs.JoinedLemmas.{EachNoContent, rows_at-no_content}
+use Rattle.md_frame.proofs.ListedOutlined.{listed-outlined}
+use Rattle.md_rows.proofs.Begun.{begun, front-nested, front-spelled, front-unlisted, fronts-defined}
+use Rattle.md_rows.proofs.Begun.{fronts-grouped, fronts-noted, fronts-shallow}
+use Rattle.md_frame.proofs.FillFacts.{fill-same}
+use Rattle.md_frame.proofs.PartsStand.{stands-outside}
+use Rattle.md_front_rooms.proofs.Frontmatter.Whole.{FrontPart}
+use Rattle.md_rows.proofs.NestedRows.{Nests, rows-nest}
+use Rattle.md_rows.proofs.PieceRows.{blocks-pieces}
+use Rattle.md_rows.proofs.PlainEvents.{groups-unlisted}
+use Rattle.md_rows.proofs.RowFacts.{AreRows}
 use Rattle.markdown_blocks.proofs.RowLemmas.{fresh-rows}
-use Rattle.markdown_blocks.proofs.TabledGroups.{tables-set}
-use Rattle.markdown_blocks.proofs.TileCovers.{blocks-cover}
-use Rattle.markdown_blocks.proofs.TileParts.{blocks-chunks, blocks-nested, blocks-stand}
-use Rattle.markdown_blocks.proofs.TileReads.{blocks-empty, end-unread, text-filled}
-use Rattle.markdown_blocks.proofs.ListedFront.{listed-front}
+use Rattle.md_rows.proofs.TabledGroups.{tables-set}
+use Rattle.md_rows.proofs.TileCovers.{blocks-cover}
+use Rattle.md_rows.proofs.TileParts.{blocks-chunks, blocks-nested, blocks-stand}
+use Rattle.md_rows.proofs.TileReads.{blocks-empty, end-unread, text-filled}
+use Rattle.md_frame.proofs.ListedFront.{listed-front}
 use Rattle.markdown_blocks.proofs.TreeRows.{body-rows, body-shallow, body_of, tree-body}
 
 -- the lines of a text, behind its front
@@ -123,7 +126,7 @@ content-are options bytes built small found new flow =
 -- their cells, and lists were put around items.
 resolved-are : (options : ParseOptions) (bytes : List ℕ) → IsWithoutMdx options → length bytes < 2 ^ 61 →
     (found : Found) (new : World) → (flow : FlowReads bytes options (body_point options bytes) found new) →
-    new.events ≡ listed bytes (listed_groups options bytes (groups (rows_of options bytes)))
+    new.events ≡ listed bytes (tabled_groups options bytes (groups (rows_of options bytes)))
 resolved-are options bytes built small found new flow =
     flow.events_are
     ∙ ap (λ (l : List Event). listed bytes (tables_set options (lines_joined options (turned (resolved l)))))
@@ -168,7 +171,7 @@ footnotes-are options bytes built small found new flow =
     let lines : List (List ℕ) = lines_of options bytes in
     let rows : List Row = rows_of options bytes in
     let are : AreRows options bytes [] held_leaf.None p lines rows = text-are options bytes built small in
-    let blocks : List Event = listed_groups options bytes (groups rows) in
+    let blocks : List Event = tabled_groups options bytes (groups rows) in
     let body : List Event = groups_events options bytes (groups rows) in
     let nests : Nests options bytes p (groups rows) = rows-nest options bytes p lines rows are in
     ap (footnote_labels_in bytes) (resolved-are options bytes built small found new flow)
@@ -199,7 +202,7 @@ listed-are options bytes built small found new flow = go options.constructs.gfm_
 
 -- What stands in a text before lists are put around its items: its blocks, and what the plain layer reads of them.
 abbrev pub blocks_of : ParseOptions → List ℕ → List Event
-blocks_of options bytes = front_events options bytes ++ listed_groups options bytes (groups (rows_of options bytes))
+blocks_of options bytes = front_events options bytes ++ tabled_groups options bytes (groups (rows_of options bytes))
 
 abbrev pub read_of : ParseOptions → List ℕ → List Event
 read_of options bytes = front_events options bytes ++ groups_events options bytes (groups (rows_of options bytes))
@@ -263,11 +266,11 @@ read-is options bytes built small =
 
 -- The front of a text stands in front of what flow gives, which is all of the block list.
 pub front-listed : (options : ParseOptions) (bytes : List ℕ) →
-    front_events options bytes ++ listed bytes (listed_groups options bytes (groups (rows_of options bytes))) ≡
+    front_events options bytes ++ listed bytes (tabled_groups options bytes (groups (rows_of options bytes))) ≡
     block_list options bytes
 front-listed options bytes =
     sym
-    (listed-front bytes (front_events options bytes) (listed_groups options bytes (groups (rows_of options bytes)))
+    (listed-front bytes (front_events options bytes) (tabled_groups options bytes (groups (rows_of options bytes)))
     (part-of options bytes).unlisted)
     ∙ block_list-is options bytes
 
@@ -279,7 +282,7 @@ blocks-read options bytes start found new mark items built small starts marks fl
     let from : FlowReads bytes options (body_point options bytes) found new = subst
     (λ (p : Point). FlowReads bytes options p found new) starts flow in
     ap (λ (l : List Event). mark ++ l) (are ∙ resolved-are options bytes built small found new from)
-    ∙ ap (λ (l : List Event). l ++ listed bytes (listed_groups options bytes (groups (rows_of options bytes)))) marks
+    ∙ ap (λ (l : List Event). l ++ listed bytes (tabled_groups options bytes (groups (rows_of options bytes)))) marks
     ∙ front-listed options bytes
 
 -- What is known of the block list of a text, which has these places, and of what the plain layer reads of it.

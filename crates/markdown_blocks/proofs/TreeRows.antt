@@ -3,12 +3,12 @@
 use Rattle.md_engine.specs.declared.tokenizer.held_leaf.HeldLeaf.TheVariants as held_leaf
 use Rattle.md_engine.specs.declared.tokenizer.held_leaf.HeldLeaf.{HeldLeaf}
 use Rattle.std.proofs.Common.{◌≡◌, ℕ, zero, suc, ◌-◌, Bool, true, false, cond, not, ◌==◌, ◌&&◌, ◌||◌, List, [], ◌∷◌}
-use Rattle.md_definition.specs.Leaves.{Came}
-use Rattle.md_definition.specs.State.{OpenParagraph, spot}
-use Rattle.markdown_blocks.proofs.Registry.{insider-none}
-use Rattle.markdown_blocks.specs.Rows.{is_further, is_inside, takes_head}
-use Rattle.markdown_blocks.specs.Fronted.{prefixes_behind}
-use Rattle.markdown_blocks.specs.Change.{met}
+use Rattle.md_meaning.specs.Leaves.{LeafResult}
+use Rattle.md_meaning.specs.State.{OpenParagraph, spot}
+use Rattle.md_registry.proofs.Registry.{insider-none}
+use Rattle.md_rows.specs.Rows.{is_further, is_inside, takes_head}
+use Rattle.md_rows.specs.Fronted.{prefixes_behind}
+use Rattle.md_frame.specs.Change.{against}
 use Rattle.std.proofs.Common.{◌++◌, map, length, drop, take, refl, ap, sym, ◌∙◌, subst, inl, inr, ◌⊎◌}
 use Rattle.std.specs.Prelude.{Option, Some, None}
 use Rattle.std.specs.List.{onto_first}
@@ -16,54 +16,55 @@ use Rattle.std.proofs.lemmas.List.{map-append}
 use Rattle.std.proofs.lemmas.List.Sums.{take_while-cons}
 use Rattle.md_engine.specs.declared.configuration.ParseOptions.{ParseOptions}
 use Rattle.md_engine.specs.declared.event.Point.{Point}
-use Rattle.md_definition.specs.Containers.{Taken, continues, opens}
-use Rattle.md_definition.specs.Grouped.{grouped}
-use Rattle.md_definition.specs.Lines.{begins_with, ends_line, full_lines_of, is_ending, lines_of, without_ending}
-use Rattle.md_definition.specs.Meaning.{tree, with_frontmatter}
-use Rattle.md_definition.specs.Preamble.{Preamble, rest_at}
-use Rattle.md_definition.specs.Preamble.{rests_at}
-use Rattle.md_definition.specs.Rest.{Rest}
+use Rattle.md_meaning.specs.Containers.{Taken, continues, opens}
+use Rattle.md_meaning.specs.Grouped.{grouped}
+use Rattle.md_meaning.specs.Lines.{begins_with, ends_line, full_lines_of, is_ending, lines_of, without_ending}
+use Rattle.md_meaning.specs.Meaning.{tree, with_frontmatter}
+use Rattle.md_meaning.specs.Preamble.{Preamble, rest_at}
+use Rattle.md_meaning.specs.Preamble.{rests_at}
+use Rattle.md_meaning.specs.Rest.{Rest}
 use Rattle.md_seam.specs.Events.Spelled.{spelled}
-use Rattle.md_definition.specs.State.{At, Container, Kept, Leaf, Path, Spot, Within, closed, container_block, kept}
-use Rattle.md_definition.specs.State.{shut, texts, then_block, then_leaf}
-use Rattle.md_definition.specs.Step.{spot_of, step, steps}
-use Rattle.md_definition.specs.Texts.{split_lines}
-use Rattle.md_definition.specs.Tree.{Blocks, End}
-use Rattle.md_definition.proofs.LinesLemmas.{without_ending-onto}
-use Rattle.markdown_blocks.specs.Change.{change_by, interrupts, others_of}
+use Rattle.md_meaning.specs.State.{At, Container, ParagraphLine, Leaf, Path, Innermost, Within, closed, container_block, kept}
+use Rattle.md_meaning.specs.State.{shut, texts, then_block, then_leaf}
+use Rattle.md_meaning.specs.Step.{spot_of, step, steps}
+use Rattle.md_meaning.specs.Texts.{split_lines}
+use Rattle.md_meaning.specs.Tree.{Blocks, End}
+use Rattle.md_meaning.proofs.LinesLemmas.{without_ending-onto}
+use Rattle.md_frame.specs.Change.{change_by, interrupts, others_of}
 use Rattle.markdown_blocks.specs.Fed.{rests_from}
-use Rattle.markdown_blocks.specs.Fronted.{Contained, Prefixed, contained, no_prefix, one_more, prefixes_new}
-use Rattle.markdown_blocks.specs.Fronted.{prefixes_on}
+use Rattle.md_rows.specs.Fronted.{Contained, Prefixed, contained, no_prefix, one_more, prefixes_new}
+use Rattle.md_rows.specs.Fronted.{prefixes_on}
 use Rattle.markdown_blocks.specs.Parsed.{IsWithoutMdx}
-use Rattle.markdown_blocks.specs.Registry.{text_leaf}
-use Rattle.markdown_blocks.specs.Rows.{BlankRow, LeafRow, Row, RowKind, TextRow, groups, groups_events, is_lazy}
-use Rattle.markdown_blocks.specs.Rows.{line_kind}
-use Rattle.markdown_blocks.specs.HeldLeaf.{IsBuiltLeaf}
-use Rattle.markdown_blocks.specs.Stands.{IsPlain, containers_of, still_of}
-use Rattle.markdown_blocks.proofs.ContainedLemmas.{contained-kinds}
-use Rattle.markdown_blocks.proofs.KindLemmas.{kind-plain}
+use Rattle.md_frame.specs.TextLines.{text_leaf}
+use Rattle.md_frame.specs.Row.{BlankRow, LeafRow, Row, RowKind, TextRow}
+use Rattle.md_rows.specs.Rows.{groups, groups_events, is_lazy}
+use Rattle.md_rows.specs.Rows.{line_kind}
+use Rattle.md_frame.specs.HeldLeaf.{IsBuiltLeaf}
+use Rattle.md_rows.specs.Stands.{IsPlain, containers_of, still_of}
+use Rattle.md_rows.proofs.ContainedLemmas.{contained-kinds}
+use Rattle.md_rows.proofs.KindLemmas.{kind-plain}
 use Rattle.markdown_blocks.proofs.LineSteps.{behind_path, come_by, contained_at, further_path, goes_further, goes_lazy}
 use Rattle.markdown_blocks.proofs.LineSteps.{kept_to, longer, new_line, path_by, renewed, spot_by, step-contained}
 use Rattle.markdown_blocks.proofs.LineSteps.{with_came}
-use Rattle.markdown_blocks.proofs.FurtherSpan.{FurtherSpan, further-span, other_kind}
-use Rattle.markdown_blocks.proofs.OpenSpan.{ComesShallow}
+use Rattle.md_rows.proofs.FurtherSpan.{FurtherSpan, further-span, other_kind}
+use Rattle.md_registry.proofs.OpenSpan.{ComesShallow}
 use Rattle.markdown_blocks.proofs.LastLine.{no_bytes, no_rests, step_over, steps_over, told}
 use Rattle.markdown_blocks.proofs.StepBehind.{GoesOn, begun-leaf, further-unlazy, goes-on, plain-step, span-open}
-use Rattle.markdown_blocks.proofs.ContainedLemmas.{contained-still, lines-open}
-use Rattle.markdown_blocks.specs.HeldLeaf.{has_lines, takes_lazy}
-use Rattle.markdown_blocks.specs.Change.{Change}
-use Rattle.markdown_blocks.specs.Fronted.{contained_behind, contained_of}
-use Rattle.markdown_blocks.proofs.RowFacts as f
+use Rattle.md_rows.proofs.ContainedLemmas.{contained-still, lines-open}
+use Rattle.md_frame.specs.HeldLeaf.{has_lines, takes_lazy}
+use Rattle.md_frame.specs.Change.{Change}
+use Rattle.md_rows.specs.Fronted.{contained_behind, contained_of}
+use Rattle.md_rows.proofs.RowFacts as f
 use Rattle.markdown_blocks.proofs.SpelledRows.{spelled-rows}
-use Rattle.markdown_blocks.proofs.Registry.{text-laws}
-use Rattle.markdown_blocks.proofs.TextFound.{front_before}
-use Rattle.markdown_blocks.proofs.ShallowBlocks.{shallow-then}
-use Rattle.markdown_blocks.proofs.Paragraph.Laws.{shallow-front}
-use Rattle.markdown_blocks.proofs.RegistryRead.{AreRead, IsRead, IsReadTaken, kinds-read, read-front}
-use Rattle.markdown_blocks.proofs.RegistryContainers.{opens-read, over-empty, read-shallow}
+use Rattle.md_registry.proofs.Registry.{text-laws}
+use Rattle.md_rows.proofs.TextFound.{front_before}
+use Rattle.md_frame.proofs.ShallowBlocks.{shallow-then}
+use Rattle.md_content_rooms.proofs.Paragraph.Laws.{shallow-front}
+use Rattle.md_frame.proofs.RegistryRead.{AreRead, IsRead, IsReadTaken, kinds-read, read-front}
+use Rattle.md_rows.proofs.RegistryContainers.{opens-read, over-empty, read-shallow}
 use Rattle.md_outline.specs.HeadingDepths.{are_shallow}
 use Rattle.md_seam.specs.Events.Spelled.{without_last}
-use Rattle.markdown_blocks.proofs.Begun.{IsBegun}
+use Rattle.md_rows.proofs.Begun.{IsBegun}
 use Rattle.md_engine.specs.declared.event.Event.{Event}
 
 -- Containers that flow reads alone are open: those that stay on a line,
@@ -94,7 +95,7 @@ read-open : (options : ParseOptions) (cs : List Container) (still : HeldLeaf) (r
     AreRead (contained options cs still r).change.opens
 unfolding contained
 read-open options cs still r built =
-    go (is_lazy still new.containers (line_kind options (met still (others_of cs on.containers) new.containers) new.rest))
+    go (is_lazy still new.containers (line_kind options (against still (others_of cs on.containers) new.containers) new.rest))
   where
     on : Prefixed
     on = prefixes_on options cs r
@@ -126,14 +127,14 @@ shallow-read : (p : Path) → HoldsShallow p → AreRead (containers_of p)
 shallow-read (At s) h = tt
 shallow-read (Within before container p) h = (h.1, shallow-read p h.2)
 
-shallow-shut : (options : ParseOptions) (s : Spot) → IsWithoutMdx options → IsBuiltLeaf s.leaf →
+shallow-shut : (options : ParseOptions) (s : Innermost) → IsWithoutMdx options → IsBuiltLeaf s.leaf →
     are_shallow s.here ≡ true →
     are_shallow (shut options s) ≡ true
 shallow-shut options s built plain h =
     text-laws.cases (λ (leaf : Leaf). are_shallow (then_leaf options s.here leaf) ≡ true) h text
     (λ l is. (further-span l is).closed options s.here h) s.leaf plain
   where
-    text : (k : Kept) (ks : List Kept) → are_shallow (then_leaf options s.here (text_leaf.held (k ∷ ks))) ≡ true
+    text : (k : ParagraphLine) (ks : List ParagraphLine) → are_shallow (then_leaf options s.here (text_leaf.held (k ∷ ks))) ≡ true
     text k ks =
         subst (λ (bs : Blocks). are_shallow bs ≡ true) (sym (text-laws.shut options s.here (k ∷ ks)))
         (text-laws.shallow options s.here (texts (k ∷ ks)) h)
@@ -159,7 +160,7 @@ shallow-renewed [] p read h = h
 shallow-renewed (c ∷ cs) (At s) read h = h
 shallow-renewed (c ∷ cs) (Within before container p) read h = (h.0, read.0, shallow-renewed cs p read.1 h.2)
 
-shallow-longer : (p : Path) (lines : List Kept) → HoldsShallow p → HoldsShallow (longer p lines)
+shallow-longer : (p : Path) (lines : List ParagraphLine) → HoldsShallow p → HoldsShallow (longer p lines)
 shallow-longer (At s) lines h = h
 shallow-longer (Within before container p) lines h = (h.0, h.1, shallow-longer p lines h.2)
 
@@ -174,7 +175,7 @@ shallow-before true options bs (OpenParagraph lines) h = text-laws.shallow optio
 shallow-before true options bs _ h = h
 shallow-before false options bs open_leaf h = shallow-front options bs open_leaf h
 
-shallow-came : (options : ParseOptions) (heads : Bool) (p : Path) (c : Came) → ComesShallow c → HoldsShallow p →
+shallow-came : (options : ParseOptions) (heads : Bool) (p : Path) (c : LeafResult) → ComesShallow c → HoldsShallow p →
     HoldsShallow (with_came options heads p c)
 shallow-came options heads (At s) c shallow h =
     shallow (front_before heads options s.here s.leaf) (shallow-before heads options s.here s.leaf h)
@@ -375,7 +376,7 @@ step-empty options p column built plain read = go (goes_further options c) refl
     others = others_of (containers_of p) went
 
     on : HeldLeaf
-    on = met (still_of p) others []
+    on = against (still_of p) others []
 
     kind : RowKind
     kind = line_kind options on r

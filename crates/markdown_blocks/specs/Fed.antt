@@ -1,7 +1,7 @@
 -- What stands between two lines while flow reads a text: whenever a line has been fed, what the tokenizer holds stands
 -- for what is open by the line definition.
-use Rattle.std.specs.Prelude.{◌≡◌, ℕ, zero, suc, ◌+◌, ◌<◌, ◌≤◌, Bool, true, ◌==◌, if◌then◌else◌, List, [], ◌∷◌, length}
-use Rattle.std.specs.Prelude.{map, take, drop, Option, Some}
+use Rattle.std.specs.Prelude.{◌≡◌, ℕ, suc, ◌+◌, ◌<◌, ◌≤◌, Bool, true, ◌==◌, if◌then◌else◌, List, [], ◌∷◌, length, map}
+use Rattle.std.specs.Prelude.{take, drop, Option, Some}
 use Rattle.md_engine.specs.declared.configuration.ParseOptions.{ParseOptions}
 use Rattle.md_engine.specs.declared.event.Point.{Point}
 use Rattle.md_engine.specs.declared.state.Name.{Name as StateName}
@@ -9,23 +9,24 @@ use Rattle.md_engine.specs.declared.state.Name.TheVariants as s
 use Rattle.md_engine.specs.declared.state.document.State.TheVariants as document
 use Rattle.md_engine.specs.declared.state.State.{State}
 use Rattle.md_engine.specs.declared.state.State.TheVariants.{Next}
-use Rattle.md_engine.specs.Resolvers.{same_name}
 use Rattle.md_engine.specs.Run.{Calls, Runs, Step}
 use Rattle.md_engine.specs.Run.Runs.{Stays, ThenCalls, ThenLeaves}
 use Rattle.md_engine.specs.World.{World, fresh, looks, reads_to}
-use Rattle.md_definition.specs.Preamble.{rest_at}
-use Rattle.md_definition.specs.Rest.{Rest}
-use Rattle.md_seam.specs.Events.Spelled.{Reading, left, read, unread}
-use Rattle.md_definition.specs.State.{At, Container, Path}
-use Rattle.md_definition.specs.Step.{spot_of, steps}
-use Rattle.md_definition.specs.Texts.{split_lines}
-use Rattle.md_definition.specs.Tree.{End}
-use Rattle.markdown_blocks.specs.Fronted.{rest_from}
+use Rattle.md_meaning.specs.Preamble.{rest_at}
+use Rattle.md_meaning.specs.Rest.{Rest}
+use Rattle.md_seam.specs.Events.Spelled.{Reading, read, unread}
+use Rattle.md_meaning.specs.State.{At, Container, Path}
+use Rattle.md_meaning.specs.Step.{spot_of, steps}
+use Rattle.md_meaning.specs.Texts.{split_lines}
+use Rattle.md_meaning.specs.Tree.{End}
+use Rattle.md_rows.specs.Fronted.{rest_from}
 use Rattle.markdown_blocks.specs.Parsed.{IsWithoutMdx}
-use Rattle.markdown_blocks.specs.Rows.{Row, behind_row, groups, groups_events, rows_events}
-use Rattle.markdown_blocks.specs.Stands.{StandsFor}
-use Rattle.markdown_blocks.specs.States.{FlowStep}
-use Rattle.markdown_blocks.specs.TextRows.{text_rows}
+use Rattle.md_frame.specs.Row.{Row, behind_row}
+use Rattle.md_rows.specs.Rows.{groups, groups_events, rows_events}
+use Rattle.md_rows.specs.Stands.{StandsFor}
+use Rattle.md_registry.specs.States.{FlowStep}
+use Rattle.md_rows.specs.TextRows.{text_rows}
+use Rattle.md_frame.specs.Closed.{close_containers}
 
 -- how many lines a call of a state feeds: one where it takes the ending of a line
 abbrev pub feeds : StateName → Option ℕ → ℕ
@@ -49,21 +50,16 @@ abbrev pub path_behind : ParseOptions → List ℕ → Point → ℕ → Path
 path_behind options bytes p n =
     steps options (At (spot_of End)) (take n (rests_from p (split_lines (drop p.index bytes))))
 
--- what is read where so many containers end
-abbrev pub close_containers : ℕ → Reading → Reading
-close_containers zero r = r
-close_containers (suc size) r = close_containers size (left r.outer r)
-
 -- the containers that end behind the last of these lines
 abbrev pub last_leaves : List Row → List Container
 last_leaves [] = []
-last_leaves (row ∷ []) = row.leaves
+last_leaves (row ∷ []) = row.closed_after
 last_leaves (row ∷ next ∷ rows) = last_leaves (next ∷ rows)
 
 -- the lines while it is not known what ends behind the last
 abbrev pub not_left : List Row → List Row
 not_left [] = []
-not_left (row ∷ []) = record row { leaves = [] } ∷ []
+not_left (row ∷ []) = record row { closed_after = [] } ∷ []
 not_left (row ∷ next ∷ rows) = row ∷ not_left (next ∷ rows)
 
 -- where the line behind these begins, of which the first began at this point
@@ -97,15 +93,15 @@ line_begins = Next (s.Document document.ContainerExistingBefore)
 
 -- Flow has read a text, from a point on, and has come to this.
 pub record FlowRan (bytes : List ℕ) (options : ParseOptions) (p : Point) (end : State) (at : World) : Type 0 where
-  pub run : Runs (FlowStep same_name) true line_begins (flow_begins bytes options p) end at
+  pub run : Runs FlowStep true line_begins (flow_begins bytes options p) end at
   -- all lines were fed but the last, which ends where the text does,
-  pub lines : suc (fed (FlowStep same_name) true line_begins (flow_begins bytes options p) end at run) ≡
+  pub lines : suc (fed FlowStep true line_begins (flow_begins bytes options p) end at run) ≡
       length (text_rows options bytes p)
   -- and whenever one had been fed, what the tokenizer held stood for what is open behind the lines so far
   pub stands : IsWithoutMdx options → p.index ≤ length bytes → p.vs ≡ 0 → 1 ≤ p.column →
       (t : State) (v : World) (t' : State) (v' : World)
-      (before : Runs (FlowStep same_name) true line_begins (flow_begins bytes options p) t v)
-      (call : Calls (FlowStep same_name) true t v t' v') →
+      (before : Runs FlowStep true line_begins (flow_begins bytes options p) t v)
+      (call : Calls FlowStep true t v t' v') →
       feeds call.name (looks v) ≡ 1 →
       StandsBehind bytes options p
-      (suc (fed (FlowStep same_name) true line_begins (flow_begins bytes options p) t v before)) v'
+      (suc (fed FlowStep true line_begins (flow_begins bytes options p) t v before)) v'

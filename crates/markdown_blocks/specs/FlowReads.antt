@@ -1,6 +1,6 @@
 -- What flow has read of a text: its lines, and behind them the steps of the resolvers, in their order. Each step is
 -- total: where nothing is its own, it changes nothing.
-use Rattle.std.specs.Prelude.{◌≡◌, ◌⊎◌, ℕ, Bool, false, ◌||◌, if◌then◌else◌, List, [], ◌∷◌}
+use Rattle.std.specs.Prelude.{◌≡◌, ◌⊎◌, ℕ, Bool, false, ◌||◌, List, [], ◌∷◌}
 use Rattle.md_engine.specs.declared.configuration.ParseOptions.{ParseOptions}
 use Rattle.md_engine.specs.declared.event.Event.{Event}
 use Rattle.md_engine.specs.declared.event.Point.{Point}
@@ -12,27 +12,19 @@ use Rattle.md_content.specs.ContentReads.{content_readings, wants_content}
 use Rattle.md_content.specs.Joined.{joined}
 use Rattle.md_content.specs.Labels.{labels_in}
 use Rattle.md_content.specs.Resolves.{found_in_content}
-use Rattle.md_leaves.specs.Spanned.{spanned}
 use Rattle.md_leaves.specs.Turned.{turned}
 use Rattle.md_seam.specs.Substituted.{Substituted}
-use Rattle.md_tables.specs.Tabled.{tabled}
 use Rattle.markdown_blocks.specs.Fed.{FlowRan}
-use Rattle.markdown_blocks.specs.Registry.{heads_read, joins_lines, resolved}
-use Rattle.markdown_blocks.specs.Rows.{Row, is_text, rows_events}
-pub use Rattle.markdown_blocks.specs.TextRows.{text_cells, text_rows, text_setting}
+use Rattle.md_frame.specs.Resolving.{heads_read, resolved}
+use Rattle.md_frame.specs.Row.{Row}
+use Rattle.md_rows.specs.Rows.{is_text, rows_events}
+use Rattle.md_rows.specs.TextRows.{text_rows, text_setting}
+use Rattle.md_frame.specs.Joins.{lines_joined, tables_set}
 
 -- whether a line is content
 abbrev pub has_text : List Row → Bool
 has_text [] = false
 has_text (row ∷ rows) = is_text row.kind || has_text rows
-
--- the lines of each leaf of several are joined, where one may be on
-abbrev pub lines_joined : ParseOptions → List Event → List Event
-lines_joined options es = if joins_lines options then spanned es else es
-
--- tables get their heads, bodies and cells, where they are on
-abbrev pub tables_set : ParseOptions → List Event → List Event
-tables_set options es = if options.constructs.gfm_table then tabled es else es
 
 -- flow has read a text from a point to its end, and then its resolvers ran
 pub record FlowReads (bytes : List ℕ) (options : ParseOptions) (p : Point) (found : Found) (new : World) : Type 0 where

@@ -7,8 +7,8 @@ use Rattle.md_engine.specs.declared.parse_state.ParseState.{ParseState}
 use Rattle.md_seam.specs.Events.Endings.{endings_stand}
 use Rattle.md_seam.specs.Events.Grammar.{keeps_grammar, plain_text}
 use Rattle.md_seam.specs.Events.Held.{Holds}
-use Rattle.md_seam.specs.Events.Inline.{Covers, Part, pieces, plain_events}
-use Rattle.md_definition.specs.Meaning.{tree}
+use Rattle.md_seam.specs.Events.Inline.{Covers, Part, pieces}
+use Rattle.md_meaning.specs.Meaning.{tree}
 use Rattle.md_seam.specs.Events.Nested.{Nested}
 use Rattle.md_seam.specs.Events.On.{are_on}
 use Rattle.md_seam.specs.Events.Pieces.{pieces_stand}
@@ -17,11 +17,12 @@ use Rattle.md_seam.specs.Events.Spelled.{spelled}
 use Rattle.md_seam.specs.Events.Tiles.{Tiles, end_point, plain_read}
 use Rattle.md_seam.specs.Substituted.{Substituted}
 use Rattle.md_seam.specs.TextPart.{Document, document_of, text_kind, wants_text}
-use Rattle.md_definition.specs.Label.{labels}
-use Rattle.md_definition.specs.Wrapped.{NestsInItem, NestsInQuote, itemised, quoted}
-pub use Rattle.md_definition.specs.Wrapped.{IsItemable, IsQuotable, IsSmall}
+use Rattle.md_meaning.specs.Label.{labels}
+use Rattle.md_meaning.specs.Wrapped.{NestsInItem, NestsInQuote, itemised, quoted}
 use Rattle.md_outline.specs.Outlined.{IsOutlined}
-use Rattle.markdown_blocks.specs.BlockList.{block_list}
+pub use Rattle.md_meaning.specs.Wrapped.{IsItemable, IsQuotable, IsSmall}
+use Rattle.md_rows.specs.BlockList.{block_list}
+use Rattle.md_frame.specs.ReadsPlain.{reads_plain}
 
 -- the constructs of MDX, which are not built, are off
 pub record IsWithoutMdx (options : ParseOptions) : Type 0 where
@@ -30,10 +31,6 @@ pub record IsWithoutMdx (options : ParseOptions) : Type 0 where
   pub mdx_expression_text : options.constructs.mdx_expression_text ≡ false
   pub mdx_jsx_flow : options.constructs.mdx_jsx_flow ≡ false
   pub mdx_jsx_text : options.constructs.mdx_jsx_text ≡ false
-
--- a text part is read as the plain layer reads it
-abbrev pub reads_plain : List ℕ → Part → List Event → Type 0
-reads_plain text part events = events ≡ plain_events text part
 
 -- What is known of a text that was read with an inline layer, whatever it is: its events nest, stand at its points,
 -- spell its tree and tile it, and the labels are those of that tree.

@@ -1,14 +1,11 @@
 // The constructs, one module each.
 
-pub mod document;
-pub mod flow;
-pub mod registry;
-
+pub use md_code::{code_indented, raw_flow};
 pub use md_containers::{block_quote, gfm_footnote_definition, list_item};
 pub use md_content::{content, paragraph};
+pub use md_flow::{document, flow};
+pub use md_html::html_flow;
 pub use md_leaves::{
     blank_line, heading_atx, heading_setext, partial_bom, partial_non_lazy_continuation,
     thematic_break,
 };
-pub use md_lines::{code_indented, raw_flow};
-pub use md_rich::html_flow;

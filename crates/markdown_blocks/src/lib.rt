@@ -2,11 +2,12 @@
 #![tactic(auto)]
 
 pub mod construct;
+pub mod label;
 pub mod parser;
 pub mod plain;
-pub mod resolve;
 
 pub use md_engine::{configuration, event, message, state, subtokenize, table, tokenizer};
+pub use md_flow::resolve;
 pub use md_outline::outline;
-pub use md_seam::{inline, slice};
+pub use md_seam::{inline, names, slice};
 pub use md_wrap::wrap;

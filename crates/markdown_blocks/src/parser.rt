@@ -8,17 +8,15 @@ ghost use Rattle.md_engine.specs.Place.{IsPlaced};
 ghost use Rattle.md_engine.specs.World.{fresh, world};
 ghost use Rattle.md_leaves.specs.Turned.{turned};
 ghost use Rattle.md_seam.specs.TextPart.{IsTextPart, document_of, text_kind, wants_text};
-ghost use Rattle.markdown_blocks.specs.Document.{ReadsFront};
-ghost use Rattle.markdown_blocks.specs.FlowReads.{FlowReads, lines_joined, tables_set};
-ghost use Rattle.markdown_blocks.specs.Footnotes.{footnotes_listed};
-ghost use Rattle.markdown_blocks.specs.Parsed.{IsParsed, IsRead, IsSmall, IsWithoutMdx};
-ghost use Rattle.markdown_blocks.specs.Registry.{stays_alone};
+ghost use Rattle.md_registry.specs.Document.{ReadsFront};
+ghost use Rattle.md_frame.specs.Joins.{lines_joined, tables_set};
+ghost use Rattle.markdown_blocks.specs.FlowReads.{FlowReads};
+ghost use Rattle.md_frame.specs.Footnotes.{footnotes_listed};
+ghost use Rattle.markdown_blocks.specs.Parsed.{IsParsed, IsRead, IsWithoutMdx};
+ghost use Rattle.md_meaning.specs.Wrapped.{IsSmall};
+ghost use Rattle.md_frame.specs.Resolving.{stays_alone};
 
-use crate::construct::document::DocumentTable;
-use crate::construct::flow::FlowTable;
-use crate::construct::registry;
 use crate::plain::Plain;
-use crate::resolve;
 use md_content::footnote_labels::footnote_labels;
 use md_engine::configuration::ParseOptions;
 use md_engine::event::{Content, Event, Point};
@@ -30,10 +28,17 @@ use md_engine::state::{Name as StateName, State};
 use md_engine::subtokenize::Subresult;
 use md_engine::table::{flush, push};
 use md_engine::tokenizer::Tokenizer;
+use md_flow::document::DocumentTable;
+use md_flow::flow::FlowTable;
+use md_flow::resolve;
 use md_leaves::spans;
+use md_registry::choices;
 use md_seam::inline::{Chunk, Inline, PartKind};
 use md_seam::subtokenize::{Reader, subtokenize};
 use std::alloc::Global;
+
+/// The most bytes that a text may have: an eighth of what an index can be, so that nothing that is counted of a text wraps.
+pub const MAX_LEN: usize = usize::MAX / 8;
 
 /// Where a text begins.
 const FIRST_POINT: Point = Point {
@@ -153,7 +158,7 @@ fn join_lines(tokenizer: &mut Tokenizer, options: &ParseOptions) -> Result<(), M
         (world tokenizer.new ≡
         record (world tokenizer.old) { events = lines_joined options.now (world tokenizer.old).events }) }
 {
-    if registry::joins_lines(options) {
+    if choices::joins_lines(options) {
         spans::resolve(tokenizer)?;
     }
     Ok(())
@@ -182,7 +187,7 @@ fn until_grouped(events: &[Event]) -> usize
     ensures within { result ≤ length events.now }
 {
     for (at, event) in events.iter().enumerate() {
-        if !registry::stays_alone(event) {
+        if !choices::stays_alone(event) {
             return at;
         }
     }
@@ -270,8 +275,8 @@ fn behind_front(mut front: Vec<Event>, mut body: Vec<Event>) -> Result<Vec<Event
 
 /// Reads a text, its text parts by an inline layer: its events, and what else is known of it.
 ///
-/// The labels of the whole text are known before the layer reads a part. The text has at most `usize::MAX / 8` bytes,
-/// and the constructs of MDX are off. A byte order mark in front of the text is taken as such. An `Err` says that
+/// The labels of the whole text are known before the layer reads a part. The text has at most `MAX_LEN` bytes, and the
+/// constructs of MDX are off. A byte order mark in front of the text is taken as such. An `Err` says that
 /// memory ran out; then nothing is handed out.
 pub fn parse_with<'a, I: Inline>(
     alloc: Global,

@@ -9,9 +9,9 @@ use Rattle.md_engine.specs.declared.tokenizer.Line.{Line}
 use Rattle.md_engine.specs.Meaning.{Cell}
 use Rattle.md_containers.specs.ItemPrefix.{ItemPassed}
 use Rattle.md_containers.proofs.QuoteLines.{HasWhite, white-walk}
-use Rattle.md_definition.specs.Containers.{Taken}
-use Rattle.md_definition.specs.Rest.{Rest, behind_indent, has_small_indent, indent}
-use Rattle.md_definition.proofs.TextsLemmas.{NoEnding}
+use Rattle.md_meaning.specs.Containers.{Taken}
+use Rattle.md_meaning.specs.Rest.{Rest, behind_indent, has_small_indent, indent}
+use Rattle.md_meaning.proofs.TextsLemmas.{NoEnding}
 use Rattle.md_seam.specs.Ahead.{begins_white, white_end, white_rest}
 use Rattle.md_seam.specs.Events.Places.{past_text}
 use Rattle.md_seam.specs.Spaces.{small_indent}

@@ -21,8 +21,8 @@ use Rattle.md_containers.specs.ItemPrefix.{ItemPassed, item_by, item_further, it
 use Rattle.md_containers.specs.ItemRule.{item_on}
 use Rattle.md_containers.proofs.ItemCells.{at_rest}
 use Rattle.md_containers.proofs.ItemFurther.{further-is}
-use Rattle.md_definition.specs.Ascii.{caret, colon, left_bracket}
-use Rattle.md_definition.specs.Rest.{is_blank}
+use Rattle.md_meaning.specs.Ascii.{caret, colon, left_bracket}
+use Rattle.md_meaning.specs.Rest.{is_blank}
 use Rattle.md_leaves.specs.LeafStart.{start_at}
 use Rattle.md_seam.specs.Ahead.{begins_white, line_bytes, white_end, white_rest, white_size}
 use Rattle.md_seam.specs.Events.Nested.{enter, exit, pair}

@@ -18,11 +18,11 @@ use Rattle.md_containers.specs.FootnoteRule.{label_ended, may_have}
 use Rattle.md_containers.specs.ItemPrefix.{ItemPassed, item_further, item_indented, item_same}
 use Rattle.md_containers.specs.QuoteRule.{indent_events}
 use Rattle.md_containers.proofs.StartLooked.{start-looked}
-use Rattle.md_definition.specs.Ascii.{caret, colon, left_bracket}
-use Rattle.md_definition.specs.Containers.{Taken, footnote_continues}
-use Rattle.md_definition.specs.Preamble.{rest_at}
-use Rattle.md_definition.specs.Rest.{is_blank, is_white}
-use Rattle.md_definition.specs.State.{InFootnote}
+use Rattle.md_meaning.specs.Ascii.{caret, colon, left_bracket}
+use Rattle.md_meaning.specs.Containers.{Taken, footnote_continues}
+use Rattle.md_meaning.specs.Preamble.{rest_at}
+use Rattle.md_meaning.specs.Rest.{is_blank, is_white}
+use Rattle.md_meaning.specs.State.{InFootnote}
 use Rattle.md_seam.specs.Ahead.{line_bytes, white_end, white_rest, white_size}
 use Rattle.md_seam.specs.Events.Nested.{enter}
 use Rattle.md_seam.specs.Look.{first_seen, seen_behind}

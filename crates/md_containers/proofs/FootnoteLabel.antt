@@ -11,9 +11,9 @@ use Rattle.md_engine.specs.Meaning.{Cell}
 use Rattle.md_containers.specs.Footnote.{breaks_label}
 use Rattle.md_containers.specs.FootnoteRule.{LabelCells, label_cells, with_cell}
 use Rattle.md_containers.proofs.ItemDigits.{byte-behind, spread-one, starts, starts-spread}
-use Rattle.md_definition.specs.Containers.{Labelled, footnote_label, is_label_mark, with_label_byte}
-use Rattle.md_definition.specs.Rest.{Rest, is_white}
-use Rattle.md_definition.proofs.TextsLemmas.{NoEnding}
+use Rattle.md_meaning.specs.Containers.{Labelled, footnote_label, is_label_mark, with_label_byte}
+use Rattle.md_meaning.specs.Rest.{Rest, is_white}
+use Rattle.md_meaning.proofs.TextsLemmas.{NoEnding}
 use Rattle.md_seam.specs.Events.Places.{past_byte, past_text}
 use Rattle.md_seam.proofs.FeedLines.{Stops, cell, spread}
 use Rattle.md_seam.proofs.RestCells.{RestAt}

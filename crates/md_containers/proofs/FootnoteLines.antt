@@ -9,10 +9,10 @@ use Rattle.md_containers.specs.Footnote.{footnote_width}
 use Rattle.md_containers.specs.FootnotePrefix.{as_footnote, footnote_further}
 use Rattle.md_containers.specs.ItemPrefix.{ItemPassed, item_further}
 use Rattle.md_containers.proofs.ItemLines.{GoesFurther, ItemAgrees, further-agrees}
-use Rattle.md_definition.specs.Containers.{Taken, footnote_continues, item_continues}
-use Rattle.md_definition.specs.Rest.{Rest, indent, is_blank, lose}
-use Rattle.md_definition.specs.State.{Container, InFootnote, InItem}
-use Rattle.md_definition.proofs.TextsLemmas.{NoEnding}
+use Rattle.md_meaning.specs.Containers.{Taken, footnote_continues, item_continues}
+use Rattle.md_meaning.specs.Rest.{Rest, indent, is_blank, lose}
+use Rattle.md_meaning.specs.State.{Container, InFootnote, InItem}
+use Rattle.md_meaning.proofs.TextsLemmas.{NoEnding}
 use Rattle.md_seam.proofs.FeedLines.{Stops}
 use Rattle.md_seam.proofs.RestCells.{RestAt, past_rest, rest_cells}
 

@@ -26,11 +26,11 @@ use Rattle.md_containers.proofs.ItemDigits.{byte-behind, spread-one, starts, sta
 use Rattle.md_containers.proofs.ItemLines.{ItemAgrees, LeavesRest}
 use Rattle.md_containers.proofs.ItemOpens.{past-append}
 use Rattle.md_containers.proofs.QuoteLines.{HasWhite, white-walk}
-use Rattle.md_definition.specs.Containers.{Labelled, Taken, footnote_by, footnote_label, opens_footnote}
-use Rattle.md_definition.specs.Lines.{begins_with}
-use Rattle.md_definition.specs.Rest.{Rest, behind, behind_indent, has_small_indent, indent}
-use Rattle.md_definition.specs.State.{InFootnote}
-use Rattle.md_definition.proofs.TextsLemmas.{NoEnding}
+use Rattle.md_meaning.specs.Containers.{Labelled, Taken, footnote_by, footnote_label, opens_footnote}
+use Rattle.md_meaning.specs.Lines.{begins_with}
+use Rattle.md_meaning.specs.Rest.{Rest, behind, behind_indent, has_small_indent, indent}
+use Rattle.md_meaning.specs.State.{InFootnote}
+use Rattle.md_meaning.proofs.TextsLemmas.{NoEnding}
 use Rattle.md_seam.specs.Ahead.{begins_white, white_end, white_rest}
 use Rattle.md_seam.specs.Events.Inline.{pair_unless_empty}
 use Rattle.md_seam.specs.Events.Nested.{enter, exit, pair}

@@ -16,8 +16,8 @@ use Rattle.md_containers.specs.ItemPrefix.{ItemPassed, item_further}
 use Rattle.md_containers.specs.QuoteRule.{indent_events}
 use Rattle.md_containers.proofs.ItemShorter.{IsShorter, further-shorter, shorter-if}
 use Rattle.md_containers.proofs.Shorter.{Shortens, cond-shortens}
-use Rattle.md_definition.specs.Ascii.{backslash, caret, colon, left_bracket, right_bracket}
-use Rattle.md_definition.specs.Containers.{is_label_mark}
+use Rattle.md_meaning.specs.Ascii.{backslash, caret, colon, left_bracket, right_bracket}
+use Rattle.md_meaning.specs.Containers.{is_label_mark}
 use Rattle.md_leaves.specs.LeafStart.{start_at}
 use Rattle.md_seam.specs.Ahead.{begins_white, white_end, white_rest}
 use Rattle.md_seam.specs.Events.Nested.{enter}

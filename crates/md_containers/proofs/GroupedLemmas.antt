@@ -2,9 +2,9 @@
 use Rattle.std.proofs.Common.{◌≡◌, ℕ, Bool, true, false, cond, refl, ap, sym, ◌∙◌}
 use Rattle.std.specs.Prelude.{◌==◌, if◌then◌else◌, List}
 use Rattle.std.proofs.lemmas.Bool.{eq-eqb, eqb-true}
-use Rattle.md_definition.specs.Grouped.{grouped, grouped_block, with_front, with_item}
-use Rattle.md_definition.specs.State.{then_block}
-use Rattle.md_definition.specs.Tree.{Block, Blocks, End, Item, ListOf, More}
+use Rattle.md_meaning.specs.Grouped.{grouped, grouped_block, with_front, with_item}
+use Rattle.md_meaning.specs.State.{then_block}
+use Rattle.md_meaning.specs.Tree.{Block, Blocks, End, Item, ListOf, More}
 
 -- no list
 abbrev pub NoList : Block → Type 0

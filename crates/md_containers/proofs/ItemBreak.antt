@@ -6,11 +6,11 @@ use Rattle.std.proofs.lemmas.Bool.Decides.{nat_tests}
 use Rattle.md_engine.specs.declared.event.Point.{Point}
 use Rattle.md_engine.specs.declared.tokenizer.Line.{Line}
 use Rattle.md_engine.specs.Meaning.{Cell}
-use Rattle.md_containers.proofs.ItemSteps.{bullet-dark}
-use Rattle.md_definition.specs.Containers.{is_bullet}
-use Rattle.md_definition.specs.Leaves.{is_rule, is_rule_marker}
-use Rattle.md_definition.specs.Rest.{is_white}
-use Rattle.md_definition.proofs.TextsLemmas.{NoEnding}
+use Rattle.md_containers.proofs.ItemBeginMeaning.{bullet-dark}
+use Rattle.md_meaning.specs.Containers.{is_bullet}
+use Rattle.md_meaning.specs.Leaves.{is_rule, is_rule_marker}
+use Rattle.md_meaning.specs.Rest.{is_white}
+use Rattle.md_meaning.proofs.TextsLemmas.{NoEnding}
 use Rattle.md_seam.specs.Ahead.{line_bytes}
 use Rattle.md_seam.specs.Events.Places.{past_byte}
 use Rattle.md_seam.proofs.FeedLines.{Stops, all-spread, byte-one, bytes_of, count-spread, spread}

@@ -18,9 +18,9 @@ use Rattle.md_containers.specs.ItemPrefix.{padding_room}
 use Rattle.md_containers.specs.ItemRule.{at_bullet, at_marker, at_value, behind_columns, behind_indent, behind_marker}
 use Rattle.md_containers.specs.ItemRule.{behind_prefix, behind_value, digits_end, digits_rest, digits_size, filled_at}
 use Rattle.md_containers.specs.ItemRule.{in_value, item_at, one_column}
-use Rattle.md_definition.specs.Containers.{is_bullet, is_digit}
-use Rattle.md_definition.specs.Leaves.{is_rule}
-use Rattle.md_definition.specs.Rest.{is_blank}
+use Rattle.md_meaning.specs.Containers.{is_bullet, is_digit}
+use Rattle.md_meaning.specs.Leaves.{is_rule}
+use Rattle.md_meaning.specs.Rest.{is_blank}
 use Rattle.md_leaves.specs.LeafStart.{start_at}
 use Rattle.md_seam.specs.Ahead.{begins_white, line_bytes, white_end, white_rest}
 use Rattle.md_seam.specs.Events.Nested.{enter, exit, pair}

@@ -11,8 +11,8 @@ use Rattle.md_engine.specs.declared.tokenizer.Line.{Line}
 use Rattle.md_engine.specs.Meaning.{Cell}
 use Rattle.md_containers.specs.ItemPrefix.{digits_of}
 use Rattle.md_containers.specs.ItemRule.{digits_end, digits_rest, digits_size}
-use Rattle.md_definition.specs.Containers.{is_digit}
-use Rattle.md_definition.specs.Rest.{Rest, is_white}
+use Rattle.md_meaning.specs.Containers.{is_digit}
+use Rattle.md_meaning.specs.Rest.{Rest, is_white}
 use Rattle.md_seam.specs.Events.Places.{past_byte, past_text}
 use Rattle.md_seam.proofs.FeedLines.{Stops, byte-one, cell, columns_more, past-next, spread, tab_cells}
 use Rattle.md_seam.proofs.RestCells.{RestAt}

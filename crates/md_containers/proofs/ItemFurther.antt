@@ -15,7 +15,7 @@ use Rattle.md_containers.specs.ItemPrefix.{item_by, item_further, item_indented,
 use Rattle.md_containers.specs.ItemRule.{indent_at, inside_indent, item_on}
 use Rattle.md_containers.proofs.ItemCells.{at_rest}
 use Rattle.md_seam.proofs.AheadLemmas.{none-size}
-use Rattle.md_definition.specs.Rest.{is_blank, is_white}
+use Rattle.md_meaning.specs.Rest.{is_blank, is_white}
 use Rattle.md_seam.specs.Ahead.{begins_white, line_bytes, white_end, white_rest, white_size}
 use Rattle.md_seam.specs.Events.Nested.{enter, exit, pair}
 use Rattle.md_seam.specs.Look.{first_seen}

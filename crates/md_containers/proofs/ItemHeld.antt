@@ -19,11 +19,11 @@ use Rattle.md_containers.specs.ItemRule.{behind_indent, digits_end, digits_rest,
 use Rattle.md_containers.specs.QuoteRule.{indent_events}
 use Rattle.md_containers.proofs.StartLooked.{start-looked}
 use Rattle.md_seam.proofs.LostColumns.{lose-bare}
-use Rattle.md_definition.specs.Containers.{Taken, is_bullet, is_digit, item_continues}
-use Rattle.md_definition.specs.Leaves.{is_rule}
-use Rattle.md_definition.specs.Preamble.{rest_at}
-use Rattle.md_definition.specs.Rest.{is_blank, is_white}
-use Rattle.md_definition.specs.State.{InItem}
+use Rattle.md_meaning.specs.Containers.{Taken, is_bullet, is_digit, item_continues}
+use Rattle.md_meaning.specs.Leaves.{is_rule}
+use Rattle.md_meaning.specs.Preamble.{rest_at}
+use Rattle.md_meaning.specs.Rest.{is_blank, is_white}
+use Rattle.md_meaning.specs.State.{InItem}
 use Rattle.md_seam.specs.Ahead.{line_bytes, white_end, white_rest, white_size}
 use Rattle.md_seam.specs.Events.Nested.{enter, pair}
 use Rattle.md_seam.specs.Look.{first_seen, seen_behind}

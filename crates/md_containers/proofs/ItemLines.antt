@@ -13,10 +13,10 @@ use Rattle.md_containers.proofs.ItemFurther.{blank-white, size-white}
 use Rattle.md_containers.proofs.QuoteLines.{white-walk}
 use Rattle.md_seam.proofs.LostColumns.{HasLost, White, lose-walk, white-none}
 use Rattle.md_seam.proofs.RestLines.{blank-cells}
-use Rattle.md_definition.specs.Containers.{Taken, item_continues, item_padding}
-use Rattle.md_definition.specs.Rest.{Rest, behind_indent, indent, is_blank, is_parted, is_white, lose}
-use Rattle.md_definition.specs.State.{InItem}
-use Rattle.md_definition.proofs.TextsLemmas.{NoEnding}
+use Rattle.md_meaning.specs.Containers.{Taken, item_continues, item_padding}
+use Rattle.md_meaning.specs.Rest.{Rest, behind_indent, indent, is_blank, is_parted, is_white, lose}
+use Rattle.md_meaning.specs.State.{InItem}
+use Rattle.md_meaning.proofs.TextsLemmas.{NoEnding}
 use Rattle.md_seam.specs.Ahead.{begins_white, line_bytes, white_end, white_rest, white_size}
 use Rattle.md_seam.specs.Events.Inline.{pair_unless_empty}
 use Rattle.md_seam.specs.Events.Nested.{pair}

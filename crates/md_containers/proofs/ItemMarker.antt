@@ -14,11 +14,11 @@ use Rattle.md_containers.specs.ItemPrefix.{ItemPassed, Padded, item_marked, item
 use Rattle.md_containers.proofs.ItemDigits.{byte-behind, spread-one}
 use Rattle.md_containers.proofs.ItemLines.{HasPadding, ItemAgrees, LeavesRest, PaddingIs, padding-is}
 use Rattle.md_seam.proofs.LostColumns.{White}
-use Rattle.md_definition.specs.Containers.{Marker, Taken, item_padding, item_with, may_interrupt}
-use Rattle.md_definition.specs.Leaves.{is_rule}
-use Rattle.md_definition.specs.Rest.{Rest, behind, is_blank, is_parted, is_white, lose}
-use Rattle.md_definition.specs.State.{InItem}
-use Rattle.md_definition.proofs.TextsLemmas.{NoEnding}
+use Rattle.md_meaning.specs.Containers.{Marker, Taken, item_padding, item_with, may_interrupt}
+use Rattle.md_meaning.specs.Leaves.{is_rule}
+use Rattle.md_meaning.specs.Rest.{Rest, behind, is_blank, is_parted, is_white, lose}
+use Rattle.md_meaning.specs.State.{InItem}
+use Rattle.md_meaning.proofs.TextsLemmas.{NoEnding}
 use Rattle.md_seam.specs.Events.Inline.{pair_unless_empty}
 use Rattle.md_seam.specs.Events.Nested.{exit, pair}
 use Rattle.md_seam.specs.Events.Places.{past_byte, past_text}

@@ -25,16 +25,16 @@ use Rattle.md_containers.proofs.ItemDigits.{starts-stop}
 use Rattle.md_containers.proofs.ItemLines.{ItemAgrees, LeavesRest}
 use Rattle.md_containers.proofs.ItemMarker.{HasItemMarker, marked-agrees}
 use Rattle.md_containers.proofs.ItemShorter.{digits-length}
-use Rattle.md_containers.proofs.ItemSteps.{bullet-dark}
+use Rattle.md_containers.proofs.ItemBeginMeaning.{bullet-dark}
 use Rattle.md_seam.proofs.LostColumns.{White}
-use Rattle.md_definition.specs.Containers.{Marker, Taken, is_bullet, is_digit, item_by, item_with, list_marker}
-use Rattle.md_definition.specs.Containers.{marker_behind, may_interrupt, opens_item}
-use Rattle.md_definition.specs.Leaves.{is_rule, is_rule_marker}
-use Rattle.md_definition.specs.Lines.{begins_with}
-use Rattle.md_definition.specs.Rest.{Rest, behind, behind_indent, has_small_indent, indent, is_blank, is_parted}
-use Rattle.md_definition.specs.Rest.{is_white}
-use Rattle.md_definition.specs.State.{InItem}
-use Rattle.md_definition.proofs.TextsLemmas.{NoEnding, no_ending-drop}
+use Rattle.md_meaning.specs.Containers.{Marker, Taken, is_bullet, is_digit, item_by, item_with, list_marker}
+use Rattle.md_meaning.specs.Containers.{marker_behind, may_interrupt, opens_item}
+use Rattle.md_meaning.specs.Leaves.{is_rule, is_rule_marker}
+use Rattle.md_meaning.specs.Lines.{begins_with}
+use Rattle.md_meaning.specs.Rest.{Rest, behind, behind_indent, has_small_indent, indent, is_blank, is_parted}
+use Rattle.md_meaning.specs.Rest.{is_white}
+use Rattle.md_meaning.specs.State.{InItem}
+use Rattle.md_meaning.proofs.TextsLemmas.{NoEnding, no_ending-drop}
 use Rattle.md_seam.specs.Ahead.{begins_white, line_bytes, white_end, white_rest}
 use Rattle.md_seam.specs.Events.Inline.{pair_unless_empty}
 use Rattle.md_seam.specs.Events.Nested.{enter, exit, pair}

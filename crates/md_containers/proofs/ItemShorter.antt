@@ -20,9 +20,9 @@ use Rattle.md_containers.specs.ItemRule.{at_bullet, at_marker, at_value, behind_
 use Rattle.md_containers.specs.ItemRule.{behind_value, digits_rest, filled_at, in_value, indent_at, inside_indent}
 use Rattle.md_containers.specs.ItemRule.{item_at, item_on, one_column}
 use Rattle.md_containers.proofs.Shorter.{Shortens, cond-shortens}
-use Rattle.md_definition.specs.Containers.{is_bullet, is_digit}
-use Rattle.md_definition.specs.Leaves.{is_rule}
-use Rattle.md_definition.specs.Rest.{is_blank, is_white}
+use Rattle.md_meaning.specs.Containers.{is_bullet, is_digit}
+use Rattle.md_meaning.specs.Leaves.{is_rule}
+use Rattle.md_meaning.specs.Rest.{is_blank, is_white}
 use Rattle.md_leaves.specs.LeafStart.{start_at}
 use Rattle.md_seam.specs.Ahead.{begins_white, line_bytes, white_end, white_rest, white_size}
 use Rattle.md_seam.specs.Events.Nested.{enter, pair}

@@ -6,15 +6,15 @@ use Rattle.std.proofs.lemmas.Bool.{eqb-true}
 use Rattle.md_engine.specs.declared.event.Kind.{Kind}
 use Rattle.md_engine.specs.declared.event.Kind.TheVariants.{Enter, Exit}
 use Rattle.md_engine.specs.declared.event.Point.{Point}
-use Rattle.md_definition.specs.Containers.{is_bullet}
-use Rattle.md_definition.specs.Grouped.{grouped, grouped_block}
-use Rattle.md_definition.specs.State.{then_block}
-use Rattle.md_definition.specs.Tree.{Block, Blocks, End, Item, ListOf, More}
+use Rattle.md_meaning.specs.Containers.{is_bullet}
+use Rattle.md_meaning.specs.Grouped.{grouped, grouped_block}
+use Rattle.md_meaning.specs.State.{then_block}
+use Rattle.md_meaning.specs.Tree.{Block, Blocks, End, Item, ListOf, More}
 use Rattle.md_seam.specs.Events.Blocks.{is_block}
-use Rattle.md_seam.specs.Events.Spelled.{Around, AsDigits}
-use Rattle.md_seam.specs.Events.Spelled.{FootnoteShape, Holds, IsEnding, IsPrefix, IsQuiet}
-use Rattle.md_seam.specs.Events.Spelled.{ItemShape, OpenLeaf, Opens, OrderedShape}
-use Rattle.md_seam.specs.Events.Spelled.{Purpose, Reading, Role, Shape, Tells, Text, UnorderedShape, begun}
+use Rattle.md_seam.specs.Events.Spelled.{OpenContainer, AsDigits}
+use Rattle.md_seam.specs.Events.Spelled.{FootnoteShape, ContainerRole, IsEnding, IsPrefix, IsQuiet}
+use Rattle.md_seam.specs.Events.Spelled.{ItemShape, OpenLeaf, LeafRole, OrderedShape}
+use Rattle.md_seam.specs.Events.Spelled.{Purpose, Reading, Role, Shape, TextRole, Text, UnorderedShape, begun}
 use Rattle.md_seam.specs.Events.Spelled.{block_around, fresh, is_ordered, left}
 use Rattle.md_seam.specs.Events.Spelled.{read_by}
 use Rattle.md_containers.specs.ItemsStand.{AmongBlocks, InFront, InLabel, InLeaf, InText, Inner}
@@ -69,10 +69,10 @@ none-some l e = absurd (cc)
 -- a quote or a footnote definition begins
 pub holder-begins : (bytes : List ℕ) (p : Point) (shape : Shape) (inner : Inner) (w : Option OpenList) (ls : List OpenList)
     (r : Reading) (ahead : ℕ) (next : Option ℕ) (held : List Bool) → IsNoItem shape →
-    ((outer : List Around) → Agree (false ∷ held) ls outer → AgreeAt inner (false ∷ held) ls outer) →
+    ((outer : List OpenContainer) → Agree (false ∷ held) ls outer → AgreeAt inner (false ∷ held) ls outer) →
     ((s : Reading) → s.here ≡ End → Knows bytes inner None ls s ahead next) →
     Agree held ls r.outer → NoLists r.here → Knows bytes AmongBlocks w ls r 0 None →
-    Stepped bytes Enter (Holds shape) p w ls r ahead next held (record { held = false ∷ held; inner = inner })
+    Stepped bytes Enter (ContainerRole shape) p w ls r ahead next held (record { held = false ∷ held; inner = inner })
 holder-begins bytes p shape inner (Some l) ls r ahead next held not_item to knows agree lists known = none-some l.marker known.0
 holder-begins bytes p (ItemShape k d) inner None ls r ahead next held not_item to knows agree lists known = absurd not_item
 holder-begins bytes p shape inner None ls r ahead next held not_item to knows agree lists known = record {
@@ -83,7 +83,7 @@ holder-begins bytes p shape inner None ls r ahead next held not_item to knows ag
   known = record {
     agree = to (record { shape = shape; before = r.here } ∷ r.outer) (not_item, lists, agree);
     lists = tt;
-    inner = knows (read_by bytes Enter (Holds shape) p r) refl;
+    inner = knows (read_by bytes Enter (ContainerRole shape) p r) refl;
   };
 }
 
@@ -94,7 +94,7 @@ apart-end m d x = refl
 pub item-begins : (bytes : List ℕ) (p : Point) (k : ℕ) (d : List ℕ) (w : Option OpenList) (ls : List OpenList)
     (r : Reading) (ahead : ℕ) (next : Option ℕ) (held : List Bool) → k ≡ 0 → Agree held ls r.outer →
     NoLists r.here → Knows bytes AmongBlocks w ls r 0 (Some ahead) →
-    Stepped bytes Enter (Holds (ItemShape k d)) p w ls r ahead next held
+    Stepped bytes Enter (ContainerRole (ItemShape k d)) p w ls r ahead next held
     (record { held = true ∷ held; inner = InFront })
 item-begins bytes p k d None ls r ahead next held e agree lists known =
     let l : OpenList = record { marker = ahead; before = grouped r.here; items = End } in
@@ -121,7 +121,7 @@ item-begins bytes p k d (Some l) ls r ahead next held e agree lists known =
 
 -- a text that is a block of its own comes next, and is no item
 own-next : (purpose : Purpose) → IsOfItself purpose → (next : Option ℕ) →
-    cond (is_block (Tells purpose)) None next ≡ None
+    cond (is_block (TextRole purpose)) None next ≡ None
 own-next AsDigits h next = absurd h
 own-next _ h next = first_of (cc, search)
 
@@ -131,22 +131,22 @@ pub among-begin : (bytes : List ℕ) (x : Role) (p : Point) (w : Option OpenList
     (marker_by Enter x (get_or bytes p.index 0) ahead) (next_by Enter x ahead next) →
     Stepped bytes Enter x p w ls r ahead next held
     (site_after (record { held = held; inner = AmongBlocks }) Enter x p)
-among-begin bytes (Holds (FootnoteShape label)) p w ls r ahead next held may known =
+among-begin bytes (ContainerRole (FootnoteShape label)) p w ls r ahead next held may known =
     holder-begins bytes p (FootnoteShape label) InLabel w ls r ahead next held tt (λ outer h. h) (λ s h. h)
     known.agree known.lists known.inner
-among-begin bytes (Holds (ItemShape k d)) p w ls r ahead next held may known =
+among-begin bytes (ContainerRole (ItemShape k d)) p w ls r ahead next held may known =
     item-begins bytes p k d w ls r ahead next held may known.agree known.lists known.inner
-among-begin bytes (Holds OrderedShape) p w ls r ahead next held may known = absurd may
-among-begin bytes (Holds UnorderedShape) p w ls r ahead next held may known = absurd may
-among-begin bytes (Holds shape) p w ls r ahead next held may known =
+among-begin bytes (ContainerRole OrderedShape) p w ls r ahead next held may known = absurd may
+among-begin bytes (ContainerRole UnorderedShape) p w ls r ahead next held may known = absurd may
+among-begin bytes (ContainerRole shape) p w ls r ahead next held may known =
     holder-begins bytes p shape AmongBlocks w ls r ahead next held tt (λ outer h. h)
     (λ s h. λ m e. subst (Apart m) (sym h) (apart-end m)) known.agree known.lists known.inner
-among-begin bytes (Opens kind) p None ls r ahead next held may known =
-    passed bytes Enter (Opens kind) p None ls r ahead next held InLeaf tt known.agree known.lists (fresh kind, refl)
-among-begin bytes (Opens kind) p (Some l) ls r ahead next held may known = none-some l.marker known.inner.0
-among-begin bytes (Tells purpose) p None ls r ahead next held may known =
-    passed bytes Enter (Tells purpose) p None ls r ahead next held InText tt known.agree known.lists (begun p, refl)
-among-begin bytes (Tells purpose) p (Some l) ls r ahead next held may known =
+among-begin bytes (LeafRole kind) p None ls r ahead next held may known =
+    passed bytes Enter (LeafRole kind) p None ls r ahead next held InLeaf tt known.agree known.lists (fresh kind, refl)
+among-begin bytes (LeafRole kind) p (Some l) ls r ahead next held may known = none-some l.marker known.inner.0
+among-begin bytes (TextRole purpose) p None ls r ahead next held may known =
+    passed bytes Enter (TextRole purpose) p None ls r ahead next held InText tt known.agree known.lists (begun p, refl)
+among-begin bytes (TextRole purpose) p (Some l) ls r ahead next held may known =
     none-some l.marker (sym (own-next purpose may next) ∙ known.inner.0)
 among-begin bytes IsPrefix p w ls r ahead next held may known =
     among-between bytes Enter IsPrefix p w ls r ahead next held tt known
@@ -181,11 +181,11 @@ shape-grouped _ h bs = refl
 
 -- a quote or a footnote definition ends
 pub holder-ends : (bytes : List ℕ) (p : Point) (shape : Shape) (w : Option OpenList) (ls : List OpenList)
-    (outer : List Around) (here : Blocks) (leaf : Option OpenLeaf) (text : Option Text)
+    (outer : List OpenContainer) (here : Blocks) (leaf : Option OpenLeaf) (text : Option Text)
     (ahead : ℕ) (next : Option ℕ) (held : List Bool) → IsNoItem shape → Agree (false ∷ held) ls outer →
     NoLists here →
     Knows bytes AmongBlocks w ls (record { outer = outer; here = here; leaf = leaf; text = text }) 0 None →
-    Stepped bytes Exit (Holds shape) p w ls (record { outer = outer; here = here; leaf = leaf; text = text }) ahead next
+    Stepped bytes Exit (ContainerRole shape) p w ls (record { outer = outer; here = here; leaf = leaf; text = text }) ahead next
     (false ∷ held) (record { held = held; inner = AmongBlocks })
 holder-ends bytes p shape (Some l) ls outer here leaf text ahead next held not_item agree lists known =
     none-some l.marker known.0
@@ -275,10 +275,10 @@ apart-behind l b d x fits lists m h e y =
     ∙ ap (λ (gs : Blocks). then_block gs (ListOf m (More (Item m e (grouped y)) End))) (sym (fits.more d x))
 
 pub item-ended : (bytes : List ℕ) (p : Point) (k : ℕ) (e : List ℕ) (l : OpenList) (ls : List OpenList) (d : List ℕ)
-    (before : Blocks) (arounds : List Around) (here : Blocks) (leaf : Option OpenLeaf) (text : Option Text)
+    (before : Blocks) (arounds : List OpenContainer) (here : Blocks) (leaf : Option OpenLeaf) (text : Option Text)
     (ahead : ℕ) (next : Option ℕ) (held : List Bool) → is_list_marker l.marker ≡ true → Fits l before →
     NoLists before → Agree held ls arounds →
-    Stepped bytes Exit (Holds (ItemShape k e)) p None (l ∷ ls)
+    Stepped bytes Exit (ContainerRole (ItemShape k e)) p None (l ∷ ls)
     (record {
       outer = record { shape = ItemShape l.marker d; before = before } ∷ arounds;
       here = here;
@@ -305,7 +305,7 @@ item-ended bytes p k e l ls d before arounds here leaf text ahead next held mark
     }
 
     go : (t : Bool) → goes_on l.marker next ≡ t →
-        Stepped bytes Exit (Holds (ItemShape k e)) p None (l ∷ ls)
+        Stepped bytes Exit (ContainerRole (ItemShape k e)) p None (l ∷ ls)
         (record {
           outer = record { shape = ItemShape l.marker d; before = before } ∷ arounds;
           here = here;
@@ -349,10 +349,10 @@ item-ended bytes p k e l ls d before arounds here leaf text ahead next held mark
     }
 
 pub item-ends : (bytes : List ℕ) (p : Point) (k : ℕ) (e : List ℕ) (w : Option OpenList) (ls : List OpenList)
-    (outer : List Around) (here : Blocks) (leaf : Option OpenLeaf) (text : Option Text)
+    (outer : List OpenContainer) (here : Blocks) (leaf : Option OpenLeaf) (text : Option Text)
     (ahead : ℕ) (next : Option ℕ) (held : List Bool) → Agree (true ∷ held) ls outer →
     Knows bytes AmongBlocks w ls (record { outer = outer; here = here; leaf = leaf; text = text }) 0 None →
-    Stepped bytes Exit (Holds (ItemShape k e)) p w ls (record { outer = outer; here = here; leaf = leaf; text = text })
+    Stepped bytes Exit (ContainerRole (ItemShape k e)) p w ls (record { outer = outer; here = here; leaf = leaf; text = text })
     ahead next (true ∷ held) (record { held = held; inner = AmongBlocks })
 item-ends bytes p k e (Some l) ls outer here leaf text ahead next held agree known = none-some l.marker known.0
 item-ends bytes p k e None [] outer here leaf text ahead next held agree known = absurd agree
@@ -362,7 +362,7 @@ item-ends bytes p k e None (l ∷ ls) (a ∷ arounds) here leaf text ahead next 
   where
     Of : Shape → Type 0
     Of shape =
-        Stepped bytes Exit (Holds (ItemShape k e)) p None (l ∷ ls)
+        Stepped bytes Exit (ContainerRole (ItemShape k e)) p None (l ∷ ls)
         (record {
           outer = record { shape = shape; before = a.before } ∷ arounds;
           here = here;
@@ -383,14 +383,14 @@ pub among-end : (bytes : List ℕ) (x : Role) (p : Point) (w : Option OpenList) 
     (marker_by Exit x (get_or bytes p.index 0) ahead) (next_by Exit x ahead next) →
     Stepped bytes Exit x p w ls r ahead next held
     (site_after (record { held = held; inner = AmongBlocks }) Exit x p)
-among-end bytes (Holds shape) p w ls r ahead next [] may known = absurd may
-among-end bytes (Holds (ItemShape k d)) p w ls r ahead next (true ∷ held) may known =
+among-end bytes (ContainerRole shape) p w ls r ahead next [] may known = absurd may
+among-end bytes (ContainerRole (ItemShape k d)) p w ls r ahead next (true ∷ held) may known =
     item-ends bytes p k d w ls r.outer r.here r.leaf r.text ahead next held known.agree known.inner
-among-end bytes (Holds (ItemShape k d)) p w ls r ahead next (false ∷ held) may known = absurd (cc)
-among-end bytes (Holds OrderedShape) p w ls r ahead next (is_item ∷ held) may known = absurd may
-among-end bytes (Holds UnorderedShape) p w ls r ahead next (is_item ∷ held) may known = absurd may
-among-end bytes (Holds shape) p w ls r ahead next (true ∷ held) may known = absurd (cc)
-among-end bytes (Holds shape) p w ls r ahead next (false ∷ held) may known =
+among-end bytes (ContainerRole (ItemShape k d)) p w ls r ahead next (false ∷ held) may known = absurd (cc)
+among-end bytes (ContainerRole OrderedShape) p w ls r ahead next (is_item ∷ held) may known = absurd may
+among-end bytes (ContainerRole UnorderedShape) p w ls r ahead next (is_item ∷ held) may known = absurd may
+among-end bytes (ContainerRole shape) p w ls r ahead next (true ∷ held) may known = absurd (cc)
+among-end bytes (ContainerRole shape) p w ls r ahead next (false ∷ held) may known =
     holder-ends bytes p shape w ls r.outer r.here r.leaf r.text ahead next held tt known.agree known.lists known.inner
 among-end bytes IsPrefix p w ls r ahead next held may known =
     among-between bytes Exit IsPrefix p w ls r ahead next held tt known

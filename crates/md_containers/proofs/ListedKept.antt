@@ -11,7 +11,7 @@ use Rattle.md_engine.specs.declared.event.Point.{Point}
 use Rattle.md_containers.specs.Listed.{Place, goes_on, is_item, list_begin, list_end, list_name, listed, listed_from}
 use Rattle.md_containers.specs.Listed.{marker_ahead, next_item, outside, place_behind}
 use Rattle.md_containers.proofs.ListedLemmas.{passes-given}
-use Rattle.md_seam.specs.Events.Endings.{Spot, endings_stand, endings_stand_from, ends_rightly, is_filled, line_start, on_line}
+use Rattle.md_seam.specs.Events.Endings.{EndingPlace, endings_stand, endings_stand_from, ends_rightly, is_filled, line_start, on_line}
 use Rattle.md_seam.specs.Events.Endings.{IsOther, OnLine, spot_behind}
 use Rattle.md_seam.specs.Events.Inline.{Piece, piece_of, pieces, pieces_from}
 use Rattle.md_seam.specs.Events.Nested.{enter, exit}
@@ -38,12 +38,6 @@ by-turn P begins ends passes kind name = go (is_item (role name)) refl kind
 and-twice : (a b : Bool) → (a && (a && b)) ≡ (a && b)
 and-twice true b = refl
 and-twice false b = refl
-
-begin-all : (p : Point → Bool) (within : Bool) (marker : ℕ) (q : Point) (es : List Event) → (b : Bool) →
-    list_all (λ (e : Event). p e.point) es ≡ (p q && b) →
-    list_all (λ (e : Event). p e.point) (list_begin within marker q ++ es) ≡ (p q && b)
-begin-all p true marker q es b h = h
-begin-all p false marker q es b h = ap (λ (x : Bool). p q && x) h ∙ and-twice (p q) b
 
 end-all : (p : Point → Bool) (markers : List ℕ) (next : Option ℕ) (q : Point) (es : List Event) →
     (p q && list_all (λ (e : Event). p e.point) (list_end markers next q ++ es))
@@ -112,14 +106,14 @@ filled-twice : (a b : Bool) → (a || (a || b)) ≡ (a || b)
 filled-twice true b = refl
 filled-twice false b = refl
 
-begin-endings : (within : Bool) (m : ℕ) (p : Point) (s : Spot) (es : List Event) →
+begin-endings : (within : Bool) (m : ℕ) (p : Point) (s : EndingPlace) (es : List Event) →
     endings_stand_from s (list_begin within m p ++ es)
     ≡ endings_stand_from (if within then s else record s { after_leaf = is_filled s }) es
 begin-endings true m p s es = refl
 begin-endings false m p s es =
     ap (λ (x : OnLine). ends_rightly Enter x s && endings_stand_from (spot_behind Enter x s) es) (list-line m)
 
-end-endings : (markers : List ℕ) (next : Option ℕ) (p : Point) (s : Spot) (es : List Event) →
+end-endings : (markers : List ℕ) (next : Option ℕ) (p : Point) (s : EndingPlace) (es : List Event) →
     endings_stand_from s (list_end markers next p ++ es) ≡ endings_stand_from s es
 end-endings [] next p s es = refl
 end-endings (m ∷ markers) next p s es = go (goes_on m next)
@@ -129,7 +123,7 @@ end-endings (m ∷ markers) next p s es = go (goes_on m next)
     go false =
         ap (λ (x : OnLine). ends_rightly Exit x s && endings_stand_from (spot_behind Exit x s) es) (list-line m)
 
-endings-kept : (bytes : List ℕ) (s : Spot) (place : Place) (es : List Event) →
+endings-kept : (bytes : List ℕ) (s : EndingPlace) (place : Place) (es : List Event) →
     endings_stand_from s (listed_from bytes place es) ≡ endings_stand_from s es
 endings-kept bytes s place [] = refl
 endings-kept bytes s place (e ∷ es) =
@@ -166,7 +160,7 @@ endings-kept bytes s place (e ∷ es) =
         (filled-twice s.in_leaf s.after_leaf)
         ∙ h
 
-    passed : ((spot : Spot) → endings_stand_from spot (listed_from bytes place es) ≡ endings_stand_from spot es) →
+    passed : ((spot : EndingPlace) → endings_stand_from spot (listed_from bytes place es) ≡ endings_stand_from spot es) →
         (kind : Kind) (name : Name) → is_item (role name) ≡ false →
         endings_stand_from s (listed_from bytes place (record e { kind = kind; name = name } ∷ es))
         ≡ endings_stand_from s (record e { kind = kind; name = name } ∷ es)

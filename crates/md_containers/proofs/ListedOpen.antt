@@ -12,12 +12,12 @@ use Rattle.md_engine.specs.declared.event.Kind.{Kind}
 use Rattle.md_engine.specs.declared.event.Kind.TheVariants.{Enter, Exit}
 use Rattle.md_engine.specs.declared.event.Name.TheVariants as n
 use Rattle.md_engine.specs.declared.event.Point.{Point}
-use Rattle.md_definition.specs.Grouped.{grouped}
-use Rattle.md_definition.specs.State.{then_block}
-use Rattle.md_definition.specs.Tree.{Blocks, End, Item, Line, ListOf, More}
-use Rattle.md_seam.specs.Events.Spelled.{Around, Holds, IsEnding}
-use Rattle.md_seam.specs.Events.Spelled.{ItemShape, OpenLeaf, Opens, OrderedShape, Purpose}
-use Rattle.md_seam.specs.Events.Spelled.{Reading, Role, Shape, Tells, Text, UnorderedShape, at_ending, begun}
+use Rattle.md_meaning.specs.Grouped.{grouped}
+use Rattle.md_meaning.specs.State.{then_block}
+use Rattle.md_meaning.specs.Tree.{Blocks, End, Item, Line, ListOf, More}
+use Rattle.md_seam.specs.Events.Spelled.{OpenContainer, ContainerRole, IsEnding}
+use Rattle.md_seam.specs.Events.Spelled.{ItemShape, OpenLeaf, LeafRole, OrderedShape, Purpose}
+use Rattle.md_seam.specs.Events.Spelled.{Reading, Role, Shape, TextRole, Text, UnorderedShape, at_ending, begun}
 use Rattle.md_seam.specs.Events.Spelled.{is_ordered, left}
 use Rattle.md_seam.specs.Events.Spelled.{next_line, on_leaf, read, read_by, role, text_to, told, told_at}
 use Rattle.md_seam.specs.Events.Told.{OfItself, OfLeaf, Told, told_of}
@@ -41,17 +41,17 @@ pub record OpenList : Type 0 where
 abbrev pub list_shape : ℕ → Shape
 list_shape marker = if is_ordered marker then OrderedShape else UnorderedShape
 
-abbrev pub list_around : OpenList → Around
+abbrev pub list_around : OpenList → OpenContainer
 list_around l = record { shape = list_shape l.marker; before = l.before }
 
 -- what is open once lists stand around items: each item in its list
-abbrev pub outer_by : List Bool → List OpenList → List Around → List Around
+abbrev pub outer_by : List Bool → List OpenList → List OpenContainer → List OpenContainer
 outer_by (true ∷ held) (l ∷ ls) (a ∷ arounds) =
     record { shape = a.shape; before = l.items } ∷ list_around l ∷ outer_by held ls arounds
 outer_by (false ∷ held) ls (a ∷ arounds) = record { shape = a.shape; before = grouped a.before } ∷ outer_by held ls arounds
 outer_by _ _ _ = []
 
-abbrev pub moved : Reading → List Around → Blocks → Reading
+abbrev pub moved : Reading → List OpenContainer → Blocks → Reading
 moved r outer here = record { outer = outer; here = here; leaf = r.leaf; text = r.text }
 
 -- what is read once lists stand around items, by the list that goes on, if one does
@@ -99,7 +99,7 @@ IsNoItem UnorderedShape = ⊥
 IsNoItem _ = Unit {0}
 
 -- of each open container
-abbrev pub Agree : List Bool → List OpenList → List Around → Type 0
+abbrev pub Agree : List Bool → List OpenList → List OpenContainer → Type 0
 Agree [] [] [] = Unit {0}
 Agree (true ∷ held) (l ∷ ls) (a ∷ arounds) =
     IsItemOf l.marker a.shape × Fits l a.before × NoLists a.before × Agree held ls arounds
@@ -107,11 +107,11 @@ Agree (false ∷ held) ls (a ∷ arounds) = IsNoItem a.shape × NoLists a.before
 Agree _ _ _ = ⊥
 
 -- the same where the innermost is an item whose marker is not read yet
-abbrev pub AgreeFront : List Bool → List OpenList → List Around → Type 0
+abbrev pub AgreeFront : List Bool → List OpenList → List OpenContainer → Type 0
 AgreeFront (true ∷ held) (l ∷ ls) (a ∷ arounds) = IsBegun a.shape × Fits l a.before × NoLists a.before × Agree held ls arounds
 AgreeFront _ _ _ = ⊥
 
-abbrev pub AgreeAt : Inner → List Bool → List OpenList → List Around → Type 0
+abbrev pub AgreeAt : Inner → List Bool → List OpenList → List OpenContainer → Type 0
 AgreeAt InFront held ls outer = AgreeFront held ls outer
 AgreeAt (InMarker q) held ls outer = AgreeFront held ls outer
 AgreeAt _ held ls outer = Agree held ls outer
@@ -158,11 +158,11 @@ read_turn Begins place ahead next f r = f (begun_list place.within ahead r)
 read_turn Ends place ahead next f r = ended_list place.markers next (f r)
 read_turn Stays place ahead next f r = f r
 
-pub role-list : (m : ℕ) → role (list_name m) ≡ Holds (list_shape m)
+pub role-list : (m : ℕ) → role (list_name m) ≡ ContainerRole (list_shape m)
 role-list m = go (is_ordered m)
   where
     go : (x : Bool) → role (if x then n.ListOrdered else n.ListUnordered)
-        ≡ Holds (if x then OrderedShape else UnorderedShape)
+        ≡ ContainerRole (if x then OrderedShape else UnorderedShape)
     go true = refl
     go false = refl
 
@@ -194,11 +194,11 @@ read-turn bytes Stays place ahead next e r = refl
 
 -- an event that leaves the containers that are open and the blocks that are finished
 abbrev pub Passes : Kind → Role → Type 0
-Passes Enter (Holds shape) = ⊥
+Passes Enter (ContainerRole shape) = ⊥
 Passes Enter _ = Unit {0}
-Passes Exit (Holds shape) = ⊥
-Passes Exit (Opens kind) = ⊥
-Passes Exit (Tells purpose) = IsOfLeaf purpose
+Passes Exit (ContainerRole shape) = ⊥
+Passes Exit (LeafRole kind) = ⊥
+Passes Exit (TextRole purpose) = IsOfLeaf purpose
 Passes Exit _ = Unit {0}
 
 pub of-leaf : (purpose : Purpose) → IsOfLeaf purpose → told_of purpose ≡ OfLeaf
@@ -215,21 +215,21 @@ of-itself purpose h = go (told_of purpose) h
     go OfItself h = refl
     go _ h = absurd h
 
-pub told-moved : (purpose : Purpose) → IsOfLeaf purpose → (line : Line) (r : Reading) (outer : List Around) (here : Blocks) →
+pub told-moved : (purpose : Purpose) → IsOfLeaf purpose → (line : Line) (r : Reading) (outer : List OpenContainer) (here : Blocks) →
     told purpose line (moved r outer here) ≡ moved (told purpose line r) outer here
 told-moved purpose h line r outer here =
     told-noted purpose (of-leaf purpose h) line (moved r outer here)
     ∙ ap (λ (s : Reading). moved s outer here) (sym (told-noted purpose (of-leaf purpose h) line r))
 
 pub told_at-moved : (bytes : List ℕ) (purpose : Purpose) → IsOfLeaf purpose → (p : Point) (text : Option Text) (r : Reading)
-    (outer : List Around) (here : Blocks) →
+    (outer : List OpenContainer) (here : Blocks) →
     told_at bytes purpose p text (moved r outer here) ≡ moved (told_at bytes purpose p text r) outer here
 told_at-moved bytes purpose h p None r outer here = refl
 told_at-moved bytes purpose h p (Some text) r outer here =
     told-moved purpose h (record { spaces = text.spaces; text = text_to bytes p.index text })
     (record r { text = None }) outer here
 
-pub ending-moved : (bytes : List ℕ) (p : Point) (text : Option Text) (r : Reading) (outer : List Around) (here : Blocks) →
+pub ending-moved : (bytes : List ℕ) (p : Point) (text : Option Text) (r : Reading) (outer : List OpenContainer) (here : Blocks) →
     at_ending bytes p text (moved r outer here) ≡ moved (at_ending bytes p text r) outer here
 ending-moved bytes p (Some text) r outer here = refl
 ending-moved bytes p None r outer here = go (nat_lt p.index (length bytes))
@@ -240,13 +240,13 @@ ending-moved bytes p None r outer here = go (nat_lt p.index (length bytes))
     go false = refl
 
 pub passes-moved : (bytes : List ℕ) (kind : Kind) (x : Role) (p : Point) → Passes kind x → (r : Reading)
-    (outer : List Around) (here : Blocks) →
+    (outer : List OpenContainer) (here : Blocks) →
     read_by bytes kind x p (moved r outer here) ≡ moved (read_by bytes kind x p r) outer here
-passes-moved bytes Enter (Holds shape) p h r outer here = absurd h
+passes-moved bytes Enter (ContainerRole shape) p h r outer here = absurd h
 passes-moved bytes Enter _ p h r outer here = refl
-passes-moved bytes Exit (Holds shape) p h r outer here = absurd h
-passes-moved bytes Exit (Opens kind) p h r outer here = absurd h
-passes-moved bytes Exit (Tells purpose) p h r outer here = told_at-moved bytes purpose h p r.text r outer here
+passes-moved bytes Exit (ContainerRole shape) p h r outer here = absurd h
+passes-moved bytes Exit (LeafRole kind) p h r outer here = absurd h
+passes-moved bytes Exit (TextRole purpose) p h r outer here = told_at-moved bytes purpose h p r.text r outer here
 passes-moved bytes Exit IsEnding p h r outer here = ending-moved bytes p r.text r outer here
 passes-moved bytes Exit _ p h r outer here = refl
 
@@ -266,7 +266,7 @@ pub passes-listed : (bytes : List ℕ) (kind : Kind) (x : Role) (p : Point) → 
 passes-listed bytes kind x p h None held ls r =
     passes-moved bytes kind x p h r (outer_by held ls r.outer) (grouped r.here)
     ∙ ap
-    (λ (o : List Around). moved (read_by bytes kind x p r) (outer_by held ls o) (grouped r.here))
+    (λ (o : List OpenContainer). moved (read_by bytes kind x p r) (outer_by held ls o) (grouped r.here))
     (sym (passes-outer bytes kind x p h r))
     ∙ ap
     (λ (b : Blocks). moved (read_by bytes kind x p r) (outer_by held ls (read_by bytes kind x p r).outer) (grouped b))
@@ -274,13 +274,13 @@ passes-listed bytes kind x p h None held ls r =
 passes-listed bytes kind x p h (Some l) held ls r =
     passes-moved bytes kind x p h r (list_around l ∷ outer_by held ls r.outer) l.items
     ∙ ap
-    (λ (o : List Around). moved (read_by bytes kind x p r) (list_around l ∷ outer_by held ls o) l.items)
+    (λ (o : List OpenContainer). moved (read_by bytes kind x p r) (list_around l ∷ outer_by held ls o) l.items)
     (sym (passes-outer bytes kind x p h r))
 
 pub passes-turn : (kind : Kind) (x : Role) → Passes kind x → turn kind x ≡ Stays
-passes-turn Enter (Holds shape) h = absurd h
+passes-turn Enter (ContainerRole shape) h = absurd h
 passes-turn Enter _ h = refl
-passes-turn Exit (Holds shape) h = absurd h
+passes-turn Exit (ContainerRole shape) h = absurd h
 passes-turn Exit _ h = refl
 
 -- One event.

@@ -7,14 +7,14 @@ use Rattle.std.proofs.lemmas.List.{get_or-drop}
 use Rattle.md_engine.specs.declared.event.Kind.{Kind}
 use Rattle.md_engine.specs.declared.event.Kind.TheVariants.{Enter, Exit}
 use Rattle.md_engine.specs.declared.event.Point.{Point}
-use Rattle.md_definition.specs.Grouped.{grouped, grouped_block}
-use Rattle.md_definition.specs.State.{then_block}
-use Rattle.md_definition.specs.Texts.{first_byte}
-use Rattle.md_definition.specs.Tree.{Block, Blocks, End, Line}
-use Rattle.md_seam.specs.Events.Spelled.{Around, AsDigits, AsFootnoteLabel, AsItemMarker, BreakLeaf}
-use Rattle.md_seam.specs.Events.Spelled.{Holds, IsCell, IsEnding, IsFence, IsPrefix, IsQuiet, IsRow}
-use Rattle.md_seam.specs.Events.Spelled.{ItemShape, OpenLeaf, Opens, OrderedShape, Purpose, UnorderedShape}
-use Rattle.md_seam.specs.Events.Spelled.{Reading, Role, Shape, Tells, Text, at_ending, begun}
+use Rattle.md_meaning.specs.Grouped.{grouped, grouped_block}
+use Rattle.md_meaning.specs.State.{then_block}
+use Rattle.md_meaning.specs.Texts.{first_byte}
+use Rattle.md_meaning.specs.Tree.{Block, Blocks, End, Line}
+use Rattle.md_seam.specs.Events.Spelled.{OpenContainer, AsDigits, AsFootnoteLabel, AsItemMarker, BreakLeaf}
+use Rattle.md_seam.specs.Events.Spelled.{ContainerRole, IsCell, IsEnding, IsFence, IsPrefix, IsQuiet, IsRow}
+use Rattle.md_seam.specs.Events.Spelled.{ItemShape, OpenLeaf, LeafRole, OrderedShape, Purpose, UnorderedShape}
+use Rattle.md_seam.specs.Events.Spelled.{Reading, Role, Shape, TextRole, Text, at_ending, begun}
 use Rattle.md_seam.specs.Events.Spelled.{block_of, finished, named}
 use Rattle.md_seam.specs.Events.Spelled.{next_line, on_leaf, on_shape, read_by, text_to, told_at}
 use Rattle.md_seam.specs.Events.Spelled.{after_prefix, before_prefix, noted}
@@ -41,7 +41,7 @@ IsOfHolder AsItemMarker = Unit {0}
 IsOfHolder AsFootnoteLabel = Unit {0}
 IsOfHolder _ = ⊥
 
-pub shape-listed : (f : Shape → Shape) (held : List Bool) (ls : List OpenList) (outer : List Around) →
+pub shape-listed : (f : Shape → Shape) (held : List Bool) (ls : List OpenList) (outer : List OpenContainer) →
     on_shape f (outer_by held ls outer) ≡ outer_by held ls (on_shape f outer)
 shape-listed f [] ls [] = refl
 shape-listed f [] ls (a ∷ arounds) = refl
@@ -52,30 +52,30 @@ shape-listed f (true ∷ held) (l ∷ ls) (a ∷ arounds) = refl
 shape-listed f (false ∷ held) ls [] = refl
 shape-listed f (false ∷ held) ls (a ∷ arounds) = refl
 
-abbrev pub fields : List Around → Blocks → Option OpenLeaf → Option Text → Reading
+abbrev pub fields : List OpenContainer → Blocks → Option OpenLeaf → Option Text → Reading
 fields outer here leaf text = record { outer = outer; here = here; leaf = leaf; text = text }
 
 pub holder-told : (bytes : List ℕ) (purpose : Purpose) → IsOfHolder purpose → (p : Point) (ls : List OpenList)
-    (outer : List Around) (here : Blocks) (leaf : Option OpenLeaf) (text : Option Text) (held : List Bool) →
-    read_by bytes Exit (Tells purpose) p (as_listed None held ls (fields outer here leaf text))
-    ≡ as_listed None held ls (read_by bytes Exit (Tells purpose) p (fields outer here leaf text))
+    (outer : List OpenContainer) (here : Blocks) (leaf : Option OpenLeaf) (text : Option Text) (held : List Bool) →
+    read_by bytes Exit (TextRole purpose) p (as_listed None held ls (fields outer here leaf text))
+    ≡ as_listed None held ls (read_by bytes Exit (TextRole purpose) p (fields outer here leaf text))
 holder-told bytes purpose h p ls outer here leaf None held = refl
 holder-told bytes AsDigits h p ls outer here leaf (Some text) held =
-    ap (λ (o : List Around). fields o (grouped here) leaf None)
+    ap (λ (o : List OpenContainer). fields o (grouped here) leaf None)
     (shape-listed (named AsDigits (text_to bytes p.index text)) held ls outer)
 holder-told bytes AsItemMarker h p ls outer here leaf (Some text) held =
-    ap (λ (o : List Around). fields o (grouped here) leaf None)
+    ap (λ (o : List OpenContainer). fields o (grouped here) leaf None)
     (shape-listed (named AsItemMarker (text_to bytes p.index text)) held ls outer)
 holder-told bytes AsFootnoteLabel h p ls outer here leaf (Some text) held =
-    ap (λ (o : List Around). fields o (grouped here) leaf None)
+    ap (λ (o : List OpenContainer). fields o (grouped here) leaf None)
     (shape-listed (named AsFootnoteLabel (text_to bytes p.index text)) held ls outer)
 holder-told bytes _ h p ls outer here leaf (Some text) held = absurd h
 
 -- such an end, and what is known behind it
 pub holder-tells : (bytes : List ℕ) (purpose : Purpose) → IsOfHolder purpose → (p : Point) (ls : List OpenList)
     (r : Reading) (ahead : ℕ) (next : Option ℕ) (held : List Bool) (inner : Inner) →
-    Known bytes (record { held = held; inner = inner }) None ls (read_by bytes Exit (Tells purpose) p r) ahead next →
-    Stepped bytes Exit (Tells purpose) p None ls r ahead next held (record { held = held; inner = inner })
+    Known bytes (record { held = held; inner = inner }) None ls (read_by bytes Exit (TextRole purpose) p r) ahead next →
+    Stepped bytes Exit (TextRole purpose) p None ls r ahead next held (record { held = held; inner = inner })
 holder-tells bytes purpose h p ls r ahead next held inner known = record {
   lists = ls;
   within = None;
@@ -89,7 +89,7 @@ pub begun-digits : (t : List ℕ) (shape : Shape) → IsBegun shape → IsBegun 
 begun-digits t (ItemShape k d) h = h
 begun-digits t _ h = absurd h
 
-pub front-digits : (t : List ℕ) (held : List Bool) (ls : List OpenList) (outer : List Around) → AgreeFront held ls outer →
+pub front-digits : (t : List ℕ) (held : List Bool) (ls : List OpenList) (outer : List OpenContainer) → AgreeFront held ls outer →
     AgreeFront held ls (on_shape (named AsDigits t) outer)
 front-digits t [] ls outer h = absurd h
 front-digits t (false ∷ held) ls outer h = absurd h
@@ -97,11 +97,11 @@ front-digits t (true ∷ held) [] outer h = absurd h
 front-digits t (true ∷ held) (l ∷ ls) [] h = absurd h
 front-digits t (true ∷ held) (l ∷ ls) (a ∷ arounds) h = (begun-digits t a.shape h.0, h.1, h.2, h.3)
 
-pub digits-known : (bytes : List ℕ) (p : Point) (ls : List OpenList) (outer : List Around) (here : Blocks)
+pub digits-known : (bytes : List ℕ) (p : Point) (ls : List OpenList) (outer : List OpenContainer) (here : Blocks)
     (leaf : Option OpenLeaf) (text : Option Text) (ahead : ℕ) (next : Option ℕ) (held : List Bool) →
     Known bytes (record { held = held; inner = InFront }) None ls (fields outer here leaf text) ahead next →
     Known bytes (record { held = held; inner = InFront }) None ls
-    (read_by bytes Exit (Tells AsDigits) p (fields outer here leaf text)) ahead next
+    (read_by bytes Exit (TextRole AsDigits) p (fields outer here leaf text)) ahead next
 digits-known bytes p ls outer here leaf None ahead next held known =
     record { agree = known.agree; lists = known.lists; inner = known.inner }
 digits-known bytes p ls outer here leaf (Some text) ahead next held known = record {
@@ -121,7 +121,7 @@ no-item-label t OrderedShape h = absurd h
 no-item-label t UnorderedShape h = absurd h
 no-item-label t _ h = tt
 
-pub agree-label : (t : List ℕ) (held : List Bool) (ls : List OpenList) (outer : List Around) → Agree held ls outer →
+pub agree-label : (t : List ℕ) (held : List Bool) (ls : List OpenList) (outer : List OpenContainer) → Agree held ls outer →
     Agree held ls (on_shape (named AsFootnoteLabel t) outer)
 agree-label t [] [] [] h = tt
 agree-label t [] [] (a ∷ arounds) h = absurd h
@@ -135,11 +135,11 @@ agree-label t (false ∷ held) ls (a ∷ arounds) h = (no-item-label t a.shape h
 pub apart-of : (m : ℕ) (b : Blocks) → b ≡ End → Apart m b
 apart-of m b e = subst (Apart m) (sym e) (apart-end m)
 
-pub label-known : (bytes : List ℕ) (p : Point) (ls : List OpenList) (outer : List Around) (here : Blocks)
+pub label-known : (bytes : List ℕ) (p : Point) (ls : List OpenList) (outer : List OpenContainer) (here : Blocks)
     (leaf : Option OpenLeaf) (text : Option Text) (ahead : ℕ) (next : Option ℕ) (held : List Bool) →
     Agree held ls outer → NoLists here → here ≡ End →
     Known bytes (record { held = held; inner = AmongBlocks }) None ls
-    (read_by bytes Exit (Tells AsFootnoteLabel) p (fields outer here leaf text)) ahead next
+    (read_by bytes Exit (TextRole AsFootnoteLabel) p (fields outer here leaf text)) ahead next
 label-known bytes p ls outer here leaf None ahead next held agree lists e =
     record { agree = agree; lists = lists; inner = λ m i. apart-of m here e }
 label-known bytes p ls outer here leaf (Some text) ahead next held agree lists e = record {
@@ -169,7 +169,7 @@ item-marked t m (ItemShape k d) h e marker =
     (ap (λ (j : ℕ). if j == 0 then first_byte t else j) h ∙ e, marker)
 item-marked t m _ h e marker = absurd h
 
-pub front-marked : (t : List ℕ) (held : List Bool) (ls : List OpenList) (outer : List Around) → AgreeFront held ls outer →
+pub front-marked : (t : List ℕ) (held : List Bool) (ls : List OpenList) (outer : List OpenContainer) → AgreeFront held ls outer →
     first_byte t ≡ first_marker ls → is_list_marker (first_marker ls) ≡ true →
     Agree held ls (on_shape (named AsItemMarker t) outer)
 front-marked t [] ls outer h e marker = absurd h
@@ -179,16 +179,16 @@ front-marked t (true ∷ held) (l ∷ ls) [] h e marker = absurd h
 front-marked t (true ∷ held) (l ∷ ls) (a ∷ arounds) h e marker =
     (item-marked t l.marker a.shape h.0 e marker, h.1, h.2, h.3)
 
-pub marker-known : (bytes : List ℕ) (p q : Point) (ls : List OpenList) (outer : List Around) (here : Blocks)
+pub marker-known : (bytes : List ℕ) (p q : Point) (ls : List OpenList) (outer : List OpenContainer) (here : Blocks)
     (leaf : Option OpenLeaf) (text : Option Text) (ahead : ℕ) (next : Option ℕ) (held : List Bool) →
     p.index ≡ q.index + 1 → AgreeFront held ls outer → NoLists here → here ≡ End →
     get_or bytes q.index 0 ≡ first_marker ls → IsMarkerAt bytes q → text ≡ Some (begun q) →
     Known bytes (record { held = held; inner = AmongBlocks }) None ls
-    (read_by bytes Exit (Tells AsItemMarker) p (fields outer here leaf text)) ahead next
+    (read_by bytes Exit (TextRole AsItemMarker) p (fields outer here leaf text)) ahead next
 marker-known bytes p q ls outer here leaf text ahead next held after agree lists e byte is is_text =
     subst
     (λ (t : Option Text). Known bytes (record { held = held; inner = AmongBlocks }) None ls
-    (read_by bytes Exit (Tells AsItemMarker) p (fields outer here leaf t)) ahead next)
+    (read_by bytes Exit (TextRole AsItemMarker) p (fields outer here leaf t)) ahead next)
     (sym is_text)
     (record {
       agree =
@@ -209,10 +209,10 @@ pub front-begin : (bytes : List ℕ) (x : Role) (p : Point) (ls : List OpenList)
     (site_after (record { held = held; inner = InFront }) Enter x p)
 front-begin bytes IsQuiet p ls r ahead next held may known =
     passed bytes Enter IsQuiet p None ls r ahead next held InFront tt known.agree known.lists known.inner
-front-begin bytes (Tells AsDigits) p ls r ahead next held may known =
-    passed bytes Enter (Tells AsDigits) p None ls r ahead next held InFront tt known.agree known.lists known.inner
-front-begin bytes (Tells AsItemMarker) p ls r ahead next held may known =
-    passed bytes Enter (Tells AsItemMarker) p None ls r ahead next held (InMarker p) tt known.agree known.lists
+front-begin bytes (TextRole AsDigits) p ls r ahead next held may known =
+    passed bytes Enter (TextRole AsDigits) p None ls r ahead next held InFront tt known.agree known.lists known.inner
+front-begin bytes (TextRole AsItemMarker) p ls r ahead next held may known =
+    passed bytes Enter (TextRole AsItemMarker) p None ls r ahead next held (InMarker p) tt known.agree known.lists
     (known.inner.0, known.inner.1, may, refl)
 front-begin bytes _ p ls r ahead next held may known = absurd may
 
@@ -224,7 +224,7 @@ pub front-end : (bytes : List ℕ) (x : Role) (p : Point) (ls : List OpenList) (
     (site_after (record { held = held; inner = InFront }) Exit x p)
 front-end bytes IsQuiet p ls r ahead next held may known =
     passed bytes Exit IsQuiet p None ls r ahead next held InFront tt known.agree known.lists known.inner
-front-end bytes (Tells AsDigits) p ls r ahead next held may known =
+front-end bytes (TextRole AsDigits) p ls r ahead next held may known =
     holder-tells bytes AsDigits tt p ls r ahead next held InFront
     (digits-known bytes p ls r.outer r.here r.leaf r.text ahead next held known)
 front-end bytes _ p ls r ahead next held may known = absurd may
@@ -234,7 +234,7 @@ pub marker-end : (bytes : List ℕ) (x : Role) (p q : Point) (ls : List OpenList
     Known bytes (record { held = held; inner = InMarker q }) None ls r other now →
     Stepped bytes Exit x p None ls r ahead next held
     (site_after (record { held = held; inner = InMarker q }) Exit x p)
-marker-end bytes (Tells AsItemMarker) p q ls r ahead other next now held may known =
+marker-end bytes (TextRole AsItemMarker) p q ls r ahead other next now held may known =
     holder-tells bytes AsItemMarker tt p ls r ahead next held AmongBlocks
     (marker-known bytes p q ls r.outer r.here r.leaf r.text ahead next held may known.agree known.lists known.inner.0
     known.inner.1 known.inner.2 known.inner.3)
@@ -255,8 +255,8 @@ pub label-begin : (bytes : List ℕ) (x : Role) (p : Point) (ls : List OpenList)
     Known bytes (record { held = held; inner = InLabel }) None ls r other now →
     Stepped bytes Enter x p None ls r ahead next held
     (site_after (record { held = held; inner = InLabel }) Enter x p)
-label-begin bytes (Tells AsFootnoteLabel) p ls r ahead other next now held may known =
-    label-between bytes Enter (Tells AsFootnoteLabel) p ls r ahead other next now held tt known
+label-begin bytes (TextRole AsFootnoteLabel) p ls r ahead other next now held may known =
+    label-between bytes Enter (TextRole AsFootnoteLabel) p ls r ahead other next now held tt known
 label-begin bytes IsPrefix p ls r ahead other next now held may known =
     label-between bytes Enter IsPrefix p ls r ahead other next now held tt known
 label-begin bytes IsEnding p ls r ahead other next now held may known =
@@ -270,7 +270,7 @@ pub label-end : (bytes : List ℕ) (x : Role) (p : Point) (ls : List OpenList) (
     Known bytes (record { held = held; inner = InLabel }) None ls r other now →
     Stepped bytes Exit x p None ls r ahead next held
     (site_after (record { held = held; inner = InLabel }) Exit x p)
-label-end bytes (Tells AsFootnoteLabel) p ls r ahead other next now held may known =
+label-end bytes (TextRole AsFootnoteLabel) p ls r ahead other next now held may known =
     holder-tells bytes AsFootnoteLabel tt p ls r ahead next held AmongBlocks
     (label-known bytes p ls r.outer r.here r.leaf r.text ahead next held known.agree known.lists known.inner)
 label-end bytes IsPrefix p ls r ahead other next now held may known =
@@ -284,11 +284,11 @@ label-end bytes _ p ls r ahead other next now held may known = absurd may
 -- In a leaf block.
 
 pub part-passes : (kind : Kind) (x : Role) → IsPart x → Passes kind x
-part-passes Enter (Holds shape) h = absurd h
+part-passes Enter (ContainerRole shape) h = absurd h
 part-passes Enter _ h = tt
-part-passes Exit (Holds shape) h = absurd h
-part-passes Exit (Opens kind) h = absurd h
-part-passes Exit (Tells purpose) h = h
+part-passes Exit (ContainerRole shape) h = absurd h
+part-passes Exit (LeafRole kind) h = absurd h
+part-passes Exit (TextRole purpose) h = h
 part-passes Exit _ h = tt
 
 -- whether a leaf block is open
@@ -318,10 +318,10 @@ ending-leaf bytes p None r leaf = go (nat_lt p.index (length bytes))
 -- the parts of a leaf block leave it open
 pub part-leaf : (bytes : List ℕ) (kind : Kind) (x : Role) (p : Point) → IsPart x → (r : Reading) → HasLeaf r →
     HasLeaf (read_by bytes kind x p r)
-part-leaf bytes kind (Holds shape) p h r leaf = absurd h
-part-leaf bytes kind (Opens k) p h r leaf = absurd h
-part-leaf bytes Enter (Tells purpose) p h r leaf = leaf
-part-leaf bytes Exit (Tells purpose) p h r leaf = told-leaf bytes purpose h p r.text r leaf
+part-leaf bytes kind (ContainerRole shape) p h r leaf = absurd h
+part-leaf bytes kind (LeafRole k) p h r leaf = absurd h
+part-leaf bytes Enter (TextRole purpose) p h r leaf = leaf
+part-leaf bytes Exit (TextRole purpose) p h r leaf = told-leaf bytes purpose h p r.text r leaf
 part-leaf bytes Exit IsFence p h r leaf = leaf
 part-leaf bytes Exit IsRow p h r leaf = leaf
 part-leaf bytes Exit IsCell p h r leaf = leaf
@@ -347,7 +347,7 @@ pub leaf-begin : (bytes : List ℕ) (x : Role) (p : Point) (ls : List OpenList) 
     Known bytes (record { held = held; inner = InLeaf }) None ls r other now →
     Stepped bytes Enter x p None ls r ahead next held
     (site_after (record { held = held; inner = InLeaf }) Enter x p)
-leaf-begin bytes (Holds shape) p ls r ahead other next now held may known = absurd may
+leaf-begin bytes (ContainerRole shape) p ls r ahead other next now held may known = absurd may
 leaf-begin bytes x p ls r ahead other next now held may known =
     leaf-part bytes Enter x p ls r ahead other next now held may known
 
@@ -363,7 +363,7 @@ leaf-grouped _ = refl
 pub added : (bytes : List ℕ) (x : Role) (p : Point) (ls : List OpenList) (r : Reading) (ahead : ℕ) (next : Option ℕ)
     (held : List Bool) (block : Block) (leaf : Option OpenLeaf) (text : Option Text) → turn Exit x ≡ Stays →
     IsOther block → grouped_block block ≡ block → Agree held ls r.outer → NoLists r.here →
-    ((outer : List Around) (here : Blocks) →
+    ((outer : List OpenContainer) (here : Blocks) →
     read_by bytes Exit x p (moved r outer here) ≡ fields outer (then_block here block) leaf text) →
     Stepped bytes Exit x p None ls r ahead next held (record { held = held; inner = AmongBlocks })
 added bytes x p ls r ahead next held block leaf text stays other same agree lists reads =
@@ -399,9 +399,9 @@ pub leaf-end : (bytes : List ℕ) (x : Role) (p : Point) (ls : List OpenList) (r
     Known bytes (record { held = held; inner = InLeaf }) None ls r other now →
     Stepped bytes Exit x p None ls r ahead next held
     (site_after (record { held = held; inner = InLeaf }) Exit x p)
-leaf-end bytes (Holds shape) p ls r ahead other next now held may known = absurd may
-leaf-end bytes (Opens kind) p ls r ahead other next now held may known =
-    added bytes (Opens kind) p ls r ahead next held (block_of known.inner.0) None r.text refl
+leaf-end bytes (ContainerRole shape) p ls r ahead other next now held may known = absurd may
+leaf-end bytes (LeafRole kind) p ls r ahead other next now held may known =
+    added bytes (LeafRole kind) p ls r ahead next held (block_of known.inner.0) None r.text refl
     (leaf-other known.inner.0) (leaf-grouped known.inner.0) known.agree known.lists
     (λ outer here. ap (λ (l : Option OpenLeaf). finished l (moved r outer here)) known.inner.1)
 leaf-end bytes x p ls r ahead other next now held may known =
@@ -454,8 +454,8 @@ pub text-end : (bytes : List ℕ) (x : Role) (p : Point) (ls : List OpenList) (r
     Known bytes (record { held = held; inner = InText }) None ls r other now →
     Stepped bytes Exit x p None ls r ahead next held
     (site_after (record { held = held; inner = InText }) Exit x p)
-text-end bytes (Tells purpose) p ls r ahead other next now held may known =
-    added bytes (Tells purpose) p ls r ahead next held
+text-end bytes (TextRole purpose) p ls r ahead other next now held may known =
+    added bytes (TextRole purpose) p ls r ahead next held
     (block_told (text_to bytes p.index known.inner.0)) r.leaf None refl tt refl known.agree known.lists
     (λ outer here.
     ap (λ (t : Option Text). told_at bytes purpose p t (moved r outer here)) known.inner.1

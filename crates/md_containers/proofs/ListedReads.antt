@@ -6,7 +6,7 @@ use Rattle.md_engine.specs.declared.event.Event.{Event}
 use Rattle.md_engine.specs.declared.event.Kind.{Kind}
 use Rattle.md_engine.specs.declared.event.Kind.TheVariants.{Enter, Exit}
 use Rattle.md_engine.specs.declared.event.Point.{Point}
-use Rattle.md_definition.specs.Grouped.{grouped}
+use Rattle.md_meaning.specs.Grouped.{grouped}
 use Rattle.md_seam.specs.Events.Spelled.{Reading, Role}
 use Rattle.md_seam.specs.Events.Spelled.{read, read_by, role, spelled}
 use Rattle.md_seam.specs.Events.Spelled.{unread}

@@ -21,11 +21,12 @@ use Rattle.md_engine.specs.World.{Setting, World, after, line_begun, looks, look
 use Rattle.md_engine.proofs.ClassLemmas.{further-next, no-ending, seen-here}
 use Rattle.md_engine.proofs.Loops.{CameTo}
 use Rattle.md_engine.proofs.Walks.{Within, then-holds, then-stays, then-takes, within-more, within-one}
-use Rattle.md_definition.specs.Containers.{is_bullet, is_digit}
+use Rattle.md_meaning.specs.Containers.{is_bullet, is_digit}
 use Rattle.md_containers.specs.Interrupts.{interrupts}
-use Rattle.md_definition.specs.Rest.{is_white}
+use Rattle.md_meaning.specs.Rest.{is_white}
 use Rattle.md_containers.specs.Item as item
 use Rattle.md_containers.specs.PlainBullet.{IsPlainBullet, bulleted, byte_at}
+use Rattle.md_containers.proofs.ItemBeginMeaning.{bullet-dark}
 use Rattle.md_containers.proofs.PlainItem.{HasItem}
 use Rattle.md_leaves.specs.LeafStart as leaf
 use Rattle.md_seam.specs.Events.Nested.{enter, exit}
@@ -40,16 +41,6 @@ bullet-text : (b : ℕ) → is_bullet b ≡ true → has class.Text b ≡ true
 bullet-text b h = go (nat_eq b 42) (nat_eq b 43) (nat_eq b 45) refl refl refl
   where
     go : (x y z : Bool) → nat_eq b 42 ≡ x → nat_eq b 43 ≡ y → nat_eq b 45 ≡ z → has class.Text b ≡ true
-    go true y z e k l = let is : b ≡ 42 = eqb-true b 42 e in rw is refl
-    go false true z e k l = let is : b ≡ 43 = eqb-true b 43 k in rw is refl
-    go false false true e k l = let is : b ≡ 45 = eqb-true b 45 l in rw is refl
-    go false false false e k l = let no : false ≡ true = rw (e, k, l) at h in cc
-
--- and no whitespace
-bullet-dark : (b : ℕ) → is_bullet b ≡ true → is_white b ≡ false
-bullet-dark b h = go (nat_eq b 42) (nat_eq b 43) (nat_eq b 45) refl refl refl
-  where
-    go : (x y z : Bool) → nat_eq b 42 ≡ x → nat_eq b 43 ≡ y → nat_eq b 45 ≡ z → is_white b ≡ false
     go true y z e k l = let is : b ≡ 42 = eqb-true b 42 e in rw is refl
     go false true z e k l = let is : b ≡ 43 = eqb-true b 43 k in rw is refl
     go false false true e k l = let is : b ≡ 45 = eqb-true b 45 l in rw is refl
@@ -184,227 +175,311 @@ bullet-seen w seen plain =
 pub bullet-next : (w : World) → IsPlainBullet w → (after w.setting (after w.setting w.point)).index < w.setting.limit
 bullet-next w plain = (sees-bullet w plain).next
 
--- An attempt at an item takes it, and what stands behind it is seen.
-pub bullet-run : (T : Step) (is_end : Bool) (s : State) (v : World) (next : StateName) (nok : State) (w : World) →
-    HasItem T → HasWhite T → CameTo T is_end s v (n.ListItem its.Start) (tried w (Next next) nok) →
-    w.current ≡ looks w → Within w → IsPlainBullet w → CameTo T is_end s v next (bulleted w)
-unfolding looks_behind sees_other
-bullet-run T is_end s v next nok w has_item has_white came seen within plain =
-    then-holds T is_end s v (n.ListItem its.After) next filled done f w.frames at_after
-    (has_item its.After filled Ok done refl) refl in-filled refl refl refl within sees.next
+-- An attempt at an item with such a bullet: what the tokenizer is from state to state.
+module _ (next : StateName) (nok : State) (w : World) where
+  abbrev item_frame : Frame
+  item_frame = record { ok = Next next; nok = nok; is_check = false; events_len = length w.events; point = w.point }
+
+  abbrev trying_item : World
+  trying_item = tried w (Next next) nok
+
+  abbrev in_item : World
+  in_item = entered trying_item ListItem
+
+  abbrev in_prefix : World
+  in_prefix = entered in_item ListItemPrefix
+
+  -- the marker is taken
+  abbrev behind_marker : World
+  behind_marker = exited (taken (entered in_prefix ListItemMarker)) ListItemMarker
+
+  abbrev padding_frame : Frame
+  padding_frame = record {
+    ok = Next (n.ListItem its.After);
+    nok = Next (n.ListItem its.PrefixOther);
+    is_check = false;
+    events_len = length behind_marker.events;
+    point = behind_marker.point;
+  }
+
+  -- the padding is tried,
+  abbrev trying_padding : World
+  trying_padding =
+      record (tried (reading behind_marker) (Next (n.ListItem its.After)) (Next (n.ListItem its.PrefixOther))) {
+        scratch = record w.scratch { seen = true };
+      }
+
+  abbrev white_frame : Frame
+  white_frame = record {
+    ok = Next (n.ListItem its.WhitespaceAfter);
+    nok = Nok;
+    is_check = false;
+    events_len = length behind_marker.events;
+    point = behind_marker.point;
+  }
+
+  -- and in it whitespace
+  abbrev trying_white : World
+  trying_white = (white_then trying_padding 1 4 (Next (n.ListItem its.WhitespaceAfter)) Nok).world
+
+  abbrev in_white : World
+  in_white = entered trying_white SpaceOrTab
+
+  -- the space is taken
+  abbrev behind_space : World
+  behind_space = (inside_code in_white true).world
+
+  abbrev behind_white : World
+  behind_white = exited (reading behind_space) SpaceOrTab
+
+  abbrev white_held : World
+  white_held = (after_code behind_white true).world
+
+  -- the padding is known to end there
+  abbrev padded : World
+  padded = reading (record white_held { frames = padding_frame ∷ item_frame ∷ w.frames })
+
+  abbrev filled : World
+  filled = reading (record padded { frames = item_frame ∷ w.frames })
+
+  -- No attempt that is left has more events than there are, at each of these.
+  within-in_item : Within w → Within in_item
+  within-in_item within =
+      within-more (item_frame ∷ w.frames) trying_item.events (enter ListItem w.point ∷ [])
+      (within-one item_frame w.frames (length w.events) (omega arith) within)
+
+  within-in_prefix : Within w → Within in_prefix
+  within-in_prefix within =
+      within-more (item_frame ∷ w.frames) in_item.events (enter ListItemPrefix w.point ∷ []) (within-in_item within)
+
+  within-behind_marker : Within w → Within behind_marker
+  within-behind_marker within =
+      within-more (item_frame ∷ w.frames) _ (exit ListItemMarker behind_marker.point ∷ [])
+      (within-more (item_frame ∷ w.frames) in_prefix.events (enter ListItemMarker w.point ∷ []) (within-in_prefix within))
+
+  within-trying_padding : Within w → Within trying_padding
+  within-trying_padding within =
+      within-one padding_frame (item_frame ∷ w.frames) (length behind_marker.events) (omega arith)
+      (within-behind_marker within)
+
+  within-trying_white : Within w → Within trying_white
+  within-trying_white within =
+      within-one white_frame (padding_frame ∷ item_frame ∷ w.frames) (length behind_marker.events) (omega arith)
+      (within-trying_padding within)
+
+  within-in_white : Within w → Within in_white
+  within-in_white within =
+      within-more (white_frame ∷ padding_frame ∷ item_frame ∷ w.frames) trying_white.events
+      (enter SpaceOrTab behind_marker.point ∷ []) (within-trying_white within)
+
+  within-behind_white : Within w → Within behind_white
+  within-behind_white within =
+      within-more (white_frame ∷ padding_frame ∷ item_frame ∷ w.frames) in_white.events
+      (exit SpaceOrTab behind_space.point ∷ []) (within-in_white within)
+
+  within-padded : Within w → Within padded
+  within-padded within =
+      within-more (padding_frame ∷ item_frame ∷ w.frames) in_white.events (exit SpaceOrTab behind_space.point ∷ [])
+      (within-more (padding_frame ∷ item_frame ∷ w.frames) behind_marker.events
+      (enter SpaceOrTab behind_marker.point ∷ []) (within-trying_padding within))
+
+  within-filled : Within w → Within filled
+  within-filled within =
+      within-more (item_frame ∷ w.frames) in_white.events (exit SpaceOrTab behind_space.point ∷ [])
+      (within-more (item_frame ∷ w.frames) behind_marker.events (enter SpaceOrTab behind_marker.point ∷ [])
+      (within-behind_marker within))
+
+-- No break begins at the bullet: another byte is on the line.
+no-break : (w : World) → IsPlainBullet w → item.may_break w (slice_index w.setting.bytes w.point.index) ≡ false
+no-break w plain =
+    ap (λ (x : Bool). w.setting.options.constructs.thematic_break && not (nat_eq marker 43 || x))
+    (sees-bullet w plain).another
+    ∙ none (nat_eq marker 43) w.setting.options.constructs.thematic_break
   where
-    sees : SeesBullet w
-    sees = sees-bullet w plain
+    marker : ℕ
+    marker = slice_index w.setting.bytes w.point.index
+
+    none : (x y : Bool) → y && not (x || true) ≡ false
+    none true true = refl
+    none true false = refl
+    none false true = refl
+    none false false = refl
+
+-- The states up to the marker of a bullet take it.
+marker-run : (T : Step) (is_end : Bool) (s : State) (v : World) (next : StateName) (nok : State) (w : World) →
+    HasItem T → CameTo T is_end s v (n.ListItem its.Start) (trying_item next nok w) → w.current ≡ looks w → Within w →
+    IsPlainBullet w → CameTo T is_end s v (n.ListItem its.MarkerAfter) (reading (behind_marker next nok w))
+unfolding sees_other
+marker-run T is_end s v next nok w has_item came seen within plain =
+    then-takes T is_end s v (n.ListItem its.Marker) (n.ListItem its.MarkerAfter) prefix (behind_marker next nok w)
+    at_marker
+    (has_item its.Marker prefix (Next (n.ListItem its.MarkerAfter)) (behind_marker next nok w)
+    (ap (λ (o : Option ℕ). item.marker_code prefix (item.sees item.is_item_marker o)) is
+    ∙ ap (λ (x : Bool). item.marker_code prefix (x || item.ends_value marker)) plain.bullet)) refl
+    (within-in_prefix next nok w within) (sees-bullet w plain).inside
+  where
+    start : World
+    start = trying_item next nok w
+
+    begun : World
+    begun = in_item next nok w
+
+    prefix : World
+    prefix = in_prefix next nok w
 
     marker : ℕ
     marker = slice_index w.setting.bytes w.point.index
 
     is : w.current ≡ Some marker
-    is = seen ∙ sees.here
+    is = seen ∙ (sees-bullet w plain).here
 
-    f : Frame
-    f = record { ok = Next next; nok = nok; is_check = false; events_len = length w.events; point = w.point }
+    dark : sees_white w.current ≡ false
+    dark = ap sees_white is ∙ bullet-dark marker plain.bullet
 
-    wa : World
-    wa = tried w (Next next) nok
-
-    wb : World
-    wb = entered wa ListItem
-
-    wc : World
-    wc = entered wb ListItemPrefix
-
-    -- the marker was taken
-    wd : World
-    wd = exited (taken (entered wc ListItemMarker)) ListItemMarker
-
-    g : Frame
-    g = record {
-      ok = Next (n.ListItem its.After);
-      nok = Next (n.ListItem its.PrefixOther);
-      is_check = false;
-      events_len = length wd.events;
-      point = wd.point;
-    }
-
-    -- whitespace is tried
-    we : World
-    we =
-        record (tried (reading wd) (Next (n.ListItem its.After)) (Next (n.ListItem its.PrefixOther))) {
-          scratch = record w.scratch { seen = true };
-        }
-
-    wf : World
-    wf = (white_then we 1 4 (Next (n.ListItem its.WhitespaceAfter)) Nok).world
-
-    h : Frame
-    h = record {
-      ok = Next (n.ListItem its.WhitespaceAfter);
-      nok = Nok;
-      is_check = false;
-      events_len = length wd.events;
-      point = wd.point;
-    }
-
-    wg : World
-    wg = entered wf SpaceOrTab
-
-    -- it was taken
-    wh : World
-    wh = (inside_code wg true).world
-
-    wi : World
-    wi = exited (reading wh) SpaceOrTab
-
-    wj : World
-    wj = (after_code wi true).world
-
-    -- and no more stands there
-    wk : World
-    wk = reading (record wj { frames = g ∷ f ∷ w.frames })
-
-    filled : World
-    filled = reading (record wk { frames = f ∷ w.frames })
-
-    done : World
-    done = (item.after_code filled false false).world
-
-    in-wa : Within wa
-    in-wa = within-one f w.frames (length w.events) (omega arith) within
-
-    in-wb : Within wb
-    in-wb = within-more (f ∷ w.frames) wa.events (enter ListItem w.point ∷ []) in-wa
-
-    in-wc : Within wc
-    in-wc = within-more (f ∷ w.frames) wb.events (enter ListItemPrefix w.point ∷ []) in-wb
-
-    in-wd : Within wd
-    in-wd =
-        within-more (f ∷ w.frames) _ (exit ListItemMarker wd.point ∷ [])
-        (within-more (f ∷ w.frames) wc.events (enter ListItemMarker w.point ∷ []) in-wc)
-
-    in-we : Within we
-    in-we = within-one g (f ∷ w.frames) (length wd.events) (omega arith) in-wd
-
-    in-wf : Within wf
-    in-wf = within-one h (g ∷ f ∷ w.frames) (length wd.events) (omega arith) in-we
-
-    in-wg : Within wg
-    in-wg = within-more (h ∷ g ∷ f ∷ w.frames) wf.events (enter SpaceOrTab wd.point ∷ []) in-wf
-
-    in-wi : Within wi
-    in-wi = within-more (h ∷ g ∷ f ∷ w.frames) wg.events (exit SpaceOrTab wh.point ∷ []) in-wg
-
-    -- of the attempts that are left, by the events that were added since
-    in-wk : Within wk
-    in-wk =
-        within-more (g ∷ f ∷ w.frames) wg.events (exit SpaceOrTab wh.point ∷ [])
-        (within-more (g ∷ f ∷ w.frames) wd.events (enter SpaceOrTab wd.point ∷ []) in-we)
-
-    in-filled : Within filled
-    in-filled =
-        within-more (f ∷ w.frames) wg.events (exit SpaceOrTab wh.point ∷ [])
-        (within-more (f ∷ w.frames) wd.events (enter SpaceOrTab wd.point ∷ []) in-wd)
-
-    no_break : item.may_break wb marker ≡ false
-    no_break =
-        ap (λ (x : Bool). w.setting.options.constructs.thematic_break && not (nat_eq marker 43 || x)) sees.another
-        ∙ none (nat_eq marker 43) w.setting.options.constructs.thematic_break
-      where
-        none : (x y : Bool) → y && not (x || true) ≡ false
-        none true true = refl
-        none true false = refl
-        none false true = refl
-        none false false = refl
-
-    dark_here : sees_white w.current ≡ false
-    dark_here = ap sees_white is ∙ bullet-dark marker plain.bullet
-
-    -- at something else than a bullet
+    -- what the state does at a byte that is no bullet
     ordered : Transition
     ordered =
-        cond (is_digit marker && (not (interrupts w.flags) || nat_eq marker 49)) (item.goes_to its.BeforeOrdered wb)
-        (item.refused wb)
+        cond (is_digit marker && (not (interrupts w.flags) || nat_eq marker 49)) (item.goes_to its.BeforeOrdered begun)
+        (item.refused begun)
 
-    at_before : CameTo T is_end s v (n.ListItem its.Before) wb
+    at_before : CameTo T is_end s v (n.ListItem its.Before) begun
     at_before =
-        then-stays T is_end s v (n.ListItem its.Start) (n.ListItem its.Before) wa wb came
-        (has_item its.Start wa (Retry (n.ListItem its.Before)) wb
-        (ap₂ (λ (x y : Bool). leaf.start_code ListItem (n.ListItem its.Before) wa x y) plain.on dark_here)) refl in-wa
-        refl seen
+        then-stays T is_end s v (n.ListItem its.Start) (n.ListItem its.Before) start begun came
+        (has_item its.Start start (Retry (n.ListItem its.Before)) begun
+        (ap₂ (λ (x y : Bool). leaf.start_code ListItem (n.ListItem its.Before) start x y) plain.on dark)) refl
+        (within-one (item_frame next nok w) w.frames (length w.events) (omega arith) within) refl seen
 
-    at_unordered : CameTo T is_end s v (n.ListItem its.BeforeUnordered) wb
+    at_unordered : CameTo T is_end s v (n.ListItem its.BeforeUnordered) begun
     at_unordered =
-        then-stays T is_end s v (n.ListItem its.Before) (n.ListItem its.BeforeUnordered) wb wb at_before
-        (has_item its.Before wb (Retry (n.ListItem its.BeforeUnordered)) wb
-        (ap (item.before_code wb) is
-        ∙ ap₂ (λ (x y : Bool). cond x (item.bullet_code wb y) ordered) plain.bullet no_break)) refl in-wb refl seen
+        then-stays T is_end s v (n.ListItem its.Before) (n.ListItem its.BeforeUnordered) begun begun at_before
+        (has_item its.Before begun (Retry (n.ListItem its.BeforeUnordered)) begun
+        (ap (item.before_code begun) is
+        ∙ ap₂ (λ (x y : Bool). cond x (item.bullet_code begun y) ordered) plain.bullet (no-break w plain))) refl
+        (within-in_item next nok w within) refl seen
 
-    at_marker : CameTo T is_end s v (n.ListItem its.Marker) wc
+    at_marker : CameTo T is_end s v (n.ListItem its.Marker) prefix
     at_marker =
-        then-stays T is_end s v (n.ListItem its.BeforeUnordered) (n.ListItem its.Marker) wb wc at_unordered
-        (has_item its.BeforeUnordered wb (Retry (n.ListItem its.Marker)) wc refl) refl in-wb refl seen
+        then-stays T is_end s v (n.ListItem its.BeforeUnordered) (n.ListItem its.Marker) begun prefix at_unordered
+        (has_item its.BeforeUnordered begun (Retry (n.ListItem its.Marker)) prefix refl) refl
+        (within-in_item next nok w within) refl seen
 
-    behind_marker : CameTo T is_end s v (n.ListItem its.MarkerAfter) (reading wd)
-    behind_marker =
-        then-takes T is_end s v (n.ListItem its.Marker) (n.ListItem its.MarkerAfter) wc wd at_marker
-        (has_item its.Marker wc (Next (n.ListItem its.MarkerAfter)) wd
-        (ap (λ (o : Option ℕ). item.marker_code wc (item.sees item.is_item_marker o)) is
-        ∙ ap (λ (x : Bool). item.marker_code wc (x || item.ends_value marker)) plain.bullet)) refl in-wc sees.inside
+-- After the marker the padding is tried, and in it whitespace.
+padding-run : (T : Step) (is_end : Bool) (s : State) (v : World) (next : StateName) (nok : State) (w : World) →
+    HasItem T → CameTo T is_end s v (n.ListItem its.MarkerAfter) (reading (behind_marker next nok w)) → Within w →
+    IsPlainBullet w → CameTo T is_end s v (n.SpaceOrTab white.Start) (trying_white next nok w)
+unfolding looks_behind
+padding-run T is_end s v next nok w has_item came within plain =
+    then-stays T is_end s v (n.ListItem its.Whitespace) (n.SpaceOrTab white.Start) padding (trying_white next nok w)
+    at_whitespace
+    (has_item its.Whitespace padding (Retry (n.SpaceOrTab white.Start)) (trying_white next nok w) refl) refl
+    (within-trying_padding next nok w within) refl refl
+  where
+    sees : SeesBullet w
+    sees = sees-bullet w plain
 
-    behind : looks_behind (reading wd) ≡ Some (byte_at w 2)
+    marked : World
+    marked = reading (behind_marker next nok w)
+
+    padding : World
+    padding = trying_padding next nok w
+
+    behind : looks_behind marked ≡ Some (byte_at w 2)
     behind =
         ap (λ (o : Option ℕ).
         behind_code o
         (first_behind (slice_range w.setting.bytes (after w.setting w.point).index w.setting.limit))) sees.space
         ∙ sees.first
 
-    at_filled : CameTo T is_end s v (n.ListItem its.MarkerAfterFilled) (reading wd)
+    at_filled : CameTo T is_end s v (n.ListItem its.MarkerAfterFilled) marked
     at_filled =
-        then-stays T is_end s v (n.ListItem its.MarkerAfter) (n.ListItem its.MarkerAfterFilled) (reading wd)
-        (reading wd) behind_marker
-        (has_item its.MarkerAfter (reading wd) (Retry (n.ListItem its.MarkerAfterFilled)) (reading wd)
-        (ap (item.blank_code its.After its.MarkerAfterFilled (reading wd)) behind
-        ∙ ap (λ (x : Bool).
-        cond x (item.goes_to its.After (reading wd)) (item.goes_to its.MarkerAfterFilled (reading wd))) sees.not_end))
-        refl in-wd refl refl
+        then-stays T is_end s v (n.ListItem its.MarkerAfter) (n.ListItem its.MarkerAfterFilled) marked marked came
+        (has_item its.MarkerAfter marked (Retry (n.ListItem its.MarkerAfterFilled)) marked
+        (ap (item.blank_code its.After its.MarkerAfterFilled marked) behind
+        ∙ ap (λ (x : Bool). cond x (item.goes_to its.After marked) (item.goes_to its.MarkerAfterFilled marked))
+        sees.not_end)) refl (within-behind_marker next nok w within) refl refl
 
-    at_whitespace : CameTo T is_end s v (n.ListItem its.Whitespace) we
+    at_whitespace : CameTo T is_end s v (n.ListItem its.Whitespace) padding
     at_whitespace =
-        then-stays T is_end s v (n.ListItem its.MarkerAfterFilled) (n.ListItem its.Whitespace) (reading wd) we at_filled
-        (has_item its.MarkerAfterFilled (reading wd) (Retry (n.ListItem its.Whitespace)) we refl) refl in-wd refl refl
+        then-stays T is_end s v (n.ListItem its.MarkerAfterFilled) (n.ListItem its.Whitespace) marked padding at_filled
+        (has_item its.MarkerAfterFilled marked (Retry (n.ListItem its.Whitespace)) padding refl) refl
+        (within-behind_marker next nok w within) refl refl
 
-    at_start : CameTo T is_end s v (n.SpaceOrTab white.Start) wf
-    at_start =
-        then-stays T is_end s v (n.ListItem its.Whitespace) (n.SpaceOrTab white.Start) we wf at_whitespace
-        (has_item its.Whitespace we (Retry (n.SpaceOrTab white.Start)) wf refl) refl in-we refl refl
+-- One space is taken, and the attempt at whitespace holds.
+space-run : (T : Step) (is_end : Bool) (s : State) (v : World) (next : StateName) (nok : State) (w : World) →
+    HasWhite T → CameTo T is_end s v (n.SpaceOrTab white.Start) (trying_white next nok w) → Within w → IsPlainBullet w →
+    CameTo T is_end s v (n.ListItem its.WhitespaceAfter) (padded next nok w)
+space-run T is_end s v next nok w has_white came within plain =
+    then-holds T is_end s v (n.SpaceOrTab white.After) (n.ListItem its.WhitespaceAfter) ended (white_held next nok w)
+    (white_frame next nok w) (padding_frame next nok w ∷ item_frame next nok w ∷ w.frames) at_end
+    (has_white white.After ended Ok (white_held next nok w) refl) refl (within-behind_white next nok w within) refl refl
+    refl (within-trying_padding next nok w within) sees.next
+  where
+    sees : SeesBullet w
+    sees = sees-bullet w plain
 
-    at_inside : CameTo T is_end s v (n.SpaceOrTab white.Inside) wg
+    begun : World
+    begun = trying_white next nok w
+
+    inside : World
+    inside = in_white next nok w
+
+    took : World
+    took = behind_space next nok w
+
+    ended : World
+    ended = behind_white next nok w
+
+    at_inside : CameTo T is_end s v (n.SpaceOrTab white.Inside) inside
     at_inside =
-        then-stays T is_end s v (n.SpaceOrTab white.Start) (n.SpaceOrTab white.Inside) wf wg at_start
-        (has_white white.Start wf (Retry (n.SpaceOrTab white.Inside)) wg
-        (ap (λ (o : Option ℕ). start_code wf (sees_white o && nat_lt 0 4)) sees.space)) refl in-wf refl refl
+        then-stays T is_end s v (n.SpaceOrTab white.Start) (n.SpaceOrTab white.Inside) begun inside came
+        (has_white white.Start begun (Retry (n.SpaceOrTab white.Inside)) inside
+        (ap (λ (o : Option ℕ). start_code begun (sees_white o && nat_lt 0 4)) sees.space)) refl
+        (within-trying_white next nok w within) refl refl
 
-    behind_space : CameTo T is_end s v (n.SpaceOrTab white.Inside) (reading wh)
-    behind_space =
-        then-takes T is_end s v (n.SpaceOrTab white.Inside) (n.SpaceOrTab white.Inside) wg wh at_inside
-        (has_white white.Inside wg (Next (n.SpaceOrTab white.Inside)) wh
-        (ap (λ (o : Option ℕ). inside_code wg (sees_white o && nat_lt 0 4)) sees.space)) refl in-wg sees.next
+    at_space : CameTo T is_end s v (n.SpaceOrTab white.Inside) (reading took)
+    at_space =
+        then-takes T is_end s v (n.SpaceOrTab white.Inside) (n.SpaceOrTab white.Inside) inside took at_inside
+        (has_white white.Inside inside (Next (n.SpaceOrTab white.Inside)) took
+        (ap (λ (o : Option ℕ). inside_code inside (sees_white o && nat_lt 0 4)) sees.space)) refl
+        (within-in_white next nok w within) sees.next
 
-    at_end : CameTo T is_end s v (n.SpaceOrTab white.After) wi
+    at_end : CameTo T is_end s v (n.SpaceOrTab white.After) ended
     at_end =
-        then-stays T is_end s v (n.SpaceOrTab white.Inside) (n.SpaceOrTab white.After) (reading wh) wi behind_space
-        (has_white white.Inside (reading wh) (Retry (n.SpaceOrTab white.After)) wi
-        (ap (λ (x : Bool). inside_code (reading wh) (x && nat_lt 1 4)) sees.dark)) refl in-wg refl refl
+        then-stays T is_end s v (n.SpaceOrTab white.Inside) (n.SpaceOrTab white.After) (reading took) ended at_space
+        (has_white white.Inside (reading took) (Retry (n.SpaceOrTab white.After)) ended
+        (ap (λ (x : Bool). inside_code (reading took) (x && nat_lt 1 4)) sees.dark)) refl
+        (within-in_white next nok w within) refl refl
 
-    at_padding : CameTo T is_end s v (n.ListItem its.WhitespaceAfter) wk
+-- An attempt at an item takes it, and sees what is after it.
+pub bullet-run : (T : Step) (is_end : Bool) (s : State) (v : World) (next : StateName) (nok : State) (w : World) →
+    HasItem T → HasWhite T → CameTo T is_end s v (n.ListItem its.Start) (tried w (Next next) nok) →
+    w.current ≡ looks w → Within w → IsPlainBullet w → CameTo T is_end s v next (bulleted w)
+bullet-run T is_end s v next nok w has_item has_white came seen within plain =
+    then-holds T is_end s v (n.ListItem its.After) next after_padding done (item_frame next nok w) w.frames at_after
+    (has_item its.After after_padding Ok done refl) refl (within-filled next nok w within) refl refl refl within sees.next
+  where
+    sees : SeesBullet w
+    sees = sees-bullet w plain
+
+    behind_padding : World
+    behind_padding = padded next nok w
+
+    after_padding : World
+    after_padding = filled next nok w
+
+    done : World
+    done = (item.after_code after_padding false false).world
+
+    at_padding : CameTo T is_end s v (n.ListItem its.WhitespaceAfter) behind_padding
     at_padding =
-        then-holds T is_end s v (n.SpaceOrTab white.After) (n.ListItem its.WhitespaceAfter) wi wj h (g ∷ f ∷ w.frames)
-        at_end (has_white white.After wi Ok wj refl) refl in-wi refl refl refl in-we sees.next
+        space-run T is_end s v next nok w has_white
+        (padding-run T is_end s v next nok w has_item
+        (marker-run T is_end s v next nok w has_item came seen within plain) within plain) within plain
 
-    at_after : CameTo T is_end s v (n.ListItem its.After) filled
+    at_after : CameTo T is_end s v (n.ListItem its.After) after_padding
     at_after =
-        then-holds T is_end s v (n.ListItem its.WhitespaceAfter) (n.ListItem its.After) wk wk g (f ∷ w.frames)
-        at_padding
-        (has_item its.WhitespaceAfter wk Ok wk (ap (item.whitespace_after_code wk) sees.dark)) refl in-wk refl refl refl
-        in-wd sees.next
+        then-holds T is_end s v (n.ListItem its.WhitespaceAfter) (n.ListItem its.After) behind_padding behind_padding
+        (padding_frame next nok w) (item_frame next nok w ∷ w.frames) at_padding
+        (has_item its.WhitespaceAfter behind_padding Ok behind_padding
+        (ap (item.whitespace_after_code behind_padding) sees.dark)) refl (within-padded next nok w within) refl refl refl
+        (within-behind_marker next nok w within) sees.next

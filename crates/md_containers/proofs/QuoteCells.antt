@@ -11,14 +11,14 @@ use Rattle.md_engine.specs.Meaning.{Accepts, Cell, Here, Refuses}
 use Rattle.md_containers.specs.QuoteRule.{at_marker, behind_end, behind_events, behind_marker, behind_rest, has_marker}
 use Rattle.md_containers.specs.QuoteRule.{indent_events, marker_end, marker_events, marker_rest, prefix_at, prefix_end}
 use Rattle.md_containers.specs.QuoteRule.{prefix_events, prefix_rest, quote_at, takes_prefix}
-use Rattle.md_containers.proofs.QuoteSteps.{quote-off, quote-on}
+use Rattle.md_containers.proofs.QuoteMeaning.{quote-off, quote-on}
 use Rattle.md_seam.specs.Ahead.{begins_white, white_end, white_rest}
 use Rattle.md_seam.specs.Events.Nested.{enter, exit, pair}
-use Rattle.md_definition.specs.Rest.{is_white}
+use Rattle.md_meaning.specs.Rest.{is_white}
 use Rattle.md_seam.specs.Spaces.{IsRest, small_indent}
 use Rattle.md_seam.proofs.AheadLemmas.{none-end, none-rest}
 use Rattle.md_seam.proofs.RestCells.{white-length}
-use Rattle.md_seam.proofs.SpacesGoods.{rest-calm}
+use Rattle.md_seam.proofs.SpacesTermination.{rest-calm}
 
 -- What is left is shorter.
 

@@ -5,7 +5,7 @@ use Rattle.md_engine.specs.Meaning.{Cell, Here}
 use Rattle.md_containers.specs.QuoteRule.{at_marker, behind_marker, prefix_at, quote_at}
 use Rattle.md_containers.proofs.Shorter.{Shortens, cond-shortens}
 use Rattle.md_seam.specs.Ahead.{begins_white}
-use Rattle.md_definition.specs.Rest.{is_white}
+use Rattle.md_meaning.specs.Rest.{is_white}
 use Rattle.md_seam.specs.Spaces.{small_indent}
 use Rattle.md_seam.proofs.RestCells.{white-length}
 

@@ -5,7 +5,7 @@ use Rattle.md_engine.specs.declared.configuration.ParseOptions.{ParseOptions}
 use Rattle.md_engine.specs.declared.event.Name.{Name}
 use Rattle.md_engine.specs.declared.tokenizer.Scratch.{Scratch}
 use Rattle.md_engine.specs.Meaning.{Cell, Here, Outcome, Refuses}
-use Rattle.md_definition.specs.Rest.{is_white}
+use Rattle.md_meaning.specs.Rest.{is_white}
 use Rattle.md_leaves.specs.LeafStart.{entered_here, start_at}
 use Rattle.md_leaves.proofs.LeafStart.{at-none, at-off, at-white}
 use Rattle.md_seam.specs.Ahead.{begins_white, white_rest}
@@ -13,8 +13,8 @@ use Rattle.md_seam.specs.Look.{first_seen, seen_behind}
 use Rattle.md_seam.specs.Spaces.{IsRest, small_indent}
 use Rattle.md_seam.proofs.AheadLemmas.{none-rest}
 use Rattle.md_seam.proofs.LookLemmas.{rest-begins}
-use Rattle.md_seam.proofs.SpacesGoods.{rest-calm}
-use Rattle.md_seam.proofs.WhiteSteps.{behind_white}
+use Rattle.md_seam.proofs.SpacesTermination.{rest-calm}
+use Rattle.md_seam.proofs.WhiteMeaning.{behind_white}
 
 -- what is left behind the indent refuses where such a byte, or whitespace, stands first
 pub start-looked : (name : Name) (on : Bool) (behind : List Cell → Here → Outcome) (may : ℕ → Bool)

@@ -13,12 +13,12 @@ use Rattle.md_engine.specs.declared.state.Name.TheVariants as n
 use Rattle.md_engine.specs.declared.state.State.TheVariants.{Ok, Nok, Next, Retry}
 use Rattle.md_engine.specs.declared.state.gfm_footnote_definition.State.{State as FootnoteState}
 use Rattle.md_engine.specs.declared.state.gfm_footnote_definition.State.TheVariants as its
-use Rattle.md_engine.specs.Scheme.{After, Ends, Rank, Scheme, Spot, ranked}
+use Rattle.md_engine.specs.Scheme.{After, Ends, Rank, Scheme, Position, ranked}
 use Rattle.md_engine.specs.World.{Flags, World}
 use Rattle.md_containers.specs.Item.{without_size}
-use Rattle.md_definition.specs.Ascii.{backslash, caret, colon, left_bracket, right_bracket}
-use Rattle.md_definition.specs.Containers.{is_label_mark}
-use Rattle.md_definition.specs.Rest.{is_white}
+use Rattle.md_meaning.specs.Ascii.{backslash, caret, colon, left_bracket, right_bracket}
+use Rattle.md_meaning.specs.Containers.{is_label_mark}
+use Rattle.md_meaning.specs.Rest.{is_white}
 use Rattle.md_leaves.specs.LeafStart as leaf
 use Rattle.md_seam.specs.Spaces.{IsRest, any_size, is_current, later_ready, rest_ready, sees_white}
 use Rattle.md_seam.specs.Spaces.{white_then}
@@ -166,19 +166,19 @@ footnote_transition its.WhitespaceAfter w = whitespace_after_transition w
 -- Readiness.
 
 -- in the label the bytes of it that were read are counted, of which there are not too many
-pub record IsInLabel (x : Spot) : Type 0 where
+pub record IsInLabel (x : Position) : Type 0 where
   pub size : x.scratch.size ≤ most
   pub rest : IsRest (without_size x.scratch)
 
 -- it ends behind `[`, and so behind the point where it begins
-abbrev pub footnote_ready : StateName → Spot → After → Type 0
+abbrev pub footnote_ready : StateName → Position → After → Type 0
 footnote_ready (n.GfmFootnoteDefinition its.LabelInside) x K = IsInLabel x × Ends IsRest IsRest x K
 footnote_ready (n.GfmFootnoteDefinition its.LabelEscape) x K = IsInLabel x × Ends IsRest IsRest x K
 footnote_ready (n.GfmFootnoteDefinition its.Start) x K = later_ready x K
 footnote_ready (n.GfmFootnoteDefinition its.LabelBefore) x K = later_ready x K
 footnote_ready _ x K = rest_ready x K
 
-abbrev pub footnote_rank : StateName → Spot → Rank
+abbrev pub footnote_rank : StateName → Position → Rank
 footnote_rank (n.GfmFootnoteDefinition its.Start) x = ranked 4 refl
 footnote_rank (n.GfmFootnoteDefinition its.LabelEscape) x = ranked 2 refl
 footnote_rank (n.GfmFootnoteDefinition its.MarkerAfter) x = ranked 3 refl

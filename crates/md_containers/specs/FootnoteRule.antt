@@ -16,8 +16,8 @@ use Rattle.md_engine.specs.Meaning.{Accepts, Behaviour, Cell, Here, Outcome, Ref
 use Rattle.md_containers.specs.Footnote.{breaks_label, footnote_held, label_link, most}
 use Rattle.md_containers.specs.Item.{without_size}
 use Rattle.md_containers.specs.ItemRule.{behind_columns}
-use Rattle.md_definition.specs.Ascii.{backslash, caret, colon, left_bracket, right_bracket}
-use Rattle.md_definition.specs.Containers.{is_label_mark}
+use Rattle.md_meaning.specs.Ascii.{backslash, caret, colon, left_bracket, right_bracket}
+use Rattle.md_meaning.specs.Containers.{is_label_mark}
 use Rattle.md_leaves.specs.LeafStart.{start_at}
 use Rattle.md_seam.specs.Ahead.{HasWhite, begins_white, white_rest}
 use Rattle.md_seam.specs.Events.Nested.{enter, enter_link, exit, pair}

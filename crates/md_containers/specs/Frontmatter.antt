@@ -8,9 +8,9 @@ use Rattle.md_engine.specs.declared.state.frontmatter.State.{State as FrontState
 use Rattle.md_engine.specs.declared.state.frontmatter.State.TheVariants as its
 use Rattle.md_engine.specs.declared.state.State.TheVariants.{Ok, Nok, Next, Retry}
 use Rattle.md_engine.specs.declared.tokenizer.Scratch.{Scratch}
-use Rattle.md_engine.specs.Scheme.{After, Ends, Rank, Scheme, Spot, ranked, seen}
+use Rattle.md_engine.specs.Scheme.{After, Ends, Rank, Scheme, Position, ranked, seen}
 use Rattle.md_engine.specs.World.{World}
-use Rattle.md_definition.specs.Ascii.{hyphen, plus}
+use Rattle.md_meaning.specs.Ascii.{hyphen, plus}
 use Rattle.md_leaves.specs.Heading.{without_size}
 use Rattle.md_seam.specs.Spaces.{IsRest, any_size, ends_line, is_current, rest_ready, sees_white, white_then}
 use Rattle.md_seam.specs.Transition.{Transition, entered, exited, taken, tried}
@@ -180,14 +180,14 @@ front_transition its.After w = after_transition w
 abbrev pub IsMarked : Scratch → Type 0
 IsMarked s = IsRest (cleared s)
 
-abbrev pub in_front : Spot → After → Type 0
+abbrev pub in_front : Position → After → Type 0
 in_front x K = IsMarked x.scratch × Ends IsRest IsRest x K
 
 -- a closing fence keeps the marker
-abbrev pub in_fence : Spot → After → Type 0
+abbrev pub in_fence : Position → After → Type 0
 in_fence x K = IsMarked x.scratch × Ends IsMarked IsMarked x K
 
-abbrev pub front_ready : StateName → Spot → After → Type 0
+abbrev pub front_ready : StateName → Position → After → Type 0
 front_ready (n.Frontmatter its.Start) x K = rest_ready x K
 front_ready (n.Frontmatter its.CloseSequence) x K = in_fence x K
 front_ready (n.Frontmatter its.CloseAfter) x K = in_fence x K
@@ -199,7 +199,7 @@ front_level (n.Frontmatter its.CloseSequence) = 1
 front_level (n.Frontmatter its.CloseAfter) = 1
 front_level _ = 2
 
-abbrev pub front_rank : StateName → Spot → Rank
+abbrev pub front_rank : StateName → Position → Rank
 front_rank (n.Frontmatter its.Start) x = ranked 7 refl
 front_rank (n.Frontmatter its.OpenSequence) x = ranked 4 refl
 front_rank (n.Frontmatter its.OpenAfter) x = ranked 1 refl

@@ -1,9 +1,7 @@
 -- The rule of frontmatter, as what is left of it at each state.
 use Rattle.std.specs.Prelude.{◌≡◌, ℕ, ◌+◌, Bool, true, false, ◌==◌, if◌then◌else◌, List, [], ◌∷◌, ◌++◌}
 use Rattle.md_engine.specs.declared.configuration.ParseOptions.{ParseOptions}
-use Rattle.md_engine.specs.declared.event.Event.{Event}
 use Rattle.md_engine.specs.declared.event.Name.TheVariants as part
-use Rattle.md_engine.specs.declared.event.Point.{Point}
 use Rattle.md_engine.specs.declared.state.Name.TheVariants as n
 use Rattle.md_engine.specs.declared.state.frontmatter.State.{State as FrontState}
 use Rattle.md_engine.specs.declared.state.frontmatter.State.TheVariants as its
@@ -11,7 +9,7 @@ use Rattle.md_engine.specs.declared.tokenizer.Scratch.{Scratch}
 use Rattle.md_engine.specs.Meaning.{Accepts, Behaviour, Cell, Fails, Here, Outcome, Refuses}
 use Rattle.md_engine.specs.World.{Flags}
 use Rattle.md_leaves.specs.Heading.{without_size}
-use Rattle.md_lines.specs.FenceRule.{behind_white_of, is_end, run_end, run_rest, run_size, with_event}
+use Rattle.md_code.specs.FenceRule.{behind_white_of, is_end, run_end, run_rest, run_size, with_event}
 use Rattle.md_seam.specs.Ahead.{HasWhite}
 use Rattle.md_seam.specs.Events.Nested.{enter, exit, pair}
 use Rattle.md_seam.specs.Look.{first_seen}

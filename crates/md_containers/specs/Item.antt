@@ -14,11 +14,11 @@ use Rattle.md_engine.specs.declared.state.thematic_break.State.TheVariants as th
 use Rattle.md_engine.specs.declared.tokenizer.Scratch.{Scratch}
 use Rattle.md_engine.specs.declared.tokenizer.TheConstants.Scratch.{REST}
 use Rattle.md_engine.specs.declared.tokenizer.container.Container.{Container}
-use Rattle.md_engine.specs.Scheme.{After, Ends, EndsLater, Rank, Scheme, Spot, ranked, seen}
+use Rattle.md_engine.specs.Scheme.{After, Ends, EndsLater, Rank, Scheme, Position, ranked, seen}
 use Rattle.md_engine.specs.World.{Flags, World}
 use Rattle.md_containers.specs.Interrupts.{interrupts}
-use Rattle.md_definition.specs.Ascii.{dot, plus, right_parenthesis}
-use Rattle.md_definition.specs.Containers.{is_bullet, is_digit}
+use Rattle.md_meaning.specs.Ascii.{dot, plus, right_parenthesis}
+use Rattle.md_meaning.specs.Containers.{is_bullet, is_digit}
 use Rattle.md_leaves.specs.LeafStart as leaf
 use Rattle.md_seam.specs.Look.{looks_behind, sees_other}
 use Rattle.md_seam.specs.Spaces.{IsRest, asking, calmed, ends_line, later_ready, rest_ready, sees_white, white_then}
@@ -287,11 +287,11 @@ abbrev pub IsFilled : Scratch → Type 0
 IsFilled s = s ≡ record REST { seen = true }
 
 -- an indent that was not begun, and one of which a column was taken
-abbrev pub indent_ready : ℕ → Spot → After → Type 0
+abbrev pub indent_ready : ℕ → Position → After → Type 0
 indent_ready zero x K = later_ready x K
 indent_ready (suc more) x K = IsRest (calmed x.scratch) × Ends IsRest IsRest x K
 
-abbrev pub item_ready : StateName → Spot → After → Type 0
+abbrev pub item_ready : StateName → Position → After → Type 0
 item_ready (n.ListItem its.Value) x K = IsRest (without_size x.scratch) × EndsLater IsRest IsRest x K
 item_ready (n.ListItem its.MarkerAfter) x K = rest_ready x K
 item_ready (n.ListItem its.MarkerAfterFilled) x K = rest_ready x K
@@ -310,7 +310,7 @@ item_level (n.ListItem its.Whitespace) = 1
 item_level (n.ListItem its.WhitespaceAfter) = 1
 item_level _ = 2
 
-abbrev pub item_rank : StateName → Spot → Rank
+abbrev pub item_rank : StateName → Position → Rank
 item_rank (n.ListItem its.Start) x = ranked 15 refl
 item_rank (n.ListItem its.Before) x = ranked 13 refl
 item_rank (n.ListItem its.BeforeUnordered) x = ranked 11 refl

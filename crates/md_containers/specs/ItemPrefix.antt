@@ -11,10 +11,10 @@ use Rattle.md_engine.specs.Meaning.{Accepts, Cell, Here, Outcome, Refuses}
 use Rattle.md_containers.specs.Item.{ends_value, width_here}
 use Rattle.md_containers.specs.ItemRule.{digits_end, digits_rest, digits_size}
 use Rattle.md_containers.specs.QuoteRule.{indent_events}
-use Rattle.md_definition.specs.Containers.{is_bullet, is_digit}
-use Rattle.md_definition.specs.Leaves.{is_rule}
-use Rattle.md_definition.specs.Rest.{is_blank}
-use Rattle.md_definition.specs.State.{Container, InItem}
+use Rattle.md_meaning.specs.Containers.{is_bullet, is_digit}
+use Rattle.md_meaning.specs.Leaves.{is_rule}
+use Rattle.md_meaning.specs.Rest.{is_blank}
+use Rattle.md_meaning.specs.State.{Container, InItem}
 use Rattle.md_seam.specs.Ahead.{begins_white, line_bytes, white_end, white_rest, white_size}
 use Rattle.md_seam.specs.Events.Nested.{enter, exit, pair}
 use Rattle.md_seam.specs.Look.{first_seen}

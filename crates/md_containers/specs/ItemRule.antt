@@ -12,9 +12,9 @@ use Rattle.md_engine.specs.Meaning.{Accepts, Behaviour, Cell, Here, Outcome, Ref
 use Rattle.md_containers.specs.Interrupts.{interrupts}
 use Rattle.md_containers.specs.Item.{ends_value, is_item_marker, item_gone_on, item_held, least_width, unseen}
 use Rattle.md_containers.specs.Item.{without_size}
-use Rattle.md_definition.specs.Containers.{is_bullet, is_digit}
-use Rattle.md_definition.specs.Leaves.{is_rule}
-use Rattle.md_definition.specs.Rest.{is_blank, is_white}
+use Rattle.md_meaning.specs.Containers.{is_bullet, is_digit}
+use Rattle.md_meaning.specs.Leaves.{is_rule}
+use Rattle.md_meaning.specs.Rest.{is_blank, is_white}
 use Rattle.md_leaves.specs.BlankRule.{HasBlank}
 use Rattle.md_leaves.specs.BreakRule.{HasBreak}
 use Rattle.md_leaves.specs.LeafStart.{start_at}

@@ -7,10 +7,10 @@ use Rattle.md_engine.specs.declared.event.Event.{Event}
 use Rattle.md_engine.specs.declared.event.Kind.{Kind}
 use Rattle.md_engine.specs.declared.event.Kind.TheVariants.{Enter, Exit}
 use Rattle.md_engine.specs.declared.event.Point.{Point}
-use Rattle.md_definition.specs.Containers.{is_bullet}
-use Rattle.md_seam.specs.Events.Spelled.{AsDigits, AsFootnoteLabel, AsItemMarker, FootnoteShape, Holds}
-use Rattle.md_seam.specs.Events.Spelled.{IsEnding, IsPrefix, IsQuiet, ItemShape, Opens, OrderedShape}
-use Rattle.md_seam.specs.Events.Spelled.{Purpose, Role, Shape, Tells, UnorderedShape, is_ordered, role}
+use Rattle.md_meaning.specs.Containers.{is_bullet}
+use Rattle.md_seam.specs.Events.Spelled.{AsDigits, AsFootnoteLabel, AsItemMarker, FootnoteShape, ContainerRole}
+use Rattle.md_seam.specs.Events.Spelled.{IsEnding, IsPrefix, IsQuiet, ItemShape, LeafRole, OrderedShape}
+use Rattle.md_seam.specs.Events.Spelled.{Purpose, Role, Shape, TextRole, UnorderedShape, is_ordered, role}
 use Rattle.md_seam.specs.Events.Told.{OfItself, OfLeaf, Told, told_of}
 
 -- `*`, `+`, `-`, `.` and `)` are markers of items (CommonMark 5.2)
@@ -77,9 +77,9 @@ IsOfItself purpose = IsForItself (told_of purpose)
 
 -- what may stand in a leaf block
 abbrev pub IsPart : Role → Type 0
-IsPart (Holds shape) = ⊥
-IsPart (Opens kind) = ⊥
-IsPart (Tells purpose) = IsOfLeaf purpose
+IsPart (ContainerRole shape) = ⊥
+IsPart (LeafRole kind) = ⊥
+IsPart (TextRole purpose) = IsOfLeaf purpose
 IsPart _ = Unit {0}
 
 -- the byte of a marker, which stands at a byte's first column
@@ -97,59 +97,59 @@ Closes (is_item ∷ held) _ = is_item ≡ false
 
 -- What may begin at a point.
 abbrev pub MayBegin : List ℕ → Point → Inner → Role → Type 0
-MayBegin bytes p AmongBlocks (Holds shape) = IsHolder shape
-MayBegin bytes p AmongBlocks (Opens kind) = Unit {0}
-MayBegin bytes p AmongBlocks (Tells purpose) = IsOfItself purpose
+MayBegin bytes p AmongBlocks (ContainerRole shape) = IsHolder shape
+MayBegin bytes p AmongBlocks (LeafRole kind) = Unit {0}
+MayBegin bytes p AmongBlocks (TextRole purpose) = IsOfItself purpose
 MayBegin bytes p AmongBlocks role = IsBetween role
 MayBegin bytes p InFront IsQuiet = Unit {0}
-MayBegin bytes p InFront (Tells AsDigits) = Unit {0}
-MayBegin bytes p InFront (Tells AsItemMarker) = IsMarkerAt bytes p
+MayBegin bytes p InFront (TextRole AsDigits) = Unit {0}
+MayBegin bytes p InFront (TextRole AsItemMarker) = IsMarkerAt bytes p
 MayBegin bytes p InFront _ = ⊥
 MayBegin bytes p (InMarker q) role = ⊥
-MayBegin bytes p InLabel (Tells AsFootnoteLabel) = Unit {0}
+MayBegin bytes p InLabel (TextRole AsFootnoteLabel) = Unit {0}
 MayBegin bytes p InLabel role = IsBetween role
 MayBegin bytes p InLeaf role = IsPart role
 MayBegin bytes p InText role = IsBetween role
 
 -- What may end at a point.
 abbrev pub MayEnd : List Bool → Point → Inner → Role → Type 0
-MayEnd held p AmongBlocks (Holds shape) = Closes held shape
+MayEnd held p AmongBlocks (ContainerRole shape) = Closes held shape
 MayEnd held p AmongBlocks role = IsBetween role
 MayEnd held p InFront IsQuiet = Unit {0}
-MayEnd held p InFront (Tells AsDigits) = Unit {0}
+MayEnd held p InFront (TextRole AsDigits) = Unit {0}
 MayEnd held p InFront _ = ⊥
-MayEnd held p (InMarker q) (Tells AsItemMarker) = p.index ≡ q.index + 1
+MayEnd held p (InMarker q) (TextRole AsItemMarker) = p.index ≡ q.index + 1
 MayEnd held p (InMarker q) _ = ⊥
-MayEnd held p InLabel (Tells AsFootnoteLabel) = Unit {0}
+MayEnd held p InLabel (TextRole AsFootnoteLabel) = Unit {0}
 MayEnd held p InLabel role = IsBetween role
-MayEnd held p InLeaf (Opens kind) = Unit {0}
+MayEnd held p InLeaf (LeafRole kind) = Unit {0}
 MayEnd held p InLeaf role = IsPart role
-MayEnd held p InText (Tells purpose) = IsOfItself purpose
+MayEnd held p InText (TextRole purpose) = IsOfItself purpose
 MayEnd held p InText role = IsBetween role
 
 -- what is innermost behind a begin,
 abbrev pub inner_in : Point → Inner → Role → Inner
-inner_in p AmongBlocks (Holds (ItemShape marker digits)) = InFront
-inner_in p AmongBlocks (Holds (FootnoteShape label)) = InLabel
-inner_in p AmongBlocks (Opens kind) = InLeaf
-inner_in p AmongBlocks (Tells purpose) = InText
-inner_in p InFront (Tells AsItemMarker) = InMarker p
+inner_in p AmongBlocks (ContainerRole (ItemShape marker digits)) = InFront
+inner_in p AmongBlocks (ContainerRole (FootnoteShape label)) = InLabel
+inner_in p AmongBlocks (LeafRole kind) = InLeaf
+inner_in p AmongBlocks (TextRole purpose) = InText
+inner_in p InFront (TextRole AsItemMarker) = InMarker p
 inner_in p inner role = inner
 
 -- and behind an end
 abbrev pub inner_behind : Inner → Role → Inner
-inner_behind (InMarker q) (Tells AsItemMarker) = AmongBlocks
-inner_behind InLabel (Tells AsFootnoteLabel) = AmongBlocks
-inner_behind InLeaf (Opens kind) = AmongBlocks
-inner_behind InText (Tells purpose) = AmongBlocks
+inner_behind (InMarker q) (TextRole AsItemMarker) = AmongBlocks
+inner_behind InLabel (TextRole AsFootnoteLabel) = AmongBlocks
+inner_behind InLeaf (LeafRole kind) = AmongBlocks
+inner_behind InText (TextRole purpose) = AmongBlocks
 inner_behind inner role = inner
 
 abbrev pub held_in : List Bool → Role → List Bool
-held_in held (Holds shape) = is_item_shape shape ∷ held
+held_in held (ContainerRole shape) = is_item_shape shape ∷ held
 held_in held _ = held
 
 abbrev pub held_behind : List Bool → Role → List Bool
-held_behind held (Holds shape) = drop 1 held
+held_behind held (ContainerRole shape) = drop 1 held
 held_behind held _ = held
 
 abbrev pub MayStand : List ℕ → Site → Kind → Role → Point → Type 0

@@ -14,16 +14,16 @@ use Rattle.md_engine.specs.declared.event.Name.TheVariants as n
 use Rattle.md_engine.specs.declared.event.Point.{Point}
 use Rattle.md_seam.specs.Events.Blocks.{is_block}
 use Rattle.md_seam.specs.Events.Nested.{enter, exit, is_enter}
-use Rattle.md_seam.specs.Events.Spelled.{AsItemMarker, Holds, ItemShape, Role, Tells, is_ordered, role}
+use Rattle.md_seam.specs.Events.Spelled.{AsItemMarker, ContainerRole, ItemShape, Role, TextRole, is_ordered, role}
 
 -- Roles.
 
 abbrev pub is_item : Role → Bool
-is_item (Holds (ItemShape marker digits)) = true
+is_item (ContainerRole (ItemShape marker digits)) = true
 is_item _ = false
 
 abbrev pub is_marker : Role → Bool
-is_marker (Tells AsItemMarker) = true
+is_marker (TextRole AsItemMarker) = true
 is_marker _ = false
 
 -- What stands ahead.

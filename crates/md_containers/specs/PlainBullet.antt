@@ -4,8 +4,8 @@ use Rattle.md_engine.specs.declared.event.Name.TheVariants.{ListItem, ListItemMa
 use Rattle.md_engine.specs.Place.{is_ending}
 use Rattle.md_engine.specs.Run.{reading}
 use Rattle.md_engine.specs.World.{World}
-use Rattle.md_definition.specs.Containers.{is_bullet}
-use Rattle.md_definition.specs.Rest.{is_white}
+use Rattle.md_meaning.specs.Containers.{is_bullet}
+use Rattle.md_meaning.specs.Rest.{is_white}
 use Rattle.md_containers.specs.Item.{item_held, unseen}
 use Rattle.md_seam.specs.Spaces.{calmed}
 use Rattle.md_seam.specs.Transition.{entered, exited, taken}

@@ -6,7 +6,7 @@ use Rattle.md_engine.specs.declared.state.Name.TheVariants as n
 use Rattle.md_engine.specs.declared.state.block_quote.State.{State as QuoteState}
 use Rattle.md_engine.specs.declared.state.block_quote.State.TheVariants as its
 use Rattle.md_engine.specs.declared.state.State.TheVariants.{Ok, Nok, Next, Retry}
-use Rattle.md_engine.specs.Scheme.{After, Rank, Scheme, Spot, ranked}
+use Rattle.md_engine.specs.Scheme.{After, Rank, Scheme, Position, ranked}
 use Rattle.md_engine.specs.World.{World}
 use Rattle.md_seam.specs.Spaces.{is_current, later_ready, rest_ready, sees_white, small_indent, white_then}
 use Rattle.md_seam.specs.Transition.{Transition, entered, exited, taken}
@@ -62,7 +62,7 @@ quote_transition its.ContStart w = cont_start_transition w
 quote_transition its.ContBefore w = cont_before_transition w
 quote_transition its.ContAfter w = cont_after_transition w
 
-abbrev pub quote_rank : StateName → Spot → Rank
+abbrev pub quote_rank : StateName → Position → Rank
 quote_rank (n.BlockQuote its.Start) x = ranked 6 refl
 quote_rank (n.BlockQuote its.ContStart) x = ranked 5 refl
 quote_rank (n.BlockQuote its.ContBefore) x = ranked 3 refl
@@ -73,7 +73,7 @@ quote_tries (n.BlockQuote its.ContBefore) = ranked 4 refl
 quote_tries _ = ranked 1 refl
 
 -- the prefix ends behind `>`, and so behind the point where it begins
-abbrev pub quote_ready : StateName → Spot → After → Type 0
+abbrev pub quote_ready : StateName → Position → After → Type 0
 quote_ready (n.BlockQuote its.ContAfter) x K = rest_ready x K
 quote_ready _ x K = later_ready x K
 

@@ -353,7 +353,7 @@ pub fn after(tokenizer: &mut Tokenizer) -> State
 }
 
 /// What a state of frontmatter only takes.
-pub fn stays(state: FrontState) -> Option<Stay>
+pub fn takes_at_once(state: FrontState) -> Option<Stay>
     ensures { IfSome result (λ stay. TakesEach stay (StateName.Frontmatter state) (front_transition state)) }
 {
     match state {

@@ -24,7 +24,7 @@ ghost use Rattle.md_containers.specs.Footnote.{label_escape_transition, label_in
 ghost use Rattle.md_containers.specs.Footnote.{marker_after_transition};
 ghost use Rattle.md_containers.specs.Footnote.{may_begin, refused, start_transition, taken_as};
 ghost use Rattle.md_containers.specs.Footnote.{whitespace_after_transition};
-ghost use Rattle.md_definition.specs.Containers.{is_label_mark};
+ghost use Rattle.md_meaning.specs.Containers.{is_label_mark};
 ghost use Rattle.md_seam.specs.Look.{may_with};
 ghost use Rattle.md_seam.specs.Transition.{IsAt, NeedsNothing};
 

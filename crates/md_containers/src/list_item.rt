@@ -13,7 +13,7 @@
 // at most the width, unless it follows a first line that was blank. The states that read its indent read that of a
 // footnote definition too.
 
-ghost use Rattle.std.specs.Prelude.{◌≡◌, ◌≢◌, Bool, IfSome};
+ghost use Rattle.std.specs.Prelude.{◌≡◌, ◌≢◌, IfSome};
 ghost use Rattle.md_engine.specs.World.{world};
 ghost use Rattle.md_engine.specs.declared.state.Name.{Name as StateName};
 ghost use Rattle.md_engine.specs.declared.state.State.{State};
@@ -21,11 +21,11 @@ ghost use Rattle.md_engine.specs.declared.state.list_item.State.{State as ItemSt
 ghost use Rattle.md_containers.specs.Item.{after_transition, at_least_one, before_ordered_transition, before_transition};
 ghost use Rattle.md_containers.specs.Item.{before_unordered_transition, blank_code, cont_blank_transition};
 ghost use Rattle.md_containers.specs.Item.{cont_filled_transition, cont_start_transition, ends_value, filled_transition};
-ghost use Rattle.md_containers.specs.Item.{indent_code, inside_transition, is_item_marker, item_transition, least_width};
+ghost use Rattle.md_containers.specs.Item.{indent_code, inside_transition, item_transition, least_width};
 ghost use Rattle.md_containers.specs.Item.{marker_after_transition, marker_transition, may_begin, may_break};
 ghost use Rattle.md_containers.specs.Item.{prefix_other_transition, start_transition, value_transition};
 ghost use Rattle.md_containers.specs.Item.{whitespace_after_transition, whitespace_transition, width_here};
-ghost use Rattle.md_definition.specs.Containers.{is_bullet, is_digit};
+ghost use Rattle.md_meaning.specs.Containers.{is_bullet, is_digit};
 ghost use Rattle.md_seam.specs.Look.{looks_behind, may_with};
 ghost use Rattle.md_seam.specs.Spaces.{sees_white};
 ghost use Rattle.md_seam.specs.Stays.{TakesEach};
@@ -516,7 +516,7 @@ pub fn cont_filled(tokenizer: &mut Tokenizer) -> State
 }
 
 /// What a state of an item only takes and counts.
-pub fn stays(state: ItemState) -> Option<Stay>
+pub fn takes_at_once(state: ItemState) -> Option<Stay>
     ensures { IfSome result (λ stay. TakesEach stay (StateName.ListItem state) (item_transition state)) }
 {
     match state {

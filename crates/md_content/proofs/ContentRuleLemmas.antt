@@ -11,9 +11,9 @@ use Rattle.md_content.specs.ContentRule.{behind_definition, content_by, content_
 use Rattle.md_content.specs.Definitions.{may_define}
 use Rattle.md_content.specs.ParagraphRule.{paragraph_over}
 use Rattle.md_content.proofs.DefinitionTakes.{DefinitionTakes, definition-takes}
-use Rattle.md_parts.specs.DefinitionRule.{DefinitionParts, definition_end, definition_events, definition_parts}
-use Rattle.md_parts.specs.DefinitionRule.{definition_rest, parts_labelled}
-use Rattle.md_parts.specs.LabelRule.{label_parts}
+use Rattle.md_link_definitions.specs.DefinitionRule.{DefinitionParts, definition_end, definition_events, definition_parts}
+use Rattle.md_link_definitions.specs.DefinitionRule.{definition_rest, parts_labelled}
+use Rattle.md_link_definitions.specs.LabelRule.{label_parts}
 use Rattle.md_seam.specs.Events.Nested.{pair}
 use Rattle.md_seam.specs.Look.{first_seen}
 use Rattle.md_seam.specs.Spaces.{any_size}
@@ -93,10 +93,3 @@ content-unfolds options [] p =
 content-unfolds options (c ∷ cs) p =
     by-same options (content_of options (length cs)) (content_over options) (c ∷ cs) p
     (λ rest r fewer. content-enough options (length cs) (length rest) rest r (omega (arith, fewer)) (omega arith))
-
--- where definitions are off it is a paragraph
-pub content-off : (options : ParseOptions) (cells : List Cell) (p : Point) → options.constructs.definition ≡ false →
-    content_over options cells p ≡ paragraph_over cells p
-content-off options cells p off =
-    content-unfolds options cells p
-    ∙ ap (λ (x : Bool). content_by (cond x (definition_parts cells) None) (content_over options) cells p) off

@@ -11,7 +11,7 @@ use Rattle.md_engine.specs.World.{World, reads_to}
 use Rattle.md_engine.proofs.Standing.{runs-mean}
 use Rattle.md_engine.proofs.TextFeed.{flush-means, text-follows}
 use Rattle.md_content.specs.States.{ContentStep, content_behaves, content_scheme}
-use Rattle.md_content.proofs.States.{content_means, content_stands}
+use Rattle.md_content.proofs.States.{content_table_means, content_stands}
 
 -- a push keeps what a tokenizer comes to, with the text up to where it will be read in all, and stands
 pub content_push : (s s' : State) (w w' : World) (limit total : ℕ) → total < 2 ^ 61 → limit ≤ total →
@@ -23,7 +23,7 @@ pub content_push : (s s' : State) (w w' : World) (limit total : ℕ) → total <
 content_push s s' w w' limit total small le at run =
     runs-mean ContentStep content_scheme (content_behaves w.setting.options) false
     (text_feed (reads_to w total).setting) s (reads_to w limit)
-    (content_means (reads_to w limit).setting false) content_stands
+    (content_table_means (reads_to w limit).setting false) content_stands
     (text-follows (reads_to w total).setting limit false small le (λ e. cc)) at s' w' run
 
 -- a flush comes to where the tokenizer ends
@@ -34,7 +34,7 @@ pub content_flush : (R : Resolution) (s : State) (w : World) (resolve : Bool) (f
     goes (content_behaves w.setting.options) f.end (text_feed w.setting f.at.point) (here f.at)
 content_flush R s w resolve found new small at f =
     flush-means ContentStep R content_scheme (content_behaves w.setting.options)
-    (text_feed w.setting) s w resolve found new (content_means w.setting true) content_stands
+    (text_feed w.setting) s w resolve found new (content_table_means w.setting true) content_stands
     (text-follows w.setting w.setting.limit true small (omega arith) (λ e. refl)) at f
 
 -- one that accepts ends with these events

@@ -2,24 +2,24 @@
 use Rattle.std.proofs.Common.{◌≡◌, ℕ, zero, suc, ◌<◌, ◌≤◌, Bool, true, false, cond, nat_eq, List, [], ◌∷◌, ◌++◌, length}
 use Rattle.std.proofs.Common.{take, drop, Option, Some, None, refl, sym, ◌∙◌, ap, arith, subst, append_assoc}
 use Rattle.std.proofs.lemmas.List.{length-append, take-append-drop}
-use Rattle.md_definition.specs.Ascii.{colon}
-use Rattle.md_definition.specs.Definition as found
-use Rattle.md_definition.specs.Definition.{Destination, title_closer}
-use Rattle.md_definition.specs.Rest.{is_white}
+use Rattle.md_meaning.specs.Ascii.{colon}
+use Rattle.md_meaning.specs.Definition as found
+use Rattle.md_meaning.specs.Definition.{Destination, title_closer}
+use Rattle.md_meaning.specs.Rest.{is_white}
 use Rattle.md_engine.specs.declared.event.Point.{Point}
 use Rattle.md_engine.specs.Meaning.{Cell}
-use Rattle.md_parts.specs.Chunks.{before_mark, from_mark}
-use Rattle.md_parts.specs.DefinitionRule.{DefinitionParts, definition_end, definition_parts, definition_rest}
-use Rattle.md_parts.specs.DefinitionRule.{destination_begin, destination_end, destination_rest, ends_behind, lone}
-use Rattle.md_parts.specs.DefinitionRule.{parts_behind, parts_end, parts_labelled, parts_rest, parts_with, title_behind}
-use Rattle.md_parts.specs.DefinitionRule.{titled_end, titled_rest}
-use Rattle.md_parts.specs.DestinationRule.{begins_literal, destination_size}
-use Rattle.md_parts.specs.GapRule.{begins_gap, ending_end, ending_rest, gap_end, gap_rest}
-use Rattle.md_parts.specs.Label.{is_bracket}
-use Rattle.md_parts.specs.LabelRule.{LabelParts, label_from, label_parts}
-use Rattle.md_parts.specs.Title.{is_mark}
-use Rattle.md_parts.specs.TitleRule.{TitleParts, parts_closed, parts_from, title_parts}
-use Rattle.md_parts.proofs.LineCells.{mark-split}
+use Rattle.md_link_definitions.specs.Chunks.{before_mark, from_mark}
+use Rattle.md_link_definitions.specs.DefinitionRule.{DefinitionParts, definition_end, definition_parts, definition_rest}
+use Rattle.md_link_definitions.specs.DefinitionRule.{destination_begin, destination_end, destination_rest, ends_behind, lone}
+use Rattle.md_link_definitions.specs.DefinitionRule.{parts_behind, parts_end, parts_labelled, parts_rest, parts_with, title_behind}
+use Rattle.md_link_definitions.specs.DefinitionRule.{titled_end, titled_rest}
+use Rattle.md_link_definitions.specs.DestinationRule.{begins_literal, destination_size}
+use Rattle.md_link_definitions.specs.GapRule.{begins_gap, ending_end, ending_rest, gap_end, gap_rest}
+use Rattle.md_link_definitions.specs.Label.{is_bracket}
+use Rattle.md_link_definitions.specs.LabelRule.{LabelParts, label_from, label_parts}
+use Rattle.md_link_definitions.specs.Title.{is_mark}
+use Rattle.md_link_definitions.specs.TitleRule.{TitleParts, parts_closed, parts_from, title_parts}
+use Rattle.md_link_definitions.proofs.LineCells.{mark-split}
 use Rattle.md_seam.specs.Ahead.{line_bytes, point_after, white_end, white_rest}
 use Rattle.md_seam.specs.Look.{first_seen}
 use Rattle.md_seam.specs.Spaces.{any_size, ends_line}

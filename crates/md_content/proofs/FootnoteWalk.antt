@@ -5,7 +5,7 @@ use Rattle.std.specs.List.{prefix_len}
 use Rattle.md_engine.specs.declared.event.Event.{Event}
 use Rattle.md_engine.specs.declared.event.Kind.{Kind}
 use Rattle.md_engine.specs.declared.event.Kind.TheVariants.{Enter, Exit}
-use Rattle.md_definition.specs.Label.{normal_form}
+use Rattle.md_meaning.specs.Label.{normal_form}
 use Rattle.md_content.specs.FootnoteLabels.{footnote_labels_from, is_footnote_label}
 use Rattle.md_seam.specs.Events.Nested.{is_enter, is_exit}
 use Rattle.md_seam.specs.Events.Spelled.{byte_at}

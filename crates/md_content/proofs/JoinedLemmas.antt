@@ -294,17 +294,6 @@ goes-none (e ∷ f ∷ es) n is le = go (is_line_ending e.name) (behind-none es 
     go true h = h
     go false h = refl
 
-pub goes-not : (events : List Event) (d : Event) → is_line_ending (get_or events 0 d).name ≡ false →
-    goes_on events ≡ false
-goes-not [] d other = refl
-goes-not (e ∷ []) d other = refl
-goes-not (e ∷ f ∷ es) d other = ap (λ x. x && content_behind es) other
-
-pub goes-short : (events : List Event) → length events < 2 → goes_on events ≡ false
-goes-short [] less = refl
-goes-short (e ∷ []) less = refl
-goes-short (e ∷ f ∷ es) less = absurd (omega arith)
-
 -- an event that is joined with none
 pub joined-past : (events : List Event) (at : ℕ) (d : Event) → at < length events →
     (is_exit (get_or events at d).kind && is_content (get_or events at d).name && goes_on (drop (at + 1) events)) ≡

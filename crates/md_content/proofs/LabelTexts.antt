@@ -1,15 +1,14 @@
 -- The words of a text are those of its lines.
 use Rattle.std.proofs.Common.{◌≡◌, ℕ, Bool, true, false, not, ◌&&◌, ◌||◌, nat_eq, List, [], ◌∷◌, ◌++◌, drop}
-use Rattle.std.proofs.Common.{refl, sym, ◌∙◌, ap, ap₂, append-nil}
+use Rattle.std.proofs.Common.{refl, sym, ◌∙◌, ap, append-nil}
 use Rattle.std.specs.Prelude.{filter, flat_map}
 use Rattle.std.specs.List.{onto_first, slice_split}
-use Rattle.md_definition.specs.Bytes.{is_end}
-use Rattle.md_definition.specs.Label.{normal_form, words}
-use Rattle.md_definition.specs.Lines.{begins_with, ends_line, is_ending}
-use Rattle.md_definition.specs.Rest.{is_white, trim_start}
-use Rattle.md_definition.specs.Texts.{split_lines, trim_each, trim_further}
+use Rattle.md_meaning.specs.Bytes.{is_end}
+use Rattle.md_meaning.specs.Label.{normal_form, words}
+use Rattle.md_meaning.specs.Lines.{begins_with, ends_line, is_ending}
+use Rattle.md_meaning.specs.Rest.{is_white}
+use Rattle.md_meaning.specs.Texts.{split_lines}
 use Rattle.md_content.specs.LabelTexts.{on_one_line}
-use Rattle.md_seam.proofs.RestLines.{trim-white}
 
 -- those of the pieces that are no blank
 abbrev filled : List (List ℕ) → List (List ℕ)
@@ -171,30 +170,3 @@ normal-on_one_line label =
     normal-by (on_one_line label ∷ []) (split_lines label)
     (append-nil (words (on_one_line label))
     ∙ words-of (slice_split is_white (on_one_line label)) (split_lines label) (pieces label))
-
-trimmed-other : (b : ℕ) (bs : List ℕ) → is_white b ≡ false → trim_start (b ∷ bs) ≡ b ∷ bs
-trimmed-other b bs e = rw e refl
-
-words-white : (b : ℕ) (bs : List ℕ) → is_white b ≡ true → words (b ∷ bs) ≡ words bs
-words-white b bs e = rw e refl
-
--- Whitespace in front of a line is in no word.
-pub words-trimmed : (line : List ℕ) → words (trim_start line) ≡ words line
-words-trimmed [] = refl
-words-trimmed (b ∷ bs) = go (is_white b) refl (words-trimmed bs)
-  where
-    go : (x : Bool) → is_white b ≡ x → words (trim_start bs) ≡ words bs →
-        words (trim_start (b ∷ bs)) ≡ words (b ∷ bs)
-    go true e more = ap words (trim-white b bs e) ∙ more ∙ sym (words-white b bs e)
-    go false e more = ap words (trimmed-other b bs e)
-
--- So a label has the normal form of its lines also where they are trimmed, as those behind its first are.
-pub normal-trimmed : (lines : List (List ℕ)) → normal_form (trim_further lines) ≡ normal_form lines
-normal-trimmed [] = refl
-normal-trimmed (line ∷ lines) =
-    normal-by (line ∷ trim_each lines) (line ∷ lines)
-    (ap (λ (l : List (List ℕ)). words line ++ l) (each lines))
-  where
-    each : (ls : List (List ℕ)) → flat_map words (trim_each ls) ≡ flat_map words ls
-    each [] = refl
-    each (l ∷ ls) = ap₂ (λ (x y : List (List ℕ)). x ++ y) (words-trimmed l) (each ls)

@@ -3,67 +3,24 @@ use Rattle.std.proofs.Common.{◌≡◌, ℕ, suc, ◌+◌, ◌<◌, ◌≤◌, 
 use Rattle.std.proofs.Common.{get_or, drop, refl, sym, ◌∙◌, ap, add-one, append_assoc, append-nil, drop-cons, arith}
 use Rattle.std.proofs.Common.{length-drop}
 use Rattle.std.proofs.Common.{Bool, cond}
-use Rattle.std.proofs.lemmas.List.{drop-drop, drop_all, map-append}
+use Rattle.std.proofs.lemmas.List.{drop-drop}
 use Rattle.std.specs.List.{position_or_len}
 use Rattle.std.specs.Prelude.{not}
-use Rattle.std.specs.Prelude.{slice_range}
-use Rattle.md_definition.specs.Label.{normal_form}
-use Rattle.md_definition.specs.Texts.{split_lines}
+use Rattle.md_meaning.specs.Label.{normal_form}
+use Rattle.md_meaning.specs.Texts.{split_lines}
 use Rattle.md_engine.specs.declared.event.Event.{Event}
-use Rattle.md_content.specs.LabelTexts.{on_one_line, unended}
+use Rattle.md_content.specs.LabelTexts.{on_one_line}
 use Rattle.md_content.specs.Labels.{begins_label, is_label, label_text, labels_in}
 use Rattle.md_content.proofs.LabelTexts.{normal-on_one_line}
-use Rattle.md_seam.specs.Events.Nested.{is_enter, is_exit}
-use Rattle.md_seam.specs.Events.Tiles.{is_data}
+use Rattle.md_seam.specs.Events.Nested.{is_enter}
 
 -- Bytes on one line.
 
--- one more byte is added
-pub byte-added : (text first bytes : List ℕ) (i : ℕ) → i < length bytes →
-    text ++ on_one_line (drop i bytes) ≡ first →
-    (text ++ unended (get_or bytes i 0) ∷ []) ++ on_one_line (drop (i + 1) bytes) ≡ first
-byte-added text first bytes i lt so_far =
-    append_assoc text (unended (get_or bytes i 0) ∷ []) (on_one_line (drop (i + 1) bytes))
-    ∙ ap (λ (j : ℕ). text ++ unended (get_or bytes i 0) ∷ on_one_line (drop j bytes)) (add-one i)
-    ∙ ap (λ (l : List ℕ). text ++ on_one_line l) (sym (drop-cons bytes i 0 lt)) ∙ so_far
-
--- all are
-pub bytes-added : (text first bytes : List ℕ) (i : ℕ) → length bytes ≤ i → text ++ on_one_line (drop i bytes) ≡ first →
-    text ≡ first
-bytes-added text first bytes i le so_far =
-    sym (append-nil text) ∙ ap (λ (l : List ℕ). text ++ on_one_line l) (sym (drop_all i bytes le)) ∙ so_far
-
 -- The text of a label.
-
-two-more : (i : ℕ) → suc (i + 1) ≡ i + 2
-two-more i = omega arith
-
--- two events come first
-two-first : (events : List Event) (i : ℕ) (d : Event) → i + 1 < length events →
-    drop i events ≡ get_or events i d ∷ get_or events (i + 1) d ∷ drop (i + 2) events
-two-first events i d lt =
-    drop-cons events i d (omega arith)
-    ∙ ap (λ (j : ℕ). get_or events i d ∷ drop j events) (sym (add-one i))
-    ∙ ap (λ (l : List Event). get_or events i d ∷ l) (drop-cons events (i + 1) d lt)
-    ∙ ap (λ (j : ℕ). get_or events i d ∷ get_or events (i + 1) d ∷ drop j events) (two-more i)
-
--- and those from the second on
-second-first : (events : List Event) (i : ℕ) (d : Event) → i + 1 < length events →
-    get_or events (i + 1) d ∷ drop (i + 2) events ≡ drop (i + 1) events
-second-first events i d lt =
-    ap (λ (j : ℕ). get_or events (i + 1) d ∷ drop j events) (sym (two-more i)) ∙ sym (drop-cons events (i + 1) d lt)
 
 -- what is read so far, in front of an event
 pub record Reading (bytes : List ℕ) (events : List Event) (i : ℕ) (text : List ℕ) : Type 0 where
   pub so_far : text ++ on_one_line (label_text bytes (drop i events)) ≡ on_one_line (label_text bytes events)
-
--- where the label ends
-pub label-read : (bytes : List ℕ) (events : List Event) (i : ℕ) (d : Event) (text : List ℕ) → i + 1 < length events →
-    is_exit (get_or events i d).kind && is_label (get_or events i d).name ≡ true → Reading bytes events i text →
-    text ≡ on_one_line (label_text bytes events)
-label-read bytes events i d text lt ends r =
-    let none : label_text bytes (drop i events) ≡ [] = ap (label_text bytes) (two-first events i d lt) ∙ rw ends refl in
-    sym (append-nil text) ∙ ap (λ (l : List ℕ). text ++ on_one_line l) (sym none) ∙ r.so_far
 
 -- where the events do
 pub label-cut : (bytes : List ℕ) (events : List Event) (i : ℕ) (text : List ℕ) → length events ≤ i + 1 →
@@ -76,35 +33,6 @@ label-cut bytes events i text le r =
     short [] h = refl
     short (e ∷ []) h = refl
     short (e ∷ f ∷ es) h = absurd (omega arith)
-
--- a chunk that begins here
-pub chunk-read : (bytes : List ℕ) (events : List Event) (i : ℕ) (d : Event) (text : List ℕ) → i + 1 < length events →
-    is_exit (get_or events i d).kind && is_label (get_or events i d).name ≡ false →
-    is_enter (get_or events i d).kind && is_data (get_or events i d).name ≡ true → Reading bytes events i text →
-    Reading bytes events (i + 1)
-    (text ++ on_one_line (slice_range bytes (get_or events i d).point.index (get_or events (i + 1) d).point.index))
-chunk-read bytes events i d text lt on begins r =
-    let part : List ℕ = slice_range bytes (get_or events i d).point.index (get_or events (i + 1) d).point.index in
-    let is : label_text bytes (drop i events) ≡ part ++ label_text bytes (drop (i + 1) events) =
-    ap (label_text bytes) (two-first events i d lt)
-    ∙ rw (on, begins) (ap (λ (l : List Event). part ++ label_text bytes l) (second-first events i d lt)) in
-    record {
-      so_far =
-          append_assoc text (on_one_line part) (on_one_line (label_text bytes (drop (i + 1) events)))
-          ∙ ap (λ (l : List ℕ). text ++ l) (sym (map-append unended part (label_text bytes (drop (i + 1) events))))
-          ∙ ap (λ (l : List ℕ). text ++ on_one_line l) (sym is) ∙ r.so_far;
-    }
-
--- and what is no chunk
-pub other-read : (bytes : List ℕ) (events : List Event) (i : ℕ) (d : Event) (text : List ℕ) → i + 1 < length events →
-    is_exit (get_or events i d).kind && is_label (get_or events i d).name ≡ false →
-    is_enter (get_or events i d).kind && is_data (get_or events i d).name ≡ false → Reading bytes events i text →
-    Reading bytes events (i + 1) text
-other-read bytes events i d text lt on begins r =
-    let is : label_text bytes (drop i events) ≡ label_text bytes (drop (i + 1) events) =
-    ap (label_text bytes) (two-first events i d lt)
-    ∙ rw (on, begins) (ap (label_text bytes) (second-first events i d lt)) in
-    record { so_far = ap (λ (l : List ℕ). text ++ on_one_line l) (sym is) ∙ r.so_far }
 
 -- All labels.
 
@@ -160,9 +88,3 @@ labels-passed bytes events i n found is so_far =
     ap (λ (l : List Event). found ++ labels_in bytes l) (sym (drop-drop n i events))
     ∙ ap (λ (k : ℕ). found ++ labels_in bytes (drop k (drop i events))) is
     ∙ ap (λ (l : List (List ℕ)). found ++ l) (labels-before bytes (drop i events)) ∙ so_far
-
--- all are found
-pub labels-found : (bytes : List ℕ) (events : List Event) (i : ℕ) (found : List (List ℕ)) → length events ≤ i →
-    found ++ labels_in bytes (drop i events) ≡ labels_in bytes events → found ≡ labels_in bytes events
-labels-found bytes events i found le so_far =
-    sym (append-nil found) ∙ ap (λ (l : List Event). found ++ labels_in bytes l) (sym (drop_all i events le)) ∙ so_far

@@ -14,7 +14,7 @@ use Rattle.md_engine.specs.Meaning.{Cell}
 use Rattle.md_engine.specs.Place.{IsPlaced, IsReached, is_ending, is_pair, next_point, seen_at, walked}
 use Rattle.md_engine.specs.World.{Setting, after, looks_at}
 use Rattle.md_content.specs.Chunks.{bytes_on, line_taken}
-use Rattle.md_parts.specs.WholeCells.{whole_line}
+use Rattle.md_link_definitions.specs.WholeCells.{whole_line}
 use Rattle.md_seam.specs.Lent.{whole_from}
 
 -- One byte more.

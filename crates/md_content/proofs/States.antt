@@ -14,28 +14,28 @@ use Rattle.md_engine.proofs.StepOf.{Sees, sees, steps-as}
 use Rattle.md_content.specs.DefinitionsRule.{HasDefinitions}
 use Rattle.md_content.specs.ParagraphRule.{HasParagraph}
 use Rattle.md_content.specs.States.{ContentStep, content_behaves, content_owner, content_scheme, content_transition}
-use Rattle.md_content.proofs.DefinitionsGoods.{DefinitionsFits, definitions_does}
-use Rattle.md_content.proofs.DefinitionsSteps.{definitions_steps}
-use Rattle.md_content.proofs.ParagraphGoods.{ParagraphFits, paragraph_does}
-use Rattle.md_content.proofs.ParagraphSteps.{paragraph_steps}
-use Rattle.md_parts.specs.DefinitionRule.{HasDefinition}
-use Rattle.md_parts.specs.DestinationRule.{HasDestination}
-use Rattle.md_parts.specs.GapRule.{HasGap}
-use Rattle.md_parts.specs.LabelRule.{HasLabel}
-use Rattle.md_parts.specs.TitleRule.{HasTitle}
-use Rattle.md_parts.proofs.DefinitionGoods.{DefinitionFits, definition_does}
-use Rattle.md_parts.proofs.DefinitionSteps.{definition_steps}
-use Rattle.md_parts.proofs.DestinationGoods.{DestinationFits, destination_does}
-use Rattle.md_parts.proofs.DestinationSteps.{destination_steps}
-use Rattle.md_parts.proofs.GapGoods.{GapFits, gap_does}
-use Rattle.md_parts.proofs.GapSteps.{gap_steps}
-use Rattle.md_parts.proofs.LabelGoods.{LabelFits, label_does}
-use Rattle.md_parts.proofs.LabelSteps.{label_steps}
-use Rattle.md_parts.proofs.TitleGoods.{TitleFits, title_does}
-use Rattle.md_parts.proofs.TitleSteps.{title_steps}
+use Rattle.md_content.proofs.DefinitionsTermination.{DefinitionsFits, definitions_terminates}
+use Rattle.md_content.proofs.DefinitionsMeaning.{definitions_means}
+use Rattle.md_content.proofs.ParagraphTermination.{ParagraphFits, paragraph_terminates}
+use Rattle.md_content.proofs.ParagraphMeaning.{paragraph_means}
+use Rattle.md_link_definitions.specs.DefinitionRule.{HasDefinition}
+use Rattle.md_link_definitions.specs.DestinationRule.{HasDestination}
+use Rattle.md_link_definitions.specs.GapRule.{HasGap}
+use Rattle.md_link_definitions.specs.LabelRule.{HasLabel}
+use Rattle.md_link_definitions.specs.TitleRule.{HasTitle}
+use Rattle.md_link_definitions.proofs.DefinitionTermination.{DefinitionFits, definition_terminates}
+use Rattle.md_link_definitions.proofs.DefinitionMeaning.{definition_means}
+use Rattle.md_link_definitions.proofs.DestinationTermination.{DestinationFits, destination_terminates}
+use Rattle.md_link_definitions.proofs.DestinationMeaning.{destination_means}
+use Rattle.md_link_definitions.proofs.GapTermination.{GapFits, gap_terminates}
+use Rattle.md_link_definitions.proofs.GapMeaning.{gap_means}
+use Rattle.md_link_definitions.proofs.LabelTermination.{LabelFits, label_terminates}
+use Rattle.md_link_definitions.proofs.LabelMeaning.{label_means}
+use Rattle.md_link_definitions.proofs.TitleTermination.{TitleFits, title_terminates}
+use Rattle.md_link_definitions.proofs.TitleMeaning.{title_means}
 use Rattle.md_seam.specs.Ahead.{HasWhite}
-use Rattle.md_seam.proofs.SpacesGoods.{Does, WhiteFits, does-stands, white_does}
-use Rattle.md_seam.proofs.WhiteSteps.{white_steps}
+use Rattle.md_seam.proofs.SpacesTermination.{Does, WhiteFits, does-stands, white_terminates}
+use Rattle.md_seam.proofs.WhiteMeaning.{white_means}
 
 -- The table has each construct.
 
@@ -73,17 +73,17 @@ definitions_fits = record {
   each = λ state. fits content_owner (n.Content state);
 }
 
-pub content_does : (name : StateName) (w : World) → w.current ≡ looks w → stands content_scheme w (Next name) →
+pub content_terminates : (name : StateName) (w : World) → w.current ≡ looks w → stands content_scheme w (Next name) →
     Does content_scheme name w (content_transition name w)
-content_does (n.Content state) w c r = definitions_does content_scheme state w definitions_fits c r
-content_does (n.Definition state) w c r = definition_does content_scheme state w definition_fits c r
-content_does (n.Destination state) w c r = destination_does content_scheme state w destination_fits c r
-content_does (n.Label state) w c r = label_does content_scheme state w label_fits c r
-content_does (n.Paragraph state) w c r = paragraph_does content_scheme state w paragraph_fits c r
-content_does (n.SpaceOrTab state) w c r = white_does content_scheme state w white_fits c r
-content_does (n.SpaceOrTabEol state) w c r = gap_does content_scheme state w gap_fits c r
-content_does (n.Title state) w c r = title_does content_scheme state w title_fits c r
-content_does name w c r = absurd r
+content_terminates (n.Content state) w c r = definitions_terminates content_scheme state w definitions_fits c r
+content_terminates (n.Definition state) w c r = definition_terminates content_scheme state w definition_fits c r
+content_terminates (n.Destination state) w c r = destination_terminates content_scheme state w destination_fits c r
+content_terminates (n.Label state) w c r = label_terminates content_scheme state w label_fits c r
+content_terminates (n.Paragraph state) w c r = paragraph_terminates content_scheme state w paragraph_fits c r
+content_terminates (n.SpaceOrTab state) w c r = white_terminates content_scheme state w white_fits c r
+content_terminates (n.SpaceOrTabEol state) w c r = gap_terminates content_scheme state w gap_fits c r
+content_terminates (n.Title state) w c r = title_terminates content_scheme state w title_fits c r
+content_terminates name w c r = absurd r
 
 -- What is left at each state is what the constructs say.
 
@@ -121,42 +121,42 @@ has_definitions options = record {
   each = λ _ _ _. refl;
 }
 
-content_steps : (feed : Feed) (name : StateName) (w : World) → Sees feed w → stands content_scheme w (Next name) →
+content_means : (feed : Feed) (name : StateName) (w : World) → Sees feed w → stands content_scheme w (Next name) →
     Steps (content_behaves w.setting.options) feed (Next name) w (content_transition name w).to
     (content_transition name w).world
-content_steps feed (n.Content state) w s at =
-    definitions_steps (content_behaves w.setting.options) feed state w (after_all content_scheme w.frames)
+content_means feed (n.Content state) w s at =
+    definitions_means (content_behaves w.setting.options) feed state w (after_all content_scheme w.frames)
     (has_definitions w.setting.options) s at
-content_steps feed (n.Definition state) w s at =
-    definition_steps (content_behaves w.setting.options) feed state w (after_all content_scheme w.frames)
+content_means feed (n.Definition state) w s at =
+    definition_means (content_behaves w.setting.options) feed state w (after_all content_scheme w.frames)
     (has_definition w.setting.options) s at
-content_steps feed (n.Destination state) w s at =
-    destination_steps (content_behaves w.setting.options) feed state w (after_all content_scheme w.frames)
+content_means feed (n.Destination state) w s at =
+    destination_means (content_behaves w.setting.options) feed state w (after_all content_scheme w.frames)
     (has_destination w.setting.options) s at
-content_steps feed (n.Label state) w s at =
-    label_steps (content_behaves w.setting.options) feed state w (after_all content_scheme w.frames)
+content_means feed (n.Label state) w s at =
+    label_means (content_behaves w.setting.options) feed state w (after_all content_scheme w.frames)
     (has_label w.setting.options) s at
-content_steps feed (n.Paragraph state) w s at =
-    paragraph_steps (content_behaves w.setting.options) feed state w (has_paragraph w.setting.options) s
-content_steps feed (n.SpaceOrTab state) w s at =
-    white_steps (content_behaves w.setting.options) feed state w (has_white w.setting.options) s
-content_steps feed (n.SpaceOrTabEol state) w s at =
-    gap_steps (content_behaves w.setting.options) feed state w (after_all content_scheme w.frames)
+content_means feed (n.Paragraph state) w s at =
+    paragraph_means (content_behaves w.setting.options) feed state w (has_paragraph w.setting.options) s
+content_means feed (n.SpaceOrTab state) w s at =
+    white_means (content_behaves w.setting.options) feed state w (has_white w.setting.options) s
+content_means feed (n.SpaceOrTabEol state) w s at =
+    gap_means (content_behaves w.setting.options) feed state w (after_all content_scheme w.frames)
     (has_gap w.setting.options) s at
-content_steps feed (n.Title state) w s at =
-    title_steps (content_behaves w.setting.options) feed state w (after_all content_scheme w.frames)
+content_means feed (n.Title state) w s at =
+    title_means (content_behaves w.setting.options) feed state w (after_all content_scheme w.frames)
     (has_title w.setting.options) s at
-content_steps feed name w s at = absurd at
+content_means feed name w s at = absurd at
 
 -- each state of content takes one step of what it means
-pub content_means : (under : Setting) (is_end : Bool) →
+pub content_table_means : (under : Setting) (is_end : Bool) →
     MeansAt ContentStep content_scheme under (content_behaves under.options) is_end
-content_means under is_end feed name w to new f called step =
+content_table_means under is_end feed name w to new f called step =
     steps-as (content_behaves under.options) feed (Next name) _ to (reading w) _ new step.to_is step.new_is
-    (rw (sym called.setting) (content_steps feed name (reading w) (sees feed w is_end f called.may) called.stands))
+    (rw (sym called.setting) (content_means feed name (reading w) (sees feed w is_end f called.may) called.stands))
 
 -- and comes to where the table stands
 pub content_stands : StandsOn ContentStep content_scheme
 content_stands name w to new at step =
     does-stands content_scheme name (reading w) (content_transition name (reading w)) to new step.to_is step.new_is
-    (content_does name (reading w) refl at)
+    (content_terminates name (reading w) refl at)

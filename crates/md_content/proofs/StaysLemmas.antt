@@ -1,6 +1,5 @@
 -- A line of content is taken as text.
 use Rattle.std.proofs.Common.{◌≡◌, ℕ, Bool, true, false, not, nat_eq, Option, Some, None, IfSome, refl, ap, ◌∙◌}
-use Rattle.md_engine.specs.declared.resolve.name.Name.{Name as ResolveName}
 use Rattle.md_engine.specs.declared.state.Name.{Name as StateName}
 use Rattle.md_engine.specs.declared.state.Name.TheVariants as n
 use Rattle.md_engine.specs.declared.state.content.State.TheVariants as content
@@ -9,7 +8,7 @@ use Rattle.md_engine.specs.declared.stay.Stay.TheVariants.{Line}
 use Rattle.md_engine.specs.Staying.{StaysOn}
 use Rattle.md_content.specs.Chunks.{chunk_inside_code, chunk_transition}
 use Rattle.md_content.specs.States.{ContentStep, content_scheme, content_transition}
-use Rattle.md_content.proofs.States.{content_does}
+use Rattle.md_content.proofs.States.{content_terminates}
 use Rattle.md_seam.specs.Spaces.{ends_line}
 use Rattle.md_seam.specs.Stays.{TakesEach}
 use Rattle.md_seam.proofs.StaysLemmas.{stays-on}
@@ -22,9 +21,8 @@ not-ending b h = go (nat_eq b 10) h
     go false e = refl
     go true e = cc
 
-pub chunk-takes : (is_name : ResolveName → Bool) →
-    TakesEach Line (n.Content content.ChunkInside) (chunk_transition is_name content.ChunkInside)
-chunk-takes is_name w b e h = ap (chunk_inside_code is_name w) (ap ends_line e ∙ not-ending b h)
+pub chunk-takes : TakesEach Line (n.Content content.ChunkInside) (chunk_transition content.ChunkInside)
+chunk-takes w b e h = ap (chunk_inside_code w) (ap ends_line e ∙ not-ending b h)
 
 -- so the table of content stays there
 pub content-stays : (name : StateName) (o : Option Stay) → IfSome o (λ k. TakesEach k name (content_transition name)) →
@@ -32,4 +30,4 @@ pub content-stays : (name : StateName) (o : Option Stay) → IfSome o (λ k. Tak
 content-stays name None h = tt
 content-stays name (Some k) h =
     stays-on ContentStep content_scheme name k (content_transition name)
-    (λ w to new e k. record { to_is = e; new_is = k }) (content_does name) h
+    (λ w to new e k. record { to_is = e; new_is = k }) (content_terminates name) h

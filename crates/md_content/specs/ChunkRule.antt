@@ -6,9 +6,9 @@ use Rattle.md_engine.specs.declared.state.content.State.{State as ContentState}
 use Rattle.md_engine.specs.declared.state.content.State.TheVariants as its
 use Rattle.md_engine.specs.Meaning.{Accepts, Behaviour, Cell, Here, Outcome, Refuses}
 use Rattle.md_content.specs.Chunks.{content_link, rest_taken, unbegun}
-use Rattle.md_definition.specs.Rest.{Rest}
-use Rattle.md_parts.specs.OpenText.{text_behind}
-use Rattle.md_parts.specs.WholeCells.{rest_here, whole_line}
+use Rattle.md_meaning.specs.Rest.{Rest}
+use Rattle.md_link_definitions.specs.OpenText.{text_behind}
+use Rattle.md_link_definitions.specs.WholeCells.{rest_here, whole_line}
 use Rattle.md_seam.specs.Ahead.{from_ending, line_end}
 use Rattle.md_seam.specs.Events.Nested.{enter_link, exit}
 

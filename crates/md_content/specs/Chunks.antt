@@ -1,12 +1,11 @@
 -- A line of content, before it is read.
 use Rattle.std.specs.Prelude.{refl, ℕ, zero, suc, ◌+◌, ◌-◌, ◌≤◌, Bool, true, false, nat_lt, List, [], ◌∷◌, ◌++◌}
 use Rattle.std.specs.Prelude.{slice_index}
-use Rattle.md_definition.specs.Rest.{Rest}
+use Rattle.md_meaning.specs.Rest.{Rest}
 use Rattle.md_engine.specs.declared.event.Point.{Point}
 use Rattle.md_engine.specs.declared.event.Link.{Link}
 use Rattle.md_engine.specs.declared.event.Content.TheVariants as content
 use Rattle.md_engine.specs.declared.event.Name.TheVariants as parts
-use Rattle.md_engine.specs.declared.resolve.name.Name.{Name as ResolveName}
 use Rattle.md_engine.specs.declared.resolve.name.Name.TheVariants.{Content as ContentResolver}
 use Rattle.md_engine.specs.declared.state.Name.{Name as StateName}
 use Rattle.md_engine.specs.declared.state.Name.TheVariants as n
@@ -14,9 +13,9 @@ use Rattle.md_engine.specs.declared.state.content.State.{State as ContentState}
 use Rattle.md_engine.specs.declared.state.content.State.TheVariants as its
 use Rattle.md_engine.specs.declared.state.State.TheVariants.{Ok, Nok, Next, Retry}
 use Rattle.md_engine.specs.declared.tokenizer.Scratch.{Scratch}
-use Rattle.md_engine.specs.Scheme.{After, Ends, Rank, Scheme, Spot, ranked}
+use Rattle.md_engine.specs.Scheme.{After, Ends, Rank, Scheme, Position, ranked}
 use Rattle.md_engine.specs.World.{World, registered_before}
-use Rattle.md_parts.specs.OpenText.{begun_rest, text_behind}
+use Rattle.md_link_definitions.specs.OpenText.{begun_rest, text_behind}
 use Rattle.md_seam.specs.Lent.{whole_from}
 use Rattle.md_seam.specs.Spaces.{IsRest, ends_line, rest_ready}
 use Rattle.md_seam.specs.Transition.{Transition, entered_link, exited, taken}
@@ -51,36 +50,36 @@ chunk_start_transition w =
       world = record (entered_link w parts.Content content_link) { scratch = begun w.point w.scratch };
     }
 
--- by whether the line ends here, of which an open text is told; `is_name` finds the resolver of content
-abbrev pub chunk_inside_code : (ResolveName → Bool) → World → Bool → Transition
-chunk_inside_code is_name w true =
+-- by whether the line ends here, of which an open text is told
+abbrev pub chunk_inside_code : World → Bool → Transition
+chunk_inside_code w true =
     record {
       to = Ok;
       world = record (exited w parts.Content) {
-        resolvers = registered_before is_name w.resolvers ContentResolver;
+        resolvers = registered_before w.resolvers ContentResolver;
         scratch = unbegun w.scratch;
         flags = record w.flags { leaf = text_behind w.flags.leaf (rest_taken w.setting.bytes w.scratch w.point) };
       };
     }
-chunk_inside_code is_name w false = record { to = Next (n.Content its.ChunkInside); world = taken w }
+chunk_inside_code w false = record { to = Next (n.Content its.ChunkInside); world = taken w }
 
 -- each state with what it does, where there is memory; those of definitions are not built
-abbrev pub chunk_transition : (ResolveName → Bool) → ContentState → World → Transition
-chunk_transition is_name its.ChunkStart w = chunk_start_transition w
-chunk_transition is_name its.ChunkInside w = chunk_inside_code is_name w (ends_line w.current)
-chunk_transition is_name _ w = record { to = Nok; world = w }
+abbrev pub chunk_transition : ContentState → World → Transition
+chunk_transition its.ChunkStart w = chunk_start_transition w
+chunk_transition its.ChunkInside w = chunk_inside_code w (ends_line w.current)
+chunk_transition _ w = record { to = Nok; world = w }
 
-abbrev pub chunk_rank : StateName → Spot → Rank
+abbrev pub chunk_rank : StateName → Position → Rank
 chunk_rank (n.Content its.ChunkStart) x = ranked 1 refl
 chunk_rank _ x = ranked 0 refl
 
 -- in a line: at rest but for where it began
-abbrev pub in_chunk : Spot → After → Type 0
+abbrev pub in_chunk : Position → After → Type 0
 in_chunk x K =
     (x.scratch.start ≤ whole_from x.point) × IsRest (unbegun x.scratch) × Ends IsRest IsRest x K
 
 -- no tokenizer stands at a state that is not built
-abbrev pub chunk_ready : StateName → Spot → After → Type 0
+abbrev pub chunk_ready : StateName → Position → After → Type 0
 chunk_ready (n.Content its.DefinitionBefore) x K = ⊥
 chunk_ready (n.Content its.DefinitionAfter) x K = ⊥
 chunk_ready (n.Content its.ChunkInside) x K = in_chunk x K

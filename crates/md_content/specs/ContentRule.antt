@@ -6,8 +6,8 @@ use Rattle.md_engine.specs.declared.event.Name.TheVariants as n
 use Rattle.md_engine.specs.declared.event.Point.{Point}
 use Rattle.md_engine.specs.Meaning.{Cell}
 use Rattle.md_content.specs.ParagraphRule.{paragraph_over}
-use Rattle.md_parts.specs.DefinitionRule.{DefinitionParts, definition_end, definition_events, definition_parts}
-use Rattle.md_parts.specs.DefinitionRule.{definition_rest}
+use Rattle.md_link_definitions.specs.DefinitionRule.{DefinitionParts, definition_end, definition_events, definition_parts}
+use Rattle.md_link_definitions.specs.DefinitionRule.{definition_rest}
 use Rattle.md_seam.specs.Events.Nested.{pair}
 
 -- the definition that these cells begin with, if definitions are on

@@ -1,6 +1,6 @@
 -- The definitions in front of the paragraph of a text: where one is tried, and what follows it (CommonMark 4.7).
 use Rattle.std.specs.Prelude.{refl, ℕ, ◌==◌, Bool, true, false, ◌||◌, if◌then◌else◌, Option, Some, None}
-use Rattle.md_definition.specs.Ascii.{left_bracket, line_feed}
+use Rattle.md_meaning.specs.Ascii.{left_bracket, line_feed}
 use Rattle.md_engine.specs.declared.event.Name.TheVariants.{LineEnding}
 use Rattle.md_engine.specs.declared.state.Name.{Name as StateName}
 use Rattle.md_engine.specs.declared.state.Name.TheVariants as n
@@ -9,7 +9,7 @@ use Rattle.md_engine.specs.declared.state.content.State.TheVariants as its
 use Rattle.md_engine.specs.declared.state.definition.State.TheVariants as definition
 use Rattle.md_engine.specs.declared.state.paragraph.State.TheVariants as paragraph
 use Rattle.md_engine.specs.declared.state.State.TheVariants.{Ok, Nok, Next, Retry}
-use Rattle.md_engine.specs.Scheme.{After, Rank, Scheme, Spot, ranked}
+use Rattle.md_engine.specs.Scheme.{After, Rank, Scheme, Position, ranked}
 use Rattle.md_engine.specs.World.{World}
 use Rattle.md_content.specs.Paragraph.{paragraph_rank}
 use Rattle.md_seam.specs.Spaces.{is_current, rest_ready, sees_white}
@@ -48,13 +48,13 @@ definitions_transition its.DefinitionAfter w = definition_after_transition w
 definitions_transition _ w = record { to = Nok; world = w }
 
 -- no tokenizer stands at a state of a line that is not read
-abbrev pub definitions_ready : StateName → Spot → After → Type 0
+abbrev pub definitions_ready : StateName → Position → After → Type 0
 definitions_ready (n.Content its.ChunkStart) x K = ⊥
 definitions_ready (n.Content its.ChunkInside) x K = ⊥
 definitions_ready _ x K = rest_ready x K
 
 -- Where no definition stands, the paragraph is next.
-abbrev pub definitions_rank : StateName → Spot → Rank
+abbrev pub definitions_rank : StateName → Position → Rank
 definitions_rank (n.Content its.DefinitionBefore) x = ranked 4 refl
 definitions_rank (n.Content _) x = ranked 0 refl
 definitions_rank name x = paragraph_rank name x

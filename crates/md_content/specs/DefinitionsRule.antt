@@ -7,7 +7,7 @@ use Rattle.md_engine.specs.declared.state.content.State.TheVariants as its
 use Rattle.md_engine.specs.Meaning.{Accepts, Behaviour, Cell, Here, Outcome, Refuses}
 use Rattle.md_content.specs.ContentRule.{behind_definition, content_over}
 use Rattle.md_content.specs.ParagraphRule.{HasParagraph}
-use Rattle.md_parts.specs.DefinitionRule.{HasDefinition}
+use Rattle.md_link_definitions.specs.DefinitionRule.{HasDefinition}
 use Rattle.md_seam.specs.Ahead.{point_after}
 use Rattle.md_seam.specs.Look.{first_seen}
 use Rattle.md_seam.specs.Spaces.{ends_line}

@@ -3,8 +3,8 @@ use Rattle.std.specs.Prelude.{ℕ, ◌&&◌, if◌then◌else◌, List, [], ◌�
 use Rattle.md_engine.specs.declared.event.Event.{Event}
 use Rattle.md_engine.specs.declared.event.Name.{Name}
 use Rattle.md_engine.specs.declared.event.Name.TheVariants as n
-use Rattle.md_definition.specs.Label.{normal_form}
-use Rattle.md_definition.specs.Texts.{split_lines}
+use Rattle.md_meaning.specs.Label.{normal_form}
+use Rattle.md_meaning.specs.Texts.{split_lines}
 use Rattle.md_seam.specs.Events.Nested.{is_enter, is_exit}
 use Rattle.md_seam.specs.Events.Tiles.{is_data}
 use Rattle.std.specs.Prelude.{Bool, true, false}

@@ -8,7 +8,7 @@ use Rattle.md_engine.specs.declared.state.Name.TheVariants as n
 use Rattle.md_engine.specs.declared.state.paragraph.State.{State as ParagraphState}
 use Rattle.md_engine.specs.declared.state.paragraph.State.TheVariants as its
 use Rattle.md_engine.specs.declared.state.State.TheVariants.{Ok, Next, Retry}
-use Rattle.md_engine.specs.Scheme.{Rank, Scheme, Spot, ranked}
+use Rattle.md_engine.specs.Scheme.{Rank, Scheme, Position, ranked}
 use Rattle.md_engine.specs.World.{World}
 use Rattle.md_seam.specs.Spaces.{rest_ready}
 use Rattle.md_seam.specs.Transition.{Transition, entered, entered_link, exited, taken}
@@ -38,7 +38,7 @@ paragraph_transition its.Start w = start_transition w
 paragraph_transition its.LineStart w = line_start_transition w
 paragraph_transition its.Inside w = inside_transition w
 
-abbrev pub paragraph_rank : StateName → Spot → Rank
+abbrev pub paragraph_rank : StateName → Position → Rank
 paragraph_rank (n.Paragraph its.Start) x = ranked 2 refl
 paragraph_rank (n.Paragraph its.LineStart) x = ranked 1 refl
 paragraph_rank _ x = ranked 0 refl

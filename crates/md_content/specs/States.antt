@@ -13,16 +13,16 @@ use Rattle.md_content.specs.Definitions.{definitions_scheme, definitions_transit
 use Rattle.md_content.specs.DefinitionsRule.{definitions_behave}
 use Rattle.md_content.specs.Paragraph.{paragraph_scheme, paragraph_transition}
 use Rattle.md_content.specs.ParagraphRule.{paragraph_behaves}
-use Rattle.md_parts.specs.Definition.{definition_scheme, definition_transition}
-use Rattle.md_parts.specs.DefinitionRule.{definition_behaves}
-use Rattle.md_parts.specs.Destination.{destination_scheme, destination_transition}
-use Rattle.md_parts.specs.DestinationRule.{destination_behaves}
-use Rattle.md_parts.specs.Gap.{gap_scheme, gap_transition}
-use Rattle.md_parts.specs.GapRule.{gap_behaves}
-use Rattle.md_parts.specs.Label.{label_scheme, label_transition}
-use Rattle.md_parts.specs.LabelRule.{label_behaves}
-use Rattle.md_parts.specs.Title.{title_scheme, title_transition}
-use Rattle.md_parts.specs.TitleRule.{title_behaves}
+use Rattle.md_link_definitions.specs.Definition.{definition_scheme, definition_transition}
+use Rattle.md_link_definitions.specs.DefinitionRule.{definition_behaves}
+use Rattle.md_link_definitions.specs.Destination.{destination_scheme, destination_transition}
+use Rattle.md_link_definitions.specs.DestinationRule.{destination_behaves}
+use Rattle.md_link_definitions.specs.Gap.{gap_scheme, gap_transition}
+use Rattle.md_link_definitions.specs.GapRule.{gap_behaves}
+use Rattle.md_link_definitions.specs.Label.{label_scheme, label_transition}
+use Rattle.md_link_definitions.specs.LabelRule.{label_behaves}
+use Rattle.md_link_definitions.specs.Title.{title_scheme, title_transition}
+use Rattle.md_link_definitions.specs.TitleRule.{title_behaves}
 use Rattle.md_seam.specs.Ahead.{white_behaves}
 use Rattle.md_seam.specs.Spaces.{white_scheme, white_transition}
 use Rattle.md_seam.specs.Transition.{Transition}

@@ -9,7 +9,7 @@
 // The prefixes of containers in front of a line belong to no line of the content (CommonMark 5.1). So each line begins
 // behind those in front of it, and ends behind its ending, before those of the next line: its end is that of its chunk.
 
-ghost use Rattle.std.specs.Prelude.{◌≡◌, ◌≢◌, ℕ, ◌^◌, ◌<◌, ◌≤◌, ◌&&◌, Bool, false, not, IfNone, IfOk, IfSome, List, []};
+ghost use Rattle.std.specs.Prelude.{◌≡◌, ◌≢◌, ℕ, ◌^◌, ◌<◌, ◌≤◌, ◌&&◌, false, not, IfNone, IfOk, IfSome, List, []};
 ghost use Rattle.std.specs.Prelude.{OnOk, length};
 ghost use Rattle.std.specs.List.{position_or_len, prefix_len};
 ghost use Rattle.std.specs.Option.{option_map};
@@ -22,13 +22,13 @@ ghost use Rattle.md_engine.specs.declared.state.content.State.{State as ContentS
 ghost use Rattle.md_content.specs.States.{content_scheme, content_transition};
 ghost use Rattle.md_content.specs.Chunks.{chunk_inside_code, chunk_start_transition, chunk_transition, line_taken};
 ghost use Rattle.md_content.specs.Chunks.{rest_taken};
-ghost use Rattle.md_parts.specs.OpenText.{text_behind};
+ghost use Rattle.md_link_definitions.specs.OpenText.{text_behind};
 ghost use Rattle.md_content.specs.ContentReads.{content_events, is_piece_end, settled};
 ghost use Rattle.md_content.specs.Joined.{GoesOnAt, JoinsAt, ends_content, goes_on, is_content, is_of_prefix};
 ghost use Rattle.md_content.specs.Joined.{joined};
 ghost use Rattle.md_content.specs.Resolves.{Resolves, is_all_read};
 ghost use Rattle.md_seam.specs.Events.Inline.{is_line_ending};
-ghost use Rattle.md_seam.specs.Events.Nested.{is_enter, is_exit};
+ghost use Rattle.md_seam.specs.Events.Nested.{is_enter};
 ghost use Rattle.md_seam.specs.Lent.{whole_from};
 ghost use Rattle.md_seam.specs.Parts.{AreChunks, ArePlaced};
 ghost use Rattle.md_seam.specs.Spaces.{ends_line};
@@ -48,8 +48,8 @@ use md_engine::stay::Stay;
 use md_engine::subtokenize::Subresult;
 use md_engine::table::{Table, flush, push};
 use md_engine::tokenizer::{HeldLeaf, Scratch, Tokenizer};
-use md_parts::open_text::text_behind;
-use md_parts::{definition, destination, label, space_or_tab_eol, title};
+use md_link_definitions::open_text::text_behind;
+use md_link_definitions::{definition, destination, label, space_or_tab_eol, title};
 use md_seam::inline::Chunk;
 use md_seam::moving::move_down;
 use md_seam::space_or_tab;
@@ -124,11 +124,11 @@ pub fn chunk_inside(tokenizer: &mut Tokenizer) -> State
     requires { IsAt NeedsNothing (StateName.Content ContentState.ChunkInside) (world tokenizer.old) }
     ensures to { result ≢ State.Error →
         result ≡
-        (chunk_inside_code (λ name. ⟦<ResolveName as PartialEq>⟧.eq name ResolveName.Content) (world tokenizer.old)
+        (chunk_inside_code (world tokenizer.old)
         (ends_line tokenizer.old.current)).to }
     ensures world { result ≢ State.Error →
         world tokenizer.new ≡
-        (chunk_inside_code (λ name. ⟦<ResolveName as PartialEq>⟧.eq name ResolveName.Content) (world tokenizer.old)
+        (chunk_inside_code (world tokenizer.old)
         (ends_line tokenizer.old.current)).world }
 {
     match tokenizer.current {
@@ -153,11 +153,11 @@ pub fn call(tokenizer: &mut Tokenizer, state: ContentState) -> State
     requires { IsAt NeedsNothing (StateName.Content state) (world tokenizer.old) }
     ensures to { result ≢ State.Error →
         result ≡
-        (chunk_transition (λ name. ⟦<ResolveName as PartialEq>⟧.eq name ResolveName.Content) state
+        (chunk_transition state
         (world tokenizer.old)).to }
     ensures world { result ≢ State.Error →
         world tokenizer.new ≡
-        (chunk_transition (λ name. ⟦<ResolveName as PartialEq>⟧.eq name ResolveName.Content) state
+        (chunk_transition state
         (world tokenizer.old)).world }
 {
     match state {
@@ -168,9 +168,8 @@ pub fn call(tokenizer: &mut Tokenizer, state: ContentState) -> State
 }
 
 /// What a state of a line of content only takes.
-pub fn stays(state: ContentState) -> Option<Stay>
-    ensures { IfSome result (λ stay. (is_name : ResolveName → Bool) →
-        TakesEach stay (StateName.Content state) (chunk_transition is_name state)) }
+pub fn takes_at_once(state: ContentState) -> Option<Stay>
+    ensures { IfSome result (λ stay. TakesEach stay (StateName.Content state) (chunk_transition state)) }
 {
     match state {
         ContentState::ChunkInside => Some(Stay::Line),
@@ -215,12 +214,12 @@ impl Table for ContentTable {
         call_state(tokenizer, name)
     }
 
-    fn stays(name: StateName) -> Option<Stay> {
+    fn takes_at_once(name: StateName) -> Option<Stay> {
         match name {
-            StateName::Destination(state) => destination::stays(state),
-            StateName::Label(state) => label::stays(state),
-            StateName::Paragraph(state) => paragraph::stays(state),
-            StateName::SpaceOrTab(state) => space_or_tab::stays(state),
+            StateName::Destination(state) => destination::takes_at_once(state),
+            StateName::Label(state) => label::takes_at_once(state),
+            StateName::Paragraph(state) => paragraph::takes_at_once(state),
+            StateName::SpaceOrTab(state) => space_or_tab::takes_at_once(state),
             _ => None,
         }
     }

@@ -5,7 +5,7 @@
 ghost use Rattle.std.specs.Prelude.{◌≡◌, ◌≤◌, ◌&&◌, [], ◌∷◌, ◌++◌, length, map, not, string_bytes, slice_range, IfOk};
 ghost use Rattle.std.specs.Prelude.{OnOk};
 ghost use Rattle.std.specs.List.{position_or_len};
-ghost use Rattle.md_definition.specs.Label.{normal_form};
+ghost use Rattle.md_meaning.specs.Label.{normal_form};
 ghost use Rattle.md_content.specs.LabelTexts.{on_one_line, unended};
 ghost use Rattle.md_content.specs.Labels.{begins_label, is_label, label_text, labels_in};
 ghost use Rattle.md_seam.specs.Events.Nested.{is_enter, is_exit};
@@ -13,9 +13,9 @@ ghost use Rattle.md_seam.specs.Events.Tiles.{is_data};
 
 use md_engine::event::{Event, Kind, Name};
 use md_engine::message::Message;
+use md_grammars::label::normal_form;
+use md_grammars::memory::push;
 use md_seam::walks::{Test, passing};
-use plain_grammars::label::normal_form;
-use plain_grammars::memory::push;
 use std::alloc::Global;
 
 /// Whether a label begins here.

@@ -104,7 +104,7 @@ pub fn call(tokenizer: &mut Tokenizer, state: ParagraphState) -> State
 }
 
 /// What a state of a paragraph only takes.
-pub fn stays(state: ParagraphState) -> Option<Stay>
+pub fn takes_at_once(state: ParagraphState) -> Option<Stay>
     ensures { IfSome result (λ stay. TakesEach stay (StateName.Paragraph state) (paragraph_transition state)) }
 {
     match state {

@@ -10,16 +10,16 @@ use Rattle.md_engine.specs.declared.tokenizer.Scratch.{Scratch}
 use Rattle.md_engine.specs.World.{Setting, World}
 use Rattle.md_engine.specs.Place.{seen_at}
 use Rattle.md_engine.specs.Run.{IsEnd, Leaves, goes_back, left, next_of, plain}
-use Rattle.md_engine.specs.Scheme.{After, Ends, EndsLater, Grown, Passes, Reaches, Resumes, Scheme, Spot, Tries}
+use Rattle.md_engine.specs.Scheme.{After, Ends, EndsLater, Grown, Passes, Reaches, Resumes, Scheme, Position, Tries}
 use Rattle.md_engine.specs.Scheme.{TriesLater, after_all, after_frame, cells_before, frame_level, frame_number}
-use Rattle.md_engine.specs.Scheme.{frame_rank, frames_work, holds, moved_to, seen, spot, spot_at, stands, state_level}
+use Rattle.md_engine.specs.Scheme.{frame_rank, frames_work, holds, moved_to, seen, position, spot_at, stands, state_level}
 use Rattle.md_engine.specs.Scheme.{state_number, state_rank, state_work, work}
 use Rattle.md_engine.proofs.Points.{grown-same, grown-then, passes-reaches, passes_then, rank-low, stays, then_passes}
 use Rattle.md_engine.proofs.Points.{then_reaches}
 use Rattle.md_engine.proofs.Powers.{weighs}
 
--- what a construct owes where it ends, it owes from a later spot
-pub later_at : (P Q : Scratch → Type 0) (x : Spot) (K : After) (q : Point) (t : Setting) (s : Scratch) →
+-- what a construct owes where it ends, it owes from a later position
+pub later_at : (P Q : Scratch → Type 0) (x : Position) (K : After) (q : Point) (t : Setting) (s : Scratch) →
     Grown x.setting t → Reaches t.limit x.point q → Ends P Q x K → Ends P Q (spot_at t q s) K
 later_at P Q x K q t s g r e = record {
   ok =
@@ -28,12 +28,12 @@ later_at P Q x K q t s g r e = record {
   nok = λ v p u is up. e.nok v p u is (grown-then x.setting t u g up);
 }
 
-pub later : (P Q : Scratch → Type 0) (x : Spot) (K : After) (q : Point) (s : Scratch) →
+pub later : (P Q : Scratch → Type 0) (x : Position) (K : After) (q : Point) (s : Scratch) →
     Reaches x.setting.limit x.point q → Ends P Q x K → Ends P Q (moved_to x q s) K
 later P Q x K q s r e = later_at P Q x K q x.setting s (grown-same x.setting) r e
 
 -- the same of a construct that accepts only behind the point where it begins
-pub passing_at : (P Q : Scratch → Type 0) (x : Spot) (K : After) (q : Point) (t : Setting) (s : Scratch) →
+pub passing_at : (P Q : Scratch → Type 0) (x : Position) (K : After) (q : Point) (t : Setting) (s : Scratch) →
     Grown x.setting t → Reaches t.limit x.point q → EndsLater P Q x K → EndsLater P Q (spot_at t q s) K
 passing_at P Q x K q t s g r e = record {
   ok =
@@ -43,7 +43,7 @@ passing_at P Q x K q t s g r e = record {
 }
 
 -- behind that point it may accept everywhere
-pub passed_at : (P Q : Scratch → Type 0) (x : Spot) (K : After) (q : Point) (t : Setting) (s : Scratch) →
+pub passed_at : (P Q : Scratch → Type 0) (x : Position) (K : After) (q : Point) (t : Setting) (s : Scratch) →
     Grown x.setting t → Passes t.limit x.point q → EndsLater P Q x K → Ends P Q (spot_at t q s) K
 passed_at P Q x K q t s g r e = record {
   ok =
@@ -52,12 +52,12 @@ passed_at P Q x K q t s g r e = record {
   nok = λ v p u is up. e.nok v p u is (grown-then x.setting t u g up);
 }
 
-pub passed : (P Q : Scratch → Type 0) (x : Spot) (K : After) (q : Point) (s : Scratch) →
+pub passed : (P Q : Scratch → Type 0) (x : Position) (K : After) (q : Point) (s : Scratch) →
     Passes x.setting.limit x.point q → EndsLater P Q x K → Ends P Q (moved_to x q s) K
 passed P Q x K q s r e = passed_at P Q x K q x.setting s (grown-same x.setting) r e
 
 -- what is seen stays, when more may be read
-pub seen_grows : (x : Spot) (t : Setting) (s : Scratch) (b : ℕ) → Grown x.setting t → seen x ≡ Some b →
+pub seen_grows : (x : Position) (t : Setting) (s : Scratch) (b : ℕ) → Grown x.setting t → seen x ≡ Some b →
     seen (spot_at t x.point s) ≡ Some b
 seen_grows x t s b g e = go (nat_lt x.point.index x.setting.limit) refl
   where
@@ -70,7 +70,7 @@ seen_grows x t s b g e = go (nat_lt x.point.index x.setting.limit) refl
     go false k = let none : (let o : Option ℕ = None in o) ≡ Some b = rw k at e in cc
 
 -- what is tried ends as is owed, where what it goes on with is ready and below
-resumes : (T : Scheme) (f : Frame) (st : State) (x : Spot) (K : After) (p : Point) → f.point ≡ p →
+resumes : (T : Scheme) (f : Frame) (st : State) (x : Position) (K : After) (p : Point) → f.point ≡ p →
     Reaches x.setting.limit p x.point → holds T st x K → state_level T st ≤ frame_level T f →
     (x.point ≡ p → state_rank T st x < frame_rank T f + 1) → Resumes T f st x K
 resumes T f st x K p same r h l k = record { stands = h; level = l; falls = go st r.cells k }
@@ -86,7 +86,7 @@ resumes T f st x K p same r h l k = record { stands = h; level = l; falls = go s
     go (Retry n) (inr lt) k = let few = rank-low (T.rank n x) in rw same (omega (arith, lt.0, lt.1, few))
 
 -- what is tried refuses as is owed
-refused : (T : Scheme) (f : Frame) (Q : Scratch → Type 0) (x : Spot) (K : After) → f.point ≡ x.point →
+refused : (T : Scheme) (f : Frame) (Q : Scratch → Type 0) (x : Position) (K : After) → f.point ≡ x.point →
     ((s : Scratch) (t : Setting) → Q s → Grown x.setting t → holds T f.nok (spot_at t x.point s) K) →
     state_level T f.nok ≤ frame_level T f →
     ((s : Scratch) (t : Setting) → Q s → Grown x.setting t →
@@ -98,7 +98,7 @@ refused T f Q x K same h level rank s t is up =
     (resumes T f f.nok (spot_at t x.point s) K x.point same (stays t.limit x.point) (h s t is up) level
     (λ e. rank s t is up))
 
-pub tries : (T : Scheme) (f : Frame) (P Q : Scratch → Type 0) (x : Spot) (K : After) → f.point ≡ x.point →
+pub tries : (T : Scheme) (f : Frame) (P Q : Scratch → Type 0) (x : Position) (K : After) → f.point ≡ x.point →
     Tries T f P Q x K → Ends P Q x (after_frame T f K)
 tries T f P Q x K same h = record {
   ok = λ s q t is up way. go f.is_check s q t is up way (h.ok s q t is up way);
@@ -117,7 +117,7 @@ tries T f P Q x K same h = record {
         let P' : Point → Type 0 = λ p. state_rank T f.ok (spot_at t p s) < frame_rank T f + 1 in
         subst P' (sym e) (h.ok_rank s t is up))
 
-pub tries_later : (T : Scheme) (f : Frame) (P Q : Scratch → Type 0) (x : Spot) (K : After) → f.point ≡ x.point →
+pub tries_later : (T : Scheme) (f : Frame) (P Q : Scratch → Type 0) (x : Position) (K : After) → f.point ≡ x.point →
     TriesLater T f P Q x K → EndsLater P Q x (after_frame T f K)
 tries_later T f P Q x K same h = record {
   ok = λ s q t is up way. go f.is_check h.moves_on s q t way (h.ok s q t is up way);
@@ -134,33 +134,33 @@ tries_later T f P Q x K same h = record {
 -- leaving an attempt
 pub resumed : (T : Scheme) (w : World) (fs : List Frame) (f : Frame) (s : State) → IsEnd s → w.frames ≡ f ∷ fs →
     stands T w (plain s) →
-    Resumes T f (next_of f s) (spot (left w fs f (goes_back f s))) (after_all T fs)
+    Resumes T f (next_of f s) (position (left w fs f (goes_back f s))) (after_all T fs)
 resumed T w fs f s end e st = go s end (subst Q e st)
   where
     Q : List Frame → Type 0
-    Q = λ x. holds T (plain s) (spot w) (after_all T x)
+    Q = λ x. holds T (plain s) (position w) (after_all T x)
 
-    back : (b : Bool) → Resumes T f f.ok (cond b (record (spot w) { point = f.point }) (spot w)) (after_all T fs) →
-        Resumes T f f.ok (spot (left w fs f b)) (after_all T fs)
+    back : (b : Bool) → Resumes T f f.ok (cond b (record (position w) { point = f.point }) (position w)) (after_all T fs) →
+        Resumes T f f.ok (position (left w fs f b)) (after_all T fs)
     back true r = r
     back false r = r
 
-    go : (s : State) → IsEnd s → holds T (plain s) (spot w) (after_all T (f ∷ fs)) →
-        Resumes T f (next_of f s) (spot (left w fs f (goes_back f s))) (after_all T fs)
+    go : (s : State) → IsEnd s → holds T (plain s) (position w) (after_all T (f ∷ fs)) →
+        Resumes T f (next_of f s) (position (left w fs f (goes_back f s))) (after_all T fs)
     go Ok end h = back f.is_check h
     go Nok end h = h
     go Error end h = absurd end
     go (Next n) end h = absurd end
     go (Retry n) end h = absurd end
 
-plain-holds : (T : Scheme) (st : State) (x : Spot) (K : After) → holds T st x K → holds T (plain st) x K
+plain-holds : (T : Scheme) (st : State) (x : Position) (K : After) → holds T st x K → holds T (plain st) x K
 plain-holds T Ok x K h = h
 plain-holds T Nok x K h = h
 plain-holds T Error x K h = h
 plain-holds T (Next n) x K h = h
 plain-holds T (Retry n) x K h = h
 
-plain-work : (T : Scheme) (st : State) (x : Spot) → state_work T (plain st) x ≡ state_work T st x
+plain-work : (T : Scheme) (st : State) (x : Position) → state_work T (plain st) x ≡ state_work T st x
 plain-work T Ok x = refl
 plain-work T Nok x = refl
 plain-work T Error x = refl
@@ -183,25 +183,25 @@ left_stands T w fs f s end e st =
     let h = plain-holds T (next_of f s) _ _ r in
     rw (left-frames w fs f (goes_back f s)) h
 
-ends-work : (T : Scheme) (s : State) (x : Spot) → IsEnd s → state_work T (plain s) x ≡ 0
+ends-work : (T : Scheme) (s : State) (x : Position) → IsEnd s → state_work T (plain s) x ≡ 0
 ends-work T Ok x end = omega arith
 ends-work T Nok x end = omega arith
 ends-work T Error x end = absurd end
 ends-work T (Next n) x end = absurd end
 ends-work T (Retry n) x end = absurd end
 
-falls-with : (T : Scheme) (limit : ℕ) (fs : List Frame) (f : Frame) (st : State) (x : Spot) (w' : World) →
-    w'.frames ≡ fs → x ≡ spot w' → w'.setting.limit ≡ limit →
+falls-with : (T : Scheme) (limit : ℕ) (fs : List Frame) (f : Frame) (st : State) (x : Position) (w' : World) →
+    w'.frames ≡ fs → x ≡ position w' → w'.setting.limit ≡ limit →
     state_level T st ≤ frame_level T f → state_number T st x < frame_number T x.setting.limit f →
     work T w' (plain st) < frames_work T limit (f ∷ fs)
 falls-with T limit fs f st x w' fr sp li le lt =
-    let same = plain-work T st (spot w') in
-    let P : Spot → Type 0 = λ y. state_number T st y < frame_number T y.setting.limit f in
-    let there : state_number T st (spot w') < frame_number T w'.setting.limit f = subst P sp lt in
-    let less = weighs w'.setting.limit (state_number T st (spot w')) (frame_number T w'.setting.limit f)
+    let same = plain-work T st (position w') in
+    let P : Position → Type 0 = λ y. state_number T st y < frame_number T y.setting.limit f in
+    let there : state_number T st (position w') < frame_number T w'.setting.limit f = subst P sp lt in
+    let less = weighs w'.setting.limit (state_number T st (position w')) (frame_number T w'.setting.limit f)
     (state_level T st) (frame_level T f) there le in
     let all : work T w' (plain st) <
-    frames_work T w'.setting.limit (f ∷ fs) = let g : state_work T st (spot w')
+    frames_work T w'.setting.limit (f ∷ fs) = let g : state_work T st (position w')
     + frames_work T w'.setting.limit fs <
     frames_work T w'.setting.limit (f ∷ fs) = omega (arith, less) in
     rw (fr, same) g in
@@ -214,9 +214,9 @@ pub left_falls : (T : Scheme) (w : World) (fs : List Frame) (f : Frame) (s : Sta
 left_falls T w fs f s end e st =
     let b = goes_back f s in
     let r = resumed T w fs f s end e st in
-    let less = falls-with T w.setting.limit fs f (next_of f s) (spot (left w fs f b)) (left w fs f b)
+    let less = falls-with T w.setting.limit fs f (next_of f s) (position (left w fs f b)) (left w fs f b)
     (left-frames w fs f b) refl (left-limit w fs f b) r.level r.falls in
-    let zero_work = ends-work T s (spot w) end in
+    let zero_work = ends-work T s (position w) end in
     rw (e, zero_work)
     (let z : 0 + frames_work T w.setting.limit (f ∷ fs) ≡ frames_work T w.setting.limit (f ∷ fs) = omega arith in
     rw z less)

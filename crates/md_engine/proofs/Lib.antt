@@ -10,6 +10,5 @@ pub mod StayLemmas
 pub mod Walks
 pub mod Keeps
 pub mod StepOf
-pub mod ResolverNames
 pub mod Standing
 pub mod TextFeed

@@ -203,23 +203,6 @@ sound-skip bytes p q limit events frames skips h k = record {
   begun = All-push (IsPlaced bytes) skips q h.begun k;
 }
 
--- the same, where memory may run out
-pub sound-add_if : (bytes : List ℕ) (p : Point) (limit : ℕ) (events new : List Event) (e : Event) (frames : List Frame)
-    (skips : List Point) (b : Bool) →
-    new ≡ cond b (events ++ e ∷ []) events → e.point ≡ p → IsSound bytes p limit events frames skips →
-    IsSound bytes p limit new frames skips
-sound-add_if bytes p limit events new e frames skips true is at h =
-    rw is (sound-add bytes p limit events e frames skips h at)
-sound-add_if bytes p limit events new e frames skips false is at h = rw is h
-
-pub sound-begun_if : (bytes : List ℕ) (p : Point) (limit : ℕ) (events : List Event) (f : Frame)
-    (frames new : List Frame) (skips : List Point) (b : Bool) →
-    new ≡ cond b (frames ++ f ∷ []) frames → f.point ≡ p → f.events_len ≡ length events →
-    IsSound bytes p limit events frames skips → IsSound bytes p limit events new skips
-sound-begun_if bytes p limit events f frames new skips true is at len h =
-    rw is (sound-begun bytes p limit events f frames skips h at len)
-sound-begun_if bytes p limit events f frames new skips false is at len h = rw is h
-
 pub sound-skip_if : (bytes : List ℕ) (p q : Point) (limit : ℕ) (events : List Event) (frames : List Frame)
     (skips new : List Point) (b : Bool) →
     IsSound bytes p limit events frames skips → IsPlaced bytes q → new ≡ cond b (skips ++ q ∷ []) skips →

@@ -1,7 +1,7 @@
 pub mod Place
 pub mod Sound
-pub mod Spread
-pub mod Over
+pub mod KnownRun
+pub mod KnownContinuing
 pub mod World
 pub mod Classes
 pub mod Resolvers

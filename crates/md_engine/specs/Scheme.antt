@@ -14,18 +14,18 @@ use Rattle.md_engine.specs.Run.{Remains, plain}
 use Rattle.md_engine.specs.World.{Setting, World, looks_at}
 
 -- where a construct stands
-pub record Spot : Type 0 where
+pub record Position : Type 0 where
   pub setting : Setting
   pub point : Point
   pub scratch : Scratch
 
-abbrev pub spot : World → Spot
-spot w = record { setting = w.setting; point = w.point; scratch = w.scratch }
+abbrev pub position : World → Position
+position w = record { setting = w.setting; point = w.point; scratch = w.scratch }
 
-abbrev pub moved_to : Spot → Point → Scratch → Spot
+abbrev pub moved_to : Position → Point → Scratch → Position
 moved_to x p s = record x { point = p; scratch = s }
 
-abbrev pub spot_at : Setting → Point → Scratch → Spot
+abbrev pub spot_at : Setting → Point → Scratch → Position
 spot_at t p s = record { setting = t; point = p; scratch = s }
 
 -- the same text and options, where more may be read and more lines are begun
@@ -35,13 +35,13 @@ pub record Grown (old new : Setting) : Type 0 where
   pub limit : old.limit ≤ new.limit
 
 -- what stands here
-abbrev pub seen : Spot → Option ℕ
+abbrev pub seen : Position → Option ℕ
 seen x = looks_at x.setting x.point
 
--- what is asked of the spot where a construct ends
+-- what is asked of the position where a construct ends
 pub record After : Type 1 where
-  pub ok : Spot → Type 0
-  pub nok : Spot → Type 0
+  pub ok : Position → Type 0
+  pub nok : Position → Type 0
   -- no attempt is around it
   pub outermost : Type 0
 
@@ -57,9 +57,9 @@ ranked number low = record { number = number; low = low }
 -- what the states of a table need, and how far each is from the next byte among the states of its level; a frame that
 -- goes on with a state counts as many as it has tries
 pub record Scheme : Type 1 where
-  pub ready : StateName → Spot → After → Type 0
+  pub ready : StateName → Position → After → Type 0
   pub level : StateName → ℕ
-  pub rank : StateName → Spot → Rank
+  pub rank : StateName → Position → Rank
   pub tries : StateName → Rank
 
 -- at most so many bytes and columns are left, and one fewer behind each
@@ -75,12 +75,12 @@ state_level T (Next n) = T.level n
 state_level T (Retry n) = T.level n
 state_level T _ = 0
 
-abbrev pub state_rank : Scheme → State → Spot → ℕ
+abbrev pub state_rank : Scheme → State → Position → ℕ
 state_rank T (Next n) x = (T.rank n x).number + 1
 state_rank T (Retry n) x = (T.rank n x).number + 1
 state_rank T _ x = 0
 
-abbrev pub state_number : Scheme → State → Spot → ℕ
+abbrev pub state_number : Scheme → State → Position → ℕ
 state_number T (Next n) x = 64 * cells_left x.setting.limit x.point + (T.rank n x).number + 1
 state_number T (Retry n) x = 64 * cells_left x.setting.limit x.point + (T.rank n x).number + 1
 state_number T _ x = 0
@@ -114,14 +114,14 @@ abbrev pub frames_work : Scheme → ℕ → List Frame → ℕ
 frames_work T limit [] = 0
 frames_work T limit (f ∷ fs) = frame_number T limit f * raised (base limit) (frame_level T f) + frames_work T limit fs
 
-abbrev pub state_work : Scheme → State → Spot → ℕ
+abbrev pub state_work : Scheme → State → Position → ℕ
 state_work T st x = state_number T st x * raised (base x.setting.limit) (state_level T st)
 
 -- it falls with every call, and with every attempt that is left
 abbrev pub work : Scheme → World → State → ℕ
-work T w st = state_work T st (spot w) + frames_work T w.setting.limit w.frames
+work T w st = state_work T st (position w) + frames_work T w.setting.limit w.frames
 
-abbrev pub holds : Scheme → State → Spot → After → Type 0
+abbrev pub holds : Scheme → State → Position → After → Type 0
 holds T (Next n) x K = T.ready n x K
 holds T (Retry n) x K = T.ready n x K
 holds T Ok x K = K.ok x
@@ -129,7 +129,7 @@ holds T Nok x K = K.nok x
 holds T Error x K = Unit {0}
 
 -- an attempt may go on here, below what it set aside
-pub record Resumes (T : Scheme) (f : Frame) (st : State) (x : Spot) (K : After) : Type 0 where
+pub record Resumes (T : Scheme) (f : Frame) (st : State) (x : Position) (K : After) : Type 0 where
   pub stands : holds T st x K
   pub level : state_level T st ≤ frame_level T f
   pub falls : state_number T st x < frame_number T x.setting.limit f
@@ -151,7 +151,7 @@ after_all T (f ∷ fs) = after_frame T f (after_all T fs)
 
 -- the tokenizer stands at a state
 abbrev pub stands : Scheme → World → State → Type 0
-stands T w st = holds T st (spot w) (after_all T w.frames)
+stands T w st = holds T st (position w) (after_all T w.frames)
 
 -- a later point, or the same
 pub record Reaches (limit : ℕ) (p q : Point) : Type 0 where
@@ -164,19 +164,19 @@ pub record Passes (limit : ℕ) (p q : Point) : Type 0 where
   pub inside : p.index < limit
 
 -- wherever a construct ends with such scratch, one may go on
-pub record Ends (P Q : Scratch → Type 0) (x : Spot) (K : After) : Type 0 where
+pub record Ends (P Q : Scratch → Type 0) (x : Position) (K : After) : Type 0 where
   pub ok : (s : Scratch) (q : Point) (t : Setting) → P s → Grown x.setting t → Reaches t.limit x.point q →
       K.ok (spot_at t q s)
   pub nok : (s : Scratch) (q : Point) (t : Setting) → Q s → Grown x.setting t → K.nok (spot_at t q s)
 
 -- the same of a construct that accepts only behind the point where it begins
-pub record EndsLater (P Q : Scratch → Type 0) (x : Spot) (K : After) : Type 0 where
+pub record EndsLater (P Q : Scratch → Type 0) (x : Position) (K : After) : Type 0 where
   pub ok : (s : Scratch) (q : Point) (t : Setting) → P s → Grown x.setting t → Passes t.limit x.point q →
       K.ok (spot_at t q s)
   pub nok : (s : Scratch) (q : Point) (t : Setting) → Q s → Grown x.setting t → K.nok (spot_at t q s)
 
 -- what an attempt owes when it begins: what it goes on with is ready, and below what it sets aside
-pub record Tries (T : Scheme) (f : Frame) (P Q : Scratch → Type 0) (x : Spot) (K : After) : Type 0 where
+pub record Tries (T : Scheme) (f : Frame) (P Q : Scratch → Type 0) (x : Position) (K : After) : Type 0 where
   pub ok : (s : Scratch) (q : Point) (t : Setting) → P s → Grown x.setting t → Reaches t.limit x.point q →
       holds T f.ok (if f.is_check then spot_at t x.point s else spot_at t q s) K
   pub ok_level : state_level T f.ok ≤ frame_level T f
@@ -189,7 +189,7 @@ pub record Tries (T : Scheme) (f : Frame) (P Q : Scratch → Type 0) (x : Spot) 
 
 -- what an attempt that is no check owes, where what it tries accepts only behind the point where it begins: there so
 -- much less is left that what it goes on with may have any rank
-pub record TriesLater (T : Scheme) (f : Frame) (P Q : Scratch → Type 0) (x : Spot) (K : After) : Type 0 where
+pub record TriesLater (T : Scheme) (f : Frame) (P Q : Scratch → Type 0) (x : Position) (K : After) : Type 0 where
   pub moves_on : f.is_check ≡ false
   pub ok : (s : Scratch) (q : Point) (t : Setting) → P s → Grown x.setting t → Passes t.limit x.point q →
       holds T f.ok (spot_at t q s) K
@@ -205,9 +205,9 @@ Good T n w to new = stands T new (plain to) × (work T new (plain to) < work T w
 
 -- a table has a state as its construct has it
 pub record Fits (T own : Scheme) (n : StateName) : Type 1 where
-  pub ready : (x : Spot) (K : After) → own.ready n x K → T.ready n x K
+  pub ready : (x : Position) (K : After) → own.ready n x K → T.ready n x K
   pub level : T.level n ≡ own.level n
-  pub rank : (x : Spot) → T.rank n x ≡ own.rank n x
+  pub rank : (x : Position) → T.rank n x ≡ own.rank n x
   pub tries : T.tries n ≡ own.tries n
 
 abbrev pub FitsState : Scheme → Scheme → State → Type 1

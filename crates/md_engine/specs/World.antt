@@ -17,6 +17,7 @@ use Rattle.md_engine.specs.declared.tokenizer.Scratch.{Scratch}
 use Rattle.md_engine.specs.declared.tokenizer.TheConstants.Scratch.{REST}
 use Rattle.md_engine.specs.declared.tokenizer.Tokenizer.{Tokenizer}
 use Rattle.md_engine.specs.Ends.{ends_at, point_of, put}
+use Rattle.md_engine.specs.Resolvers.{same_name}
 use Rattle.md_engine.specs.Place.{begun_at, is_ending, next_point, seen_at}
 
 -- what no state changes: the text, the options, and what the parent says of the line that is fed
@@ -123,7 +124,7 @@ fresh bytes options p = record {
     limit = 0;
     first_line = p.line;
     skips = [];
-    line = record { start = 0; lazy = false; pierce = false };
+    line = record { start = 0; lazy = false };
   };
   point = p;
   current = None;
@@ -151,11 +152,11 @@ skipping w p = record w {
 }
 
 -- behind those that are registered, or before them; each once
-abbrev pub registered : (ResolveName → Bool) → List ResolveName → ResolveName → List ResolveName
-registered is_name names name = if list_any is_name names then names else names ++ name ∷ []
+abbrev pub registered : List ResolveName → ResolveName → List ResolveName
+registered names name = if list_any (λ (other : ResolveName). same_name other name) names then names else names ++ name ∷ []
 
-abbrev pub registered_before : (ResolveName → Bool) → List ResolveName → ResolveName → List ResolveName
-registered_before is_name names name = if list_any is_name names then names else name ∷ names
+abbrev pub registered_before : List ResolveName → ResolveName → List ResolveName
+registered_before names name = if list_any (λ (other : ResolveName). same_name other name) names then names else name ∷ names
 
 -- the text may be read up to here
 abbrev pub reads_to : World → ℕ → World

@@ -103,6 +103,18 @@ impl Constructs {
     };
 }
 
+/// Those of CommonMark.
+impl Default for Constructs {
+    ghost use Rattle.std.specs.Prelude.{◌≡◌};
+    ghost use Rattle.md_engine.specs.declared.configuration.TheConstants.Constructs.{COMMONMARK};
+
+    ghost is_default = { λ constructs. constructs ≡ COMMONMARK };
+
+    fn default() -> Constructs {
+        Constructs::COMMONMARK
+    }
+}
+
 /// What a parse is asked for.
 #[derive(Clone, Copy, Debug, PartialEq, Eq)]
 pub struct ParseOptions {
@@ -129,4 +141,16 @@ impl ParseOptions {
     pub const ALL: ParseOptions = ParseOptions {
         constructs: Constructs::ALL,
     };
+}
+
+/// CommonMark, without any extension.
+impl Default for ParseOptions {
+    ghost use Rattle.std.specs.Prelude.{◌≡◌};
+    ghost use Rattle.md_engine.specs.declared.configuration.TheConstants.ParseOptions.{COMMONMARK};
+
+    ghost is_default = { λ options. options ≡ COMMONMARK };
+
+    fn default() -> ParseOptions {
+        ParseOptions::COMMONMARK
+    }
 }

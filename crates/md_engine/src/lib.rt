@@ -4,11 +4,11 @@
 pub mod class;
 pub mod configuration;
 pub mod event;
+pub mod known_continuing;
+pub mod known_run;
 pub mod message;
-pub mod over;
 pub mod parse_state;
 pub mod resolve;
-pub mod spread;
 pub mod state;
 pub mod stay;
 pub mod subtokenize;

@@ -1,5 +1,24 @@
 // The one refusal.
 
+use std::alloc::AllocError;
+use std::error::Error;
+use std::fmt::{self, Display, Formatter, Write};
+
 /// Want of memory: the only thing that a parse can refuse with. It is made without memory.
 #[derive(Clone, Copy, Debug, PartialEq, Eq)]
 pub struct Message;
+
+/// So that `?` hands on what an allocation refused.
+impl From<AllocError> for Message {
+    fn from(_refused: AllocError) -> Message {
+        Message
+    }
+}
+
+impl Display for Message {
+    fn fmt<W: Write>(&self, f: &mut Formatter<W>) -> Result<(), fmt::Error> {
+        f.write_str("out of memory")
+    }
+}
+
+impl Error for Message {}

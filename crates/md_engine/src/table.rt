@@ -2,7 +2,7 @@
 //
 // A table says which function each state name stands for. `push` reads a part of the text and answers the state that
 // waits for more; `flush` reads the end, and runs the resolvers that were registered.
-ghost use Rattle.std.specs.Prelude.{Bool, ◌≡◌, ◌≢◌, ◌<◌, ◌≤◌, ◌⊎◌, [], length, IfOk, IfNone, IfSome, OnOk, false, true};
+ghost use Rattle.std.specs.Prelude.{Bool, ◌≡◌, ◌≢◌, ◌<◌, ◌≤◌, [], length, IfOk, IfNone, IfSome, OnOk, false, true};
 ghost use Rattle.std.specs.Option.{option_map};
 ghost use Rattle.md_engine.specs.Found.{found_in};
 ghost use Rattle.md_engine.specs.Going.{SeesOn};
@@ -44,7 +44,7 @@ pub trait Table {
         ensures sees { result ≢ State.Error → SeesOn result (world tokenizer.old) (world tokenizer.new) };
 
     /// What the state of this name only takes and counts, to stay where it is: much is taken at once.
-    fn stays(name: StateName) -> Option<Stay>
+    fn takes_at_once(name: StateName) -> Option<Stay>
         ensures { IfSome result (λ stay. StaysOn step scheme name stay) };
 
     /// Runs the resolver of this name, when no attempt is left. After an `Err` the parse has failed.
@@ -92,7 +92,7 @@ fn stay<T: Table>(tokenizer: &mut Tokenizer, state: State)
     let State::Next(name) = state else {
         return;
     };
-    let Some(stay) = T::stays(name) else {
+    let Some(stay) = T::takes_at_once(name) else {
         return;
     };
     match stay {

@@ -3,28 +3,27 @@
 // A tokenizer walks over the text from point to point. States add events at its point, move it on, and begin attempts:
 // trials that are taken back where they fail. Each primitive says what the whole tokenizer is afterwards, by one
 // equation over `world`, which is what contracts see of a tokenizer.
-ghost use Rattle.std.specs.Prelude.{◌≡◌, ◌-◌, IfOk, drop, ◌+◌, ◌^◌, ◌∷◌, ◌++◌, ◌<◌, ◌≤◌, [], length, All, AllPairs};
-ghost use Rattle.std.specs.Prelude.{if◌then◌else◌, is_ok, nat_le, nat_lt, ◌==◌, true, false, Some, None, take, IfSome};
-ghost use Rattle.std.specs.Prelude.{IfNone, reverse, slice_index, slice_set, ◌⊎◌};
-ghost use Rattle.md_engine.specs.Place.{IsPlaced, begun_at, is_pair, next_point, stepped};
+ghost use Rattle.std.specs.Prelude.{◌≡◌, ◌-◌, IfOk, drop, ◌+◌, ◌^◌, ◌∷◌, ◌++◌, ◌<◌, ◌≤◌, [], length, All};
+ghost use Rattle.std.specs.Prelude.{if◌then◌else◌, is_ok, ◌==◌, true, false, Some, None, take, IfSome};
+ghost use Rattle.std.specs.Prelude.{IfNone, reverse, slice_set};
+ghost use Rattle.md_engine.specs.Place.{IsPlaced, is_pair, next_point, stepped};
 ghost use Rattle.md_engine.specs.Sound.{IsSound};
-ghost use Rattle.md_engine.specs.Spread.{EndsSpread, IsSpread};
-ghost use Rattle.md_engine.specs.Over.{EndsOver, IsOver};
-ghost use Rattle.md_engine.specs.Classes.{is_white};
+ghost use Rattle.md_engine.specs.KnownRun.{IsKnownRun};
+ghost use Rattle.md_engine.specs.KnownContinuing.{EndsContinuing, IsKnownContinuing};
 ghost use Rattle.md_engine.specs.Ends.{ends_at, point_of, put};
 
 pub mod container;
 pub mod held_leaf;
+mod seeing;
 
-use crate::class::{Class, is_white};
+use crate::class::Class;
 use crate::configuration::ParseOptions;
 use crate::event::{Event, Kind, Link, Name, Point};
+use crate::known_continuing::KnownContinuing;
+use crate::known_run::KnownRun;
 use crate::message::Message;
-use crate::over::Over;
 use crate::resolve::Name as ResolveName;
-use crate::spread::Spread;
 use crate::state::State;
-use crate::stay::Stay;
 use crate::tokenizer::container::name::{first_kind, name_of};
 pub use crate::tokenizer::container::{Container, ContainerKind};
 pub use crate::tokenizer::held_leaf::{HeldLeaf, HtmlKind, OpenText, Progress};
@@ -48,8 +47,9 @@ pub struct Scratch {
     pub marker_b: u8,
     /// How many there were.
     pub size: usize,
-    /// How many there were of something else.
-    pub size_b: usize,
+    /// How many columns a delimiter row has to have.
+    pub columns_wanted: usize,
+    /// How many there were of something else, or the column where that begins.
     pub size_c: usize,
     /// Where something began, as an index of the text or of the events.
     pub start: usize,
@@ -59,12 +59,6 @@ pub struct Scratch {
     pub seen: bool,
     /// Whether a part goes on from the line before.
     pub connect: bool,
-    /// Names of the events that a recogniser adds.
-    pub token_1: Name,
-    pub token_2: Name,
-    pub token_3: Name,
-    pub token_4: Name,
-    pub token_5: Name,
     pub whitespace: Whitespace,
 }
 
@@ -74,17 +68,12 @@ impl Scratch {
         marker: 0,
         marker_b: 0,
         size: 0,
-        size_b: 0,
+        columns_wanted: 0,
         size_c: 0,
         start: 0,
         end: 0,
         seen: false,
         connect: false,
-        token_1: Name::Data,
-        token_2: Name::Data,
-        token_3: Name::Data,
-        token_4: Name::Data,
-        token_5: Name::Data,
         whitespace: Whitespace {
             min: 0,
             max: 0,
@@ -121,8 +110,6 @@ pub struct Line {
     pub start: usize,
     /// Whether the line is lazy: not all containers went on, and none opened.
     pub lazy: bool,
-    /// Whether a container opened on the line.
-    pub pierce: bool,
 }
 
 /// Where an attempt goes on, and what it goes back to.
@@ -162,14 +149,14 @@ pub struct Tokenizer<'a> {
     pub line: Line,
     pub resolvers: Vec<ResolveName>,
     /// How far whitespace is known to go.
-    white: Spread,
+    white: KnownRun,
     /// How far a run of a marker and whitespace is known to go.
-    marks: Spread,
+    marks: KnownRun,
     /// Which open containers are known to go on over an empty line.
-    over: Over,
+    over: KnownContinuing,
     ghost sound: { IsSound bytes.now point limit events.items frames.items skips.items },
-    ghost spread: { IsSpread bytes.now white × IsSpread bytes.now marks },
-    ghost passed: { IsOver containers.items over },
+    ghost spread: { IsKnownRun bytes.now white × IsKnownRun bytes.now marks },
+    ghost passed: { IsKnownContinuing containers.items over },
 }
 
 /// Goes to `State::Error` where there was no memory.
@@ -229,19 +216,6 @@ fn step(point: Point, byte: u8, pair: bool) -> Point
             index: index + 1,
             vs: 0,
         }
-    }
-}
-
-/// The point behind a space, or behind a column of a tab.
-fn next_column(point: Point, byte: u8) -> Point
-    requires white { is_white byte ≡ true }
-    requires room { (point.index < 2 ^ 61) × (point.line < 2 ^ 62) × (point.column < 2 ^ 63 + 99) × (point.vs < 4) }
-    ensures { result ≡ stepped byte false point }
-{
-    if byte == b' ' {
-        further(point, 1)
-    } else {
-        step(point, b'\t', false)
     }
 }
 
@@ -309,8 +283,7 @@ fn turn(events: &mut Vec<Event>, at: usize, count: usize)
 }
 
 impl<'a> Tokenizer<'a> {
-    ghost use Rattle.md_engine.specs.Staying.{SeesAll, SeesColumns, SeesSpan, TakesAll};
-    ghost use Rattle.md_engine.specs.declared.stay.Stay.{Stay};
+    ghost use Rattle.md_engine.specs.Staying.{TakesAll};
     ghost use Rattle.md_engine.specs.World.{closed, world, looks, after, fresh, line_begun, reads_to, registered};
     ghost use Rattle.md_engine.specs.World.{registered_before, skipping};
 
@@ -350,12 +323,11 @@ impl<'a> Tokenizer<'a> {
             line: Line {
                 start: 0,
                 lazy: false,
-                pierce: false,
             },
             resolvers: Vec::new(alloc),
-            white: Spread::NONE,
-            marks: Spread::NONE,
-            over: Over::NONE,
+            white: KnownRun::NONE,
+            marks: KnownRun::NONE,
+            over: KnownContinuing::NONE,
         }
     }
 
@@ -610,124 +582,6 @@ impl<'a> Tokenizer<'a> {
         self.point = frame.point;
     }
 
-    /// Sees what stands at the point, or waits where that is yet to come; whether it waits.
-    pub fn see_or_wait(&mut self, is_end: bool) -> bool
-        ensures waits { result ≡ true →
-            (is_end ≡ false) × ((world self.old).setting.limit ≤ (world self.old).point.index) }
-        ensures same { result ≡ true → world self.new ≡ world self.old }
-        ensures goes_on { result ≡ false →
-            (is_end ≡ true) ⊎ ((world self.old).point.index < (world self.old).setting.limit) }
-        ensures sees { result ≡ false →
-            world self.new ≡ record (world self.old) { current = looks (world self.old) } }
-    {
-        if self.point.index < self.limit {
-            self.current = self.look();
-            return false;
-        }
-        if is_end {
-            self.current = None;
-        }
-        !is_end
-    }
-
-    /// Sees and takes all bytes of a class that stand here, as far as the text may be read.
-    fn see_span(&mut self, class: Class)
-        ensures { SeesSpan class (world self.old) (world self.new) }
-    {
-        let index = self.point.index;
-        if index >= self.limit || !class.has(self.bytes[index]) {
-            return;
-        }
-        self.consume_all(class, self.limit);
-        if self.point.index > index {
-            self.current = Some(self.bytes[self.point.index - 1]);
-        }
-    }
-
-    /// Sees and takes the rest of a word.
-    pub fn see_word(&mut self)
-        ensures { SeesAll Stay.Word (world self.old) (world self.new) }
-    {
-        self.see_span(Class::Word);
-    }
-
-    /// Sees and takes bytes that nothing gives a meaning.
-    pub(crate) fn see_plain(&mut self)
-        ensures { SeesAll Stay.Plain (world self.old) (world self.new) }
-    {
-        self.see_span(Class::Plain);
-    }
-
-    /// Sees and takes spaces and columns of tabs, at most so many, and says how many there were.
-    fn see_columns(&mut self, most: usize) -> usize
-        ensures { SeesColumns most (world self.old) result (world self.new) }
-    {
-        let mut count = 0;
-        let mut point = self.point;
-        let mut seen = self.current;
-        while count < most && point.index < self.limit && is_white(self.bytes[point.index]) {
-            let byte = self.bytes[point.index];
-            seen = Some(if point.vs > 0 { b' ' } else { byte });
-            point = next_column(point, byte);
-            count += 1;
-        }
-        self.point = point;
-        self.current = seen;
-        count
-    }
-
-    /// Sees, takes and counts whitespace, up to its limit.
-    pub(crate) fn see_white(&mut self)
-        ensures { SeesAll Stay.White (world self.old) (world self.new) }
-    {
-        let Whitespace { max, size, .. } = self.scratch.whitespace;
-        if size < max && self.point.index < self.limit && is_white(self.bytes[self.point.index]) {
-            self.scratch.whitespace.size = size + self.see_columns(max - size);
-        }
-    }
-
-    /// Sees and takes the rest of the line.
-    pub(crate) fn see_line(&mut self)
-        ensures { SeesAll Stay.Line (world self.old) (world self.new) }
-    {
-        self.see_span(Class::Text);
-        while self.point.index < self.limit && self.bytes[self.point.index] == b'\t' {
-            self.see_columns(usize::MAX);
-            self.see_span(Class::Text);
-        }
-    }
-
-    /// Sees, takes and counts what stands here, as long as a state takes it that stays.
-    pub(crate) fn see_each(&mut self, stay: Stay)
-        ensures { SeesAll stay (world self.old) (world self.new) }
-    {
-        while let Some(byte) = self.look() {
-            if !stay.takes(&self.scratch, byte) {
-                return;
-            }
-            self.current = Some(byte);
-            self.consume();
-            stay.count(&mut self.scratch, byte);
-        }
-    }
-
-    /// How far the run of a marker and whitespace goes that stands here, as far as the text may be read: up to the index
-    /// of another byte. With a space for the marker it is whitespace alone.
-    pub fn spread_end(&mut self, marker: u8) -> usize
-        ensures ends { EndsSpread (world self.old).setting.bytes marker
-            (world self.old).point.index (world self.old).setting.limit result }
-        ensures same { world self.new ≡ world self.old }
-    {
-        let index = self.point.index;
-        if marker == b' ' {
-            self.white = self.white.found(self.bytes, marker, index, self.limit);
-            self.white.end
-        } else {
-            self.marks = self.marks.found(self.bytes, marker, index, self.limit);
-            self.marks.end
-        }
-    }
-
     /// Lets the text be read up to here.
     pub(crate) fn read_to(&mut self, limit: usize)
         requires { limit ≤ length (world self.old).setting.bytes }
@@ -756,7 +610,7 @@ impl<'a> Tokenizer<'a> {
         ensures { world self.new ≡
             record (world self.old) {
               resolvers = if is_ok result
-                  then registered (λ other. ⟦<ResolveName as PartialEq>⟧.eq other name) (world self.old).resolvers name
+                  then registered (world self.old).resolvers name
                   else (world self.old).resolvers;
             } }
     {
@@ -774,7 +628,7 @@ impl<'a> Tokenizer<'a> {
         ensures { world self.new ≡
             record (world self.old) {
               resolvers = if is_ok result
-                  then registered_before (λ other. ⟦<ResolveName as PartialEq>⟧.eq other name)
+                  then registered_before
                   (world self.old).resolvers name
                   else (world self.old).resolvers;
             } }
@@ -821,7 +675,7 @@ impl<'a> Tokenizer<'a> {
     /// Up to which the open containers from an index on go on over an empty line: the index of the first that does not.
     pub fn over_end(&mut self, index: usize) -> usize
         requires { index ≤ length (world self.old).flags.containers }
-        ensures ends { EndsOver (world self.old).flags.containers index result }
+        ensures ends { EndsContinuing (world self.old).flags.containers index result }
         ensures same { world self.new ≡ world self.old }
     {
         self.over = self.over.found(&self.containers, index);

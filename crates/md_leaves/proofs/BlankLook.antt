@@ -8,7 +8,7 @@ use Rattle.md_leaves.specs.BlankRule.{blank_at}
 use Rattle.md_seam.specs.Ahead.{line_bytes}
 use Rattle.md_seam.specs.Look.{first_seen, seen_behind}
 use Rattle.md_seam.specs.Spaces.{ends_line}
-use Rattle.md_definition.specs.Rest.{is_blank, is_white}
+use Rattle.md_meaning.specs.Rest.{is_blank, is_white}
 use Rattle.md_seam.proofs.AheadLemmas.{white-no_ending}
 
 -- that byte is one of its line, and not white

@@ -21,7 +21,7 @@ use Rattle.md_seam.specs.Ahead.{line_bytes}
 use Rattle.md_seam.specs.Events.Nested.{enter, exit}
 use Rattle.md_seam.specs.Look.{first_seen}
 use Rattle.md_seam.specs.Spaces.{ends_line}
-use Rattle.md_definition.specs.Rest.{is_blank, is_white}
+use Rattle.md_meaning.specs.Rest.{is_blank, is_white}
 use Rattle.md_seam.proofs.AheadLemmas.{white-no_ending}
 
 -- The bytes of a line from here.

@@ -14,7 +14,7 @@ use Rattle.md_leaves.proofs.TitleRuns.{hash-runs, is_hash, pass-first, runs-cut,
 use Rattle.md_leaves.proofs.TitleTexts.{Behind, Closed, Empty, Parted, Plain, Shape, parted}
 use Rattle.md_seam.specs.Events.Grammar.{Expression, Nothing, behind, inside, may_end}
 use Rattle.md_seam.specs.Events.Places.{past_text}
-use Rattle.md_definition.specs.Rest.{is_white, trim_start}
+use Rattle.md_meaning.specs.Rest.{is_white, trim_start}
 use Rattle.md_seam.proofs.GrammarLemmas.{IsWord, Leads, leads-append, maybe, word-behind}
 
 -- whitespace

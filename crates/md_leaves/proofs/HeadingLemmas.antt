@@ -13,7 +13,7 @@ use Rattle.md_leaves.specs.HeadingRule.{in_heading, in_opening, is_heading, is_o
 use Rattle.md_leaves.proofs.LeafSteps.{TakesWhite}
 use Rattle.md_seam.specs.Ahead.{begins_white, line_bytes}
 use Rattle.md_seam.specs.Events.Nested.{enter, exit}
-use Rattle.md_definition.specs.Rest.{is_white, run_len}
+use Rattle.md_meaning.specs.Rest.{is_white, run_len}
 use Rattle.md_seam.proofs.AheadLemmas.{white-no_ending}
 
 -- a run goes on

@@ -1,5 +1,5 @@
 -- A heading takes a whole line, or refuses it.
-use Rattle.std.proofs.Common.{◌≡◌, ℕ, Bool, true, false, ◌&&◌, List, ◌++◌, refl, sym, ◌∙◌, ap}
+use Rattle.std.proofs.Common.{◌≡◌, ℕ, Bool, true, false, List, ◌++◌, refl, sym, ◌∙◌, ap}
 use Rattle.std.proofs.Common.{append_assoc}
 use Rattle.std.proofs.lemmas.Bool.{and_parts}
 use Rattle.md_engine.specs.declared.configuration.ParseOptions.{ParseOptions}
@@ -17,7 +17,7 @@ use Rattle.md_seam.specs.Ahead.{begins_white, from_ending, line_bytes, line_cell
 use Rattle.md_seam.specs.Events.Nested.{around, pair}
 use Rattle.md_seam.specs.Spaces.{calmed, small_indent}
 use Rattle.md_seam.proofs.AheadLemmas.{none-rest, white-ending, white-line_end}
-use Rattle.md_seam.proofs.WhiteSteps.{behind_white}
+use Rattle.md_seam.proofs.WhiteMeaning.{behind_white}
 
 -- a heading that was begun here
 
@@ -100,9 +100,3 @@ heading-refused options cells h calm e = by options.constructs.heading_atx refl
     by false off = at-off HeadingAtx _ before_opening options cells h off
 
 -- The definition of headings, on a line.
-
-flat : (a s b c c' d : Bool) → c ≡ c' → (a && s && b && c && d) ≡ (a && (s && (b && (c' && d))))
-flat false s b c c' d k = refl
-flat true false b c c' d k = refl
-flat true true false c c' d k = refl
-flat true true true c c' d k = ap (λ (x : Bool). x && d) k

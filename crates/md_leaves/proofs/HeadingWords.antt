@@ -3,7 +3,6 @@ use Rattle.std.proofs.Common.{◌≡◌, ℕ, ◌<◌, ◌≤◌, Bool, true, fa
 use Rattle.std.proofs.Common.{Option, Some, None, refl, sym, ◌∙◌, ap, ap₂, inl, inr, ◌⊎◌, subst}
 use Rattle.md_engine.specs.declared.class.Class.TheVariants as class
 use Rattle.md_engine.specs.declared.event.Name.TheVariants.{Data, HeadingAtxSequence}
-use Rattle.md_engine.specs.declared.resolve.name.Name.{Name as ResolveName}
 use Rattle.md_engine.specs.declared.state.Name.TheVariants as n
 use Rattle.md_engine.specs.declared.state.heading_atx.State.TheVariants as its
 use Rattle.md_engine.specs.declared.state.space_or_tab.State.TheVariants as white
@@ -29,9 +28,8 @@ use Rattle.md_seam.proofs.OneSpace.{space-run}
 use Rattle.md_seam.proofs.StaysLemmas.{in-word}
 
 -- text of a heading is taken word by word
-pub data-takes : (is_name : ResolveName → Bool) →
-    TakesEach Word (n.HeadingAtx its.Data) (heading_transition is_name its.Data)
-data-takes is_name w b e h =
+pub data-takes : TakesEach Word (n.HeadingAtx its.Data) (heading_transition its.Data)
+data-takes w b e h =
     let text : sees_text (Some b) ≡ true = ap (λ (x : Bool). not (x || nat_eq b 10)) (in-word b h)
     ∙ ap (λ (x : Bool). not (false || x)) (in-line class.Word b h) in
     ap (λ (x : Bool). data_code w x (sees_white w.current)) (ap sees_text e ∙ text)
@@ -47,54 +45,54 @@ both true true e = cc
 both false y e = cc
 
 -- a word begins,
-pub word-begins : (is_name : ResolveName → Bool) (is_end : Bool) (s : State) (v w : World) →
-    CameTo (HeadingStep is_name) is_end s v (n.HeadingAtx its.AtBreak) w → begins_word w.current ≡ true →
+pub word-begins : (is_end : Bool) (s : State) (v w : World) →
+    CameTo HeadingStep is_end s v (n.HeadingAtx its.AtBreak) w → begins_word w.current ≡ true →
     w.current ≡ looks w → Within w →
-    CameTo (HeadingStep is_name) is_end s v (n.HeadingAtx its.Data) (entered_link w Data heading_link)
-word-begins is_name is_end s v w came is seen within =
+    CameTo HeadingStep is_end s v (n.HeadingAtx its.Data) (entered_link w Data heading_link)
+word-begins is_end s v w came is seen within =
     let b = both (sees_text w.current) (is_current 35 w.current) is in
-    then-stays (HeadingStep is_name) is_end s v (n.HeadingAtx its.AtBreak) (n.HeadingAtx its.Data) w
+    then-stays HeadingStep is_end s v (n.HeadingAtx its.AtBreak) (n.HeadingAtx its.Data) w
     (entered_link w Data heading_link) came
-    (stepped (heading_transition is_name its.AtBreak w) (Retry (n.HeadingAtx its.Data))
+    (stepped (heading_transition its.AtBreak w) (Retry (n.HeadingAtx its.Data))
     (entered_link w Data heading_link)
-    (ap₂ (λ (x y : Bool). at_break_code is_name w x y (ends_line w.current)) b.0 b.1)) refl within refl seen
+    (ap₂ (λ (x y : Bool). at_break_code w x y (ends_line w.current)) b.0 b.1)) refl within refl seen
 
 -- is taken,
-takes-so : (is_name : ResolveName → Bool) → TakesSo (HeadingStep is_name) (n.HeadingAtx its.Data) Word
-takes-so is_name w b e h =
-    stepped (heading_transition is_name its.Data (reading w)) (Next (n.HeadingAtx its.Data)) (stayed Word w)
-    (data-takes is_name (reading w) b e h)
+takes-so : TakesSo HeadingStep (n.HeadingAtx its.Data) Word
+takes-so w b e h =
+    stepped (heading_transition its.Data (reading w)) (Next (n.HeadingAtx its.Data)) (stayed Word w)
+    (data-takes (reading w) b e h)
 
-pub word-taken : (is_name : ResolveName → Bool) (is_end : Bool) (s : State) (v w u : World) →
-    CameTo (HeadingStep is_name) is_end s v (n.HeadingAtx its.Data) w → w.current ≡ looks w → Within w →
+pub word-taken : (is_end : Bool) (s : State) (v w u : World) →
+    CameTo HeadingStep is_end s v (n.HeadingAtx its.Data) w → w.current ≡ looks w → Within w →
     SeesSome Word w u → u.point.index < u.setting.limit →
-    CameTo (HeadingStep is_name) is_end s v (n.HeadingAtx its.Data) (reading u)
-word-taken is_name is_end s v w u came seen within some lt =
-    then-seen (HeadingStep is_name) is_end s v (n.HeadingAtx its.Data) Word w u (takes-so is_name) came seen within some
+    CameTo HeadingStep is_end s v (n.HeadingAtx its.Data) (reading u)
+word-taken is_end s v w u came seen within some lt =
+    then-seen HeadingStep is_end s v (n.HeadingAtx its.Data) Word w u (takes-so) came seen within some
     lt
 
 -- and waits for more,
-pub word-waits : (is_name : ResolveName → Bool) (is_end : Bool) (s : State) (v w u : World) →
-    CameTo (HeadingStep is_name) is_end s v (n.HeadingAtx its.Data) w → w.current ≡ looks w → Within w →
+pub word-waits : (is_end : Bool) (s : State) (v w u : World) →
+    CameTo HeadingStep is_end s v (n.HeadingAtx its.Data) w → w.current ≡ looks w → Within w →
     SeesSome Word w u → w.point.index < w.setting.limit → u.setting.limit ≤ u.point.index →
-    Runs (HeadingStep is_name) is_end s v (Next (n.HeadingAtx its.Data)) u
-word-waits is_name is_end s v w u came seen within some lt le =
-    then-waits (HeadingStep is_name) is_end s v (n.HeadingAtx its.Data) Word w u (takes-so is_name) came seen within
+    Runs HeadingStep is_end s v (Next (n.HeadingAtx its.Data)) u
+word-waits is_end s v w u came seen within some lt le =
+    then-waits HeadingStep is_end s v (n.HeadingAtx its.Data) Word w u (takes-so) came seen within
     some lt le
 
 -- or one space stands behind it, and the next run of the line begins
-pub word-ends : (is_name : ResolveName → Bool) (is_end : Bool) (s : State) (v w : World) →
-    CameTo (HeadingStep is_name) is_end s v (n.HeadingAtx its.Data) w → w.current ≡ looks w → Within w →
+pub word-ends : (is_end : Bool) (s : State) (v w : World) →
+    CameTo HeadingStep is_end s v (n.HeadingAtx its.Data) w → w.current ≡ looks w → Within w →
     IsOneSpace w →
-    CameTo (HeadingStep is_name) is_end s v (n.HeadingAtx its.AtBreak) (spaced (exited w Data))
-word-ends is_name is_end s v w came seen within one =
+    CameTo HeadingStep is_end s v (n.HeadingAtx its.AtBreak) (spaced (exited w Data))
+word-ends is_end s v w came seen within one =
     let here : w.current ≡ Some 32 = seen ∙ one.here in
     let x : World = exited w Data in
     let u : World = (white_then x 1 any_size (Next (n.HeadingAtx its.AtBreak)) Nok).world in
-    space-run (HeadingStep is_name) is_end s v (n.HeadingAtx its.AtBreak) x
+    space-run HeadingStep is_end s v (n.HeadingAtx its.AtBreak) x
     (λ state y to new e. stepped (white_transition state y) to new e)
-    (then-stays (HeadingStep is_name) is_end s v (n.HeadingAtx its.Data) (n.SpaceOrTab white.Start) w u came
-    (stepped (heading_transition is_name its.Data w) (Retry (n.SpaceOrTab white.Start)) u
+    (then-stays HeadingStep is_end s v (n.HeadingAtx its.Data) (n.SpaceOrTab white.Start) w u came
+    (stepped (heading_transition its.Data w) (Retry (n.SpaceOrTab white.Start)) u
     (ap₂ (λ (p q : Bool). data_code w p q) (ap sees_text here) (ap sees_white here))) refl within refl seen) seen
     (within-more w.frames w.events (exit Data w.point ∷ []) within)
     (record { here = one.here; next = one.next; behind = one.behind })
@@ -103,18 +101,18 @@ word-ends is_name is_end s v w came seen within one =
 abbrev pub opening_ended : World → World
 opening_ended w = record (exited w HeadingAtxSequence) { scratch = without_size w.scratch }
 
-pub opening-ends : (is_name : ResolveName → Bool) (is_end : Bool) (s : State) (v w : World) →
-    CameTo (HeadingStep is_name) is_end s v (n.HeadingAtx its.SequenceOpen) w → w.current ≡ looks w → Within w →
+pub opening-ends : (is_end : Bool) (s : State) (v w : World) →
+    CameTo HeadingStep is_end s v (n.HeadingAtx its.SequenceOpen) w → w.current ≡ looks w → Within w →
     IsOneSpace w →
-    CameTo (HeadingStep is_name) is_end s v (n.HeadingAtx its.AtBreak) (spaced (opening_ended w))
-opening-ends is_name is_end s v w came seen within one =
+    CameTo HeadingStep is_end s v (n.HeadingAtx its.AtBreak) (spaced (opening_ended w))
+opening-ends is_end s v w came seen within one =
     let here : w.current ≡ Some 32 = seen ∙ one.here in
     let x : World = opening_ended w in
     let u : World = (white_then x 1 any_size (Next (n.HeadingAtx its.AtBreak)) Nok).world in
-    space-run (HeadingStep is_name) is_end s v (n.HeadingAtx its.AtBreak) x
+    space-run HeadingStep is_end s v (n.HeadingAtx its.AtBreak) x
     (λ state y to new e. stepped (white_transition state y) to new e)
-    (then-stays (HeadingStep is_name) is_end s v (n.HeadingAtx its.SequenceOpen) (n.SpaceOrTab white.Start) w u came
-    (stepped (heading_transition is_name its.SequenceOpen w) (Retry (n.SpaceOrTab white.Start)) u
+    (then-stays HeadingStep is_end s v (n.HeadingAtx its.SequenceOpen) (n.SpaceOrTab white.Start) w u came
+    (stepped (heading_transition its.SequenceOpen w) (Retry (n.SpaceOrTab white.Start)) u
     (ap
     (λ (o : Option ℕ).
     sequence_open_code w (is_current 35 o && nat_lt w.scratch.size 6) (sees_text o) (sees_white o)) here)) refl within
@@ -141,13 +139,13 @@ data-remains w true y = (tt, refl)
 data-remains w false true = ((refl, refl), refl)
 data-remains w false false = ((refl, refl), refl)
 
-pub at_break-remains : (is_name : ResolveName → Bool) (w : World) (x y z : Bool) →
-    Remains (at_break_code is_name w x y z).to w (at_break_code is_name w x y z).world ×
-    ((at_break_code is_name w x y z).world.setting ≡ w.setting)
-at_break-remains is_name w true true z = ((refl, refl), refl)
-at_break-remains is_name w true false z = ((refl, refl), refl)
-at_break-remains is_name w false y true = (tt, refl)
-at_break-remains is_name w false y false = (tt, refl)
+pub at_break-remains : (w : World) (x y z : Bool) →
+    Remains (at_break_code w x y z).to w (at_break_code w x y z).world ×
+    ((at_break_code w x y z).world.setting ≡ w.setting)
+at_break-remains w true true z = ((refl, refl), refl)
+at_break-remains w true false z = ((refl, refl), refl)
+at_break-remains w false y true = (tt, refl)
+at_break-remains w false y false = (tt, refl)
 
 pub remains-of : (a : Transition) (s : State) (w w' : World) → s ≡ a.to → w' ≡ a.world → Remains a.to w a.world →
     Remains s w w'

@@ -10,14 +10,14 @@ use Rattle.md_engine.specs.declared.state.Name.{Name as StateName}
 use Rattle.md_engine.specs.declared.state.State.TheVariants.{Next}
 use Rattle.md_engine.specs.declared.tokenizer.Frame.{Frame}
 use Rattle.md_engine.specs.Meaning.{Behaviour, Cell, Feed, Here, Outcome, Refuses, Steps, here}
-use Rattle.md_engine.specs.Scheme.{After, Fits, Scheme, Spot, after_all, spot}
+use Rattle.md_engine.specs.Scheme.{After, Fits, Scheme, Position, after_all, position}
 use Rattle.md_engine.specs.World.{World}
 use Rattle.md_engine.proofs.Falls.{later_at}
 use Rattle.md_engine.proofs.Local.{refuses, turns}
 use Rattle.md_engine.proofs.StepOf.{Sees, begins, moves, passes}
 use Rattle.md_leaves.specs.LeafStart.{entered_here, start_at, start_code}
 use Rattle.md_leaves.proofs.LeafSteps.{white_frame}
-use Rattle.md_definition.specs.Rest.{is_white}
+use Rattle.md_meaning.specs.Rest.{is_white}
 use Rattle.md_seam.specs.Ahead.{HasWhite, begins_white, line_bytes, line_cells, white_end, white_rest}
 use Rattle.md_seam.specs.Events.Nested.{enter, pair}
 use Rattle.md_seam.specs.Look.{first_seen, seen_behind}
@@ -25,8 +25,8 @@ use Rattle.md_seam.specs.Spaces.{IsRest, rest_ready, sees_white, small_indent}
 use Rattle.md_seam.specs.Transition.{entered}
 use Rattle.md_seam.proofs.AheadLemmas.{none-end, none-rest, small-some}
 use Rattle.md_seam.proofs.LookLemmas.{rest-begins}
-use Rattle.md_seam.proofs.SpacesGoods.{Does, WhiteFits, rest-calm, rest-none, white_try}
-use Rattle.md_seam.proofs.WhiteSteps.{begins-seen, behind_white, white-tried}
+use Rattle.md_seam.proofs.SpacesTermination.{Does, WhiteFits, rest-calm, rest-none, white_try}
+use Rattle.md_seam.proofs.WhiteMeaning.{begins-seen, behind_white, white-tried}
 
 -- What is left of it: where it is off,
 pub at-off : (name : Name) (on : Bool) (behind : List Cell → Here → Outcome) (options : ParseOptions)
@@ -145,23 +145,23 @@ pub record FitsStart (T own : Scheme) (start next : StateName) : Type 1 where
   pub white : WhiteFits T
   pub start_fits : Fits T own start
   pub next_fits : Fits T own next
-  pub ready : (x : Spot) (K : After) → rest_ready x K → own.ready next x K
+  pub ready : (x : Position) (K : After) → rest_ready x K → own.ready next x K
   pub level : own.level next ≤ own.level start
   pub some : 0 < own.level start
-  pub falls : (x : Spot) → (own.rank next x).number < (own.tries next).number
-  pub tries : (x : Spot) → (own.tries next).number < (own.rank start x).number
+  pub falls : (x : Position) → (own.rank next x).number < (own.tries next).number
+  pub tries : (x : Position) → (own.tries next).number < (own.rank start x).number
 
 pub good-start : (T own : Scheme) (name : Name) (start next : StateName) (w : World) (x y : Bool) →
     FitsStart T own start next →
-    rest_ready (spot w) (after_all T w.frames) → Does T start w (start_code name next w x y)
+    rest_ready (position w) (after_all T w.frames) → Does T start w (start_code name next w x y)
 good-start T own name start next w false y has r = (refuses T _ w _ _ w.events w.scratch r.1 r.0, refl)
 good-start T own name start next w true true has r =
     white_try T own start next w (entered w name).events w.scratch 0 (small_indent w.setting.options) IsRest IsRest
     has.white has.start_fits has.next_fits (rest-none w.scratch r.0) (λ some. rest-calm w.scratch r.0) r.1
-    (λ q t up way. has.ready _ _ (rest-calm w.scratch r.0, later_at _ _ (spot w) _ q t _ up way r.1)) has.level has.some
+    (λ q t up way. has.ready _ _ (rest-calm w.scratch r.0, later_at _ _ (position w) _ q t _ up way r.1)) has.level has.some
     (λ t up. has.falls _) (has.tries _)
 good-start T own name start next w true false has r = (
   turns T own start next w (entered w name).events w.scratch has.start_fits has.next_fits (has.ready _ _ r) has.level
-      (let a = has.falls (spot w) in let b = has.tries (spot w) in omega (arith, a, b)),
+      (let a = has.falls (position w) in let b = has.tries (position w) in omega (arith, a, b)),
   refl,
 )

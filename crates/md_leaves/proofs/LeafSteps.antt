@@ -10,12 +10,12 @@ use Rattle.md_engine.specs.declared.tokenizer.Scratch.{Scratch}
 use Rattle.md_engine.specs.Meaning.{Cell, Feed, Here, Outcome}
 use Rattle.md_engine.specs.World.{World, after}
 use Rattle.md_engine.proofs.StepOf.{Sees, ahead, cell_here}
-use Rattle.md_definition.specs.Bytes.{is_end}
+use Rattle.md_meaning.specs.Bytes.{is_end}
 use Rattle.md_seam.specs.Ahead.{from_ending, line_bytes, line_cells, white_end, white_rest}
 use Rattle.md_seam.specs.Events.Nested.{enter, exit}
-use Rattle.md_definition.specs.Rest.{is_white}
+use Rattle.md_meaning.specs.Rest.{is_white}
 use Rattle.md_seam.specs.Spaces.{calmed, ends_line, is_current, sees_white}
-use Rattle.md_seam.proofs.WhiteSteps.{behind_white}
+use Rattle.md_seam.proofs.WhiteMeaning.{behind_white}
 
 -- what is seen of a byte that passes a test
 pub sees-one : (feed : Feed) (w : World) (t : Option ℕ → Bool) → t None ≡ false → Sees feed w → t w.current ≡ true →

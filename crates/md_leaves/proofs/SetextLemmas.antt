@@ -16,7 +16,7 @@ use Rattle.md_leaves.proofs.HeadingLemmas.{run_len-one, run_len-other}
 use Rattle.md_leaves.proofs.LeafSteps.{TakesWhite}
 use Rattle.md_seam.specs.Ahead.{from_ending, line_bytes, line_cells, line_end}
 use Rattle.md_seam.specs.Events.Nested.{enter, exit}
-use Rattle.md_definition.specs.Rest.{is_blank, is_white}
+use Rattle.md_meaning.specs.Rest.{is_blank, is_white}
 use Rattle.md_seam.proofs.AheadLemmas.{white-no_ending}
 
 -- a marker ends no line,

@@ -1,22 +1,19 @@
 -- Blocks of several lines, line by line.
 --
 -- A line is its begin, what stands inside, its end, and what stands between it and the next block.
-use Rattle.std.proofs.Common.{◌≡◌, Bool, true, false, List, [], ◌∷◌, ◌++◌, refl, ap, sym, ◌∙◌, append_assoc}
+use Rattle.std.proofs.Common.{◌≡◌, Bool, true, false, List, [], ◌∷◌, ◌++◌, refl, ap, ◌∙◌}
 use Rattle.std.specs.Prelude.{map}
 use Rattle.md_engine.specs.declared.event.Event.{Event}
 use Rattle.md_engine.specs.declared.event.Kind.{Kind}
 use Rattle.md_engine.specs.declared.event.Kind.TheVariants.{Enter, Exit}
-use Rattle.md_engine.specs.declared.event.Point.{Point}
 use Rattle.md_leaves.specs.declared.spans.Place.{Place}
 use Rattle.md_leaves.specs.declared.spans.Place.TheVariants.{Between, Inside, Outside}
-use Rattle.md_leaves.specs.Spanned.{Begins, Ends, GoesOn, Stays, Turn, begins_further, given, given_by, goes_on}
-use Rattle.md_leaves.specs.Spanned.{has_lines, links_back, passes, place_after, place_by, renamed, spanned}
+use Rattle.md_leaves.specs.Spanned.{Begins, Ends, GoesOn, Turn, begins_further, given_by, goes_on}
+use Rattle.md_leaves.specs.Spanned.{has_lines, links_back, passes, place_by, renamed}
 use Rattle.md_leaves.specs.Spanned.{spanned_from, turn, turn_by}
 use Rattle.md_leaves.proofs.SpannedLemmas.{passes-given, stays-given}
 use Rattle.md_seam.specs.Events.Blocks.{is_block}
-use Rattle.md_seam.specs.Events.Nested.{Forward}
-use Rattle.md_seam.specs.Events.Spelled.{Opens, Role, role}
-use Rattle.md_seam.proofs.NestedLemmas.{forward-from}
+use Rattle.md_seam.specs.Events.Spelled.{LeafRole, Role, role}
 
 -- events that pass a place as they are; of no line; of no block
 abbrev pub Pass : Place → List Event → Type 0
@@ -61,11 +58,11 @@ spanned-inside es rest h = spanned-passes Inside es rest (inside-passes es h)
 
 -- lines are of blocks
 pub lines-block : (x : Role) → has_lines x ≡ true → is_block x ≡ true
-lines-block (Opens kind) h = refl
+lines-block (LeafRole kind) h = refl
 lines-block _ h = absurd (let none : false ≡ true = h in cc)
 
 no_block-line : (x : Role) → is_block x ≡ false → has_lines x ≡ false
-no_block-line (Opens kind) h = absurd (let block : true ≡ false = h in cc)
+no_block-line (LeafRole kind) h = absurd (let block : true ≡ false = h in cc)
 no_block-line _ h = refl
 
 pub blocks-lines : (es : List Event) → NoBlocks es → NoLines es
@@ -162,63 +159,7 @@ pub line-last : (inside : List Event) (e : Event) (rest : List Event) → NoLine
 line-last inside e rest plain end last =
     spanned-inside inside (e ∷ rest) plain ∙ ap (λ (l : List Event). inside ++ l) (block-ends Inside e rest end last)
 
--- A block that begins where none is open, by its first line.
-pub block-joined : (b : Event) (inside : List Event) (e : Event) (gap : List Event) (f : Event) (rest : List Event) →
-    IsBegin b → NoLines inside → IsEnd e → NoBlocks gap → IsFurther f →
-    spanned (b ∷ (inside ++ e ∷ (gap ++ f ∷ rest)))
-    ≡ b ∷ (inside ++ (map (renamed Between) gap ++ spanned_from Inside rest))
-block-joined b inside e gap f rest begin plain end free further =
-    line-begins Outside b (inside ++ e ∷ (gap ++ f ∷ rest)) begin
-    ∙ ap (λ (l : List Event). b ∷ l) (line-joined inside e gap f rest plain end free further)
-
--- A block of one line stays as it is.
-pub block-alone : (b : Event) (inside : List Event) (e : Event) (rest : List Event) → IsBegin b → NoLines inside →
-    IsEnd e → goes_on rest ≡ false →
-    spanned (b ∷ (inside ++ e ∷ rest)) ≡ b ∷ (inside ++ e ∷ spanned rest)
-block-alone b inside e rest begin plain end last =
-    line-begins Outside b (inside ++ e ∷ rest) begin
-    ∙ ap (λ (l : List Event). b ∷ l) (line-last inside e rest plain end last)
-
 -- Texts side by side.
-
--- where one is behind some events, if no further line stands ahead of them
-abbrev pub place_behind : Place → List Event → Place
-place_behind place [] = place
-place_behind place (e ∷ es) = place_behind (place_after place e es) es
-
-goes_on-front : (es rest : List Event) → goes_on rest ≡ false → goes_on (es ++ rest) ≡ goes_on es
-goes_on-front [] rest last = last
-goes_on-front (e ∷ es) rest last =
-    go (is_block (role e.name)) refl (goes_on-front es rest last)
-  where
-    go : (x : Bool) → is_block (role e.name) ≡ x → goes_on (es ++ rest) ≡ goes_on es →
-        goes_on (e ∷ (es ++ rest)) ≡ goes_on (e ∷ es)
-    go true h k = rw h refl
-    go false h k = rw h k
-
--- Where no further line stands ahead, events are joined by themselves.
-pub spanned-append : (place : Place) (es rest : List Event) → goes_on rest ≡ false →
-    spanned_from place (es ++ rest) ≡ spanned_from place es ++ spanned_from (place_behind place es) rest
-spanned-append place [] rest last = refl
-spanned-append place (e ∷ es) rest last =
-    ap (λ (on : Bool). given_by (turn e) place on e ++ spanned_from (place_by (turn e) place on) (es ++ rest))
-    (goes_on-front es rest last)
-    ∙ ap (λ (l : List Event). given place e es ++ l) (spanned-append (place_after place e es) es rest last)
-    ∙ sym
-    (append_assoc (given place e es) (spanned_from (place_after place e es) es)
-    (spanned_from (place_behind (place_after place e es) es) rest))
-
--- So texts are joined side by side, where no block is open behind the first and no further line begins the second.
-pub spanned-texts : (es rest : List Event) → place_behind Outside es ≡ Outside → goes_on rest ≡ false →
-    spanned (es ++ rest) ≡ spanned es ++ spanned rest
-spanned-texts es rest closed last =
-    spanned-append Outside es rest last
-    ∙ ap (λ (place : Place). spanned es ++ spanned_from place rest) closed
-
--- What is of no block is no further line.
-pub goes_on-none : (es : List Event) → NoBlocks es → goes_on es ≡ false
-goes_on-none [] h = refl
-goes_on-none (e ∷ es) h = rw h.0 (goes_on-none es h.1)
 
 -- Nor is what begins or ends another block.
 pub goes_on-other : (e : Event) (es : List Event) → is_block (role e.name) ≡ true → begins_further e ≡ false →
@@ -226,20 +167,3 @@ pub goes_on-other : (e : Event) (es : List Event) → is_block (role e.name) ≡
 goes_on-other e es block other = rw (block, other) refl
 
 -- Points.
-
--- Points that never go back still never do.
-pub spanned-forward : (p : Point) (place : Place) (es : List Event) → Forward p es → Forward p (spanned_from place es)
-spanned-forward p place [] h = tt
-spanned-forward p place (e ∷ es) h =
-    go (turn e) place (goes_on es) (spanned_from (place_after place e es) es)
-    (spanned-forward e.point (place_after place e es) es h.1)
-  where
-    go : (t : Turn) (place : Place) (on : Bool) (behind : List Event) → Forward e.point behind →
-        Forward p (given_by t place on e ++ behind)
-    go Begins place on behind k = (h.0, k)
-    go GoesOn Outside on behind k = (h.0, k)
-    go GoesOn Inside on behind k = (h.0, k)
-    go GoesOn Between on behind k = forward-from p e.point behind h.0 k
-    go Ends place true behind k = forward-from p e.point behind h.0 k
-    go Ends place false behind k = (h.0, k)
-    go Stays place on behind k = (h.0, k)

@@ -20,10 +20,10 @@ use Rattle.md_leaves.proofs.TitleRuns.{opened-white, pass-first, runs-cut, text-
 use Rattle.md_leaves.proofs.TitleRuns.{within-white}
 use Rattle.md_leaves.proofs.TitleTexts.{Behind, Closed, Empty, Parted, Plain, Shape, first-front, is_solid, parted}
 use Rattle.md_seam.specs.declared.inline.Chunk.{Chunk}
-use Rattle.md_definition.specs.Bytes.{begins}
+use Rattle.md_meaning.specs.Bytes.{begins}
 use Rattle.md_seam.specs.Events.Nested.{exit, pair}
 use Rattle.md_seam.specs.Events.Places.{past_text}
-use Rattle.md_definition.specs.Rest.{is_white, run_len, trim_start}
+use Rattle.md_meaning.specs.Rest.{is_white, run_len, trim_start}
 use Rattle.md_seam.proofs.InlineLemmas.{past_text-append}
 
 -- the end of a heading, and what follows

@@ -11,10 +11,10 @@ use Rattle.md_engine.specs.declared.event.Point.{Point}
 use Rattle.md_leaves.specs.HeadingRule.{Apart, Hashes, Run, Text, White, begun, closes, goes_on, opens}
 use Rattle.md_leaves.specs.HeadingText.{Before, Opened, Within, resolved}
 use Rattle.md_leaves.specs.HeadingTitle.{line_runs}
-use Rattle.md_definition.specs.Bytes.{begins}
+use Rattle.md_meaning.specs.Bytes.{begins}
 use Rattle.md_seam.specs.Events.Nested.{enter, exit, pair}
 use Rattle.md_seam.specs.Events.Places.{past_byte, past_text}
-use Rattle.md_definition.specs.Rest.{is_white}
+use Rattle.md_meaning.specs.Rest.{is_white}
 
 abbrev pub is_hash : ℕ → Bool
 is_hash b = b == 35

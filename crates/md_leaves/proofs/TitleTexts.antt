@@ -14,9 +14,9 @@ use Rattle.md_engine.proofs.Sound.{All-reverse}
 use Rattle.md_leaves.specs.HeadingRule.{Apart, Hashes, Run, Text, White, begun, goes_on}
 use Rattle.md_leaves.specs.HeadingTitle.{front_len, text_of}
 use Rattle.md_leaves.proofs.TitleRuns.{is_hash, last-append, last_run, pass-first, text-last}
-use Rattle.md_definition.specs.Bytes.{begins}
-use Rattle.md_definition.specs.Leaves.{without_closing}
-use Rattle.md_definition.specs.Rest.{is_parted, is_white, run_len, trim_end, trim_start}
+use Rattle.md_meaning.specs.Bytes.{begins}
+use Rattle.md_meaning.specs.Leaves.{without_closing}
+use Rattle.md_meaning.specs.Rest.{is_parted, is_white, run_len, trim_end, trim_start}
 
 -- A list in two: what passes a test in front, or at its end.
 

@@ -207,11 +207,6 @@ abbrev pub AreUnturned : List Event → Type 0
 AreUnturned [] = Unit {0}
 AreUnturned (e ∷ es) = (passes e ≡ true) × AreUnturned es
 
--- they pass side by side
-pub unturned-append : (xs ys : List Event) → AreUnturned xs → AreUnturned ys → AreUnturned (xs ++ ys)
-unturned-append [] ys h k = k
-unturned-append (e ∷ xs) ys h k = (h.0, unturned-append xs ys h.1 k)
-
 -- they stay as they are, in front of any others
 pub turned-passes : (on : Bool) (xs es : List Event) → AreUnturned xs →
     turned_from on (xs ++ es) ≡ xs ++ turned_from on es
@@ -309,11 +304,6 @@ abbrev pub ArePrefixes : List Event → Type 0
 ArePrefixes [] = Unit {0}
 ArePrefixes (e ∷ es) = (is_prefix e.name ≡ true) × ArePrefixes es
 
--- they stand side by side
-pub prefixes-append : (xs ys : List Event) → ArePrefixes xs → ArePrefixes ys → ArePrefixes (xs ++ ys)
-prefixes-append [] ys h k = k
-prefixes-append (e ∷ xs) ys h k = (h.0, prefixes-append xs ys h.1 k)
-
 -- a prefix is of no paragraph and of no underline
 prefix-passes : (e : Event) → is_prefix e.name ≡ true → passes e ≡ true
 prefix-passes e h = go e.name h
@@ -358,35 +348,6 @@ turned-underlined p q x y a b inside front under es h k l =
 -- no underline begins behind the prefixes in front of these
 abbrev pub Unlined : List Event → Type 0
 Unlined es = underline_behind es ≡ false
-
--- since nothing stands there,
-pub unlined-none : Unlined []
-unlined-none = refl
-
--- or another part begins or ends,
-pub unlined-other : (e : Event) (es : List Event) → is_prefix e.name ≡ false → is_underline e.name ≡ false →
-    Unlined (e ∷ es)
-unlined-other e es h k = rw (h, k) (go e.kind)
-  where
-    go : (kind : Kind) → (is_enter kind && false) ≡ false
-    go Enter = refl
-    go Exit = refl
-
--- or a part ends,
-pub unlined-exit : (e : Event) (es : List Event) → is_prefix e.name ≡ false → e.kind ≡ Exit → Unlined (e ∷ es)
-unlined-exit e es h k = rw (h, k) refl
-
--- or no event is of an underline
-pub unlined-free : (es : List Event) → NoUnderlines es → Unlined es
-unlined-free es h = none-behind es h
-
--- nor does one behind prefixes in front of those
-pub unlined-prefixes : (front es : List Event) → ArePrefixes front → Unlined es → Unlined (front ++ es)
-unlined-prefixes front es h k = underline-past front es h ∙ k
-
--- then a paragraph has none that ends in front of an ending and these,
-pub no-underline : (x y : Point) (es : List Event) → Unlined es → has_underline (pair n.LineEnding x y ++ es) ≡ false
-no-underline x y es h = h
 
 -- nor one that ends in front of anything but an ending
 pub no-ending : (e : Event) (es : List Event) → is_line_ending e.name ≡ false → has_underline (e ∷ es) ≡ false

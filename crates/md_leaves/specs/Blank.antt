@@ -5,7 +5,7 @@ use Rattle.md_engine.specs.declared.state.Name.TheVariants as n
 use Rattle.md_engine.specs.declared.state.blank_line.State.{State as BlankState}
 use Rattle.md_engine.specs.declared.state.blank_line.State.TheVariants as its
 use Rattle.md_engine.specs.declared.state.State.TheVariants.{Ok, Nok, Next, Retry}
-use Rattle.md_engine.specs.Scheme.{Rank, Scheme, Spot, ranked}
+use Rattle.md_engine.specs.Scheme.{Rank, Scheme, Position, ranked}
 use Rattle.md_engine.specs.World.{World}
 use Rattle.md_seam.specs.Spaces.{any_size, ends_line, rest_ready, sees_white, white_then}
 use Rattle.md_seam.specs.Transition.{Transition}
@@ -37,7 +37,7 @@ blank_transition its.Start w = start_transition w
 blank_transition its.After w = after_transition w
 
 -- a blank line begins and ends at rest
-abbrev pub blank_rank : StateName → Spot → Rank
+abbrev pub blank_rank : StateName → Position → Rank
 blank_rank (n.BlankLine its.Start) x = ranked 2 refl
 blank_rank _ x = ranked 0 refl
 

@@ -8,9 +8,9 @@ use Rattle.md_engine.specs.declared.state.blank_line.State.{State as BlankState}
 use Rattle.md_engine.specs.declared.state.blank_line.State.TheVariants as its
 use Rattle.md_engine.specs.Meaning.{Accepts, Behaviour, Cell, Here, Outcome, Refuses}
 use Rattle.md_seam.specs.Ahead.{HasWhite, begins_white, from_ending, line_bytes, line_end}
-use Rattle.md_definition.specs.Bytes.{is_end}
+use Rattle.md_meaning.specs.Bytes.{is_end}
 use Rattle.md_seam.specs.Events.Nested.{pair}
-use Rattle.md_definition.specs.Rest.{is_blank}
+use Rattle.md_meaning.specs.Rest.{is_blank}
 
 -- behind the whitespace: the line ends
 unfoldable pub after_blank : List Cell → Here → Outcome

@@ -6,7 +6,7 @@ use Rattle.md_engine.specs.declared.state.Name.TheVariants as n
 use Rattle.md_engine.specs.declared.state.bom.State.{State as BomState}
 use Rattle.md_engine.specs.declared.state.bom.State.TheVariants as its
 use Rattle.md_engine.specs.declared.state.State.TheVariants.{Ok, Nok, Next, Retry}
-use Rattle.md_engine.specs.Scheme.{After, Ends, Rank, Scheme, Spot, ranked}
+use Rattle.md_engine.specs.Scheme.{After, Ends, Rank, Scheme, Position, ranked}
 use Rattle.md_engine.specs.World.{World}
 use Rattle.md_leaves.specs.Heading.{without_size}
 use Rattle.md_seam.specs.Spaces.{IsRest, is_current, rest_ready}
@@ -55,15 +55,15 @@ BomNeeds (n.Bom its.Inside) w = w.scratch.size < 3
 BomNeeds _ w = Unit {0}
 
 -- Inside, not all of the mark is taken.
-pub record IsMarking (x : Spot) : Type 0 where
+pub record IsMarking (x : Position) : Type 0 where
   pub size : x.scratch.size < 3
   pub rest : IsRest (without_size x.scratch)
 
-abbrev pub bom_ready : StateName → Spot → After → Type 0
+abbrev pub bom_ready : StateName → Position → After → Type 0
 bom_ready (n.Bom its.Inside) x K = IsMarking x × Ends IsRest IsRest x K
 bom_ready _ x K = rest_ready x K
 
-abbrev pub bom_rank : StateName → Spot → Rank
+abbrev pub bom_rank : StateName → Position → Rank
 bom_rank (n.Bom its.Start) x = ranked 1 refl
 bom_rank _ x = ranked 0 refl
 

@@ -8,7 +8,7 @@ use Rattle.md_engine.specs.declared.state.thematic_break.State.{State as BreakSt
 use Rattle.md_engine.specs.declared.state.thematic_break.State.TheVariants as its
 use Rattle.md_engine.specs.declared.state.State.TheVariants.{Ok, Nok, Next, Retry}
 use Rattle.md_engine.specs.declared.tokenizer.Scratch.{Scratch}
-use Rattle.md_engine.specs.Scheme.{After, Ends, Rank, Scheme, Spot, cells_before, ranked, seen}
+use Rattle.md_engine.specs.Scheme.{After, Ends, Rank, Scheme, Position, cells_before, ranked, seen}
 use Rattle.md_engine.specs.World.{World}
 use Rattle.md_leaves.specs.HeadingSetext.{turns_nothing}
 use Rattle.md_leaves.specs.LeafStart as leaf
@@ -111,7 +111,7 @@ break_transition its.OneRun w = one_run_transition w
 break_transition its.OneRunAfter w = one_run_after_transition w
 
 -- Behind the indent there is a marker, and those that were taken lie before the point.
-pub record IsMarked (x : Spot) : Type 0 where
+pub record IsMarked (x : Position) : Type 0 where
   pub marker : is_marker x.scratch.marker ≡ true
   pub size : x.scratch.size ≤ cells_before x.point
   pub rest : IsRest (without_marker x.scratch)
@@ -121,14 +121,14 @@ BreakNeeds (n.ThematicBreak its.Sequence) w = w.scratch.size ≤ cells_before w.
 BreakNeeds (n.ThematicBreak its.OneRun) w = w.scratch.size ≤ cells_before w.point
 BreakNeeds _ w = Unit {0}
 
-abbrev pub break_ready : StateName → Spot → After → Type 0
+abbrev pub break_ready : StateName → Position → After → Type 0
 break_ready (n.ThematicBreak its.AtBreak) x K = IsMarked x × Ends IsRest IsRest x K
 break_ready (n.ThematicBreak its.Sequence) x K = IsMarked x × Ends IsRest IsRest x K
 break_ready (n.ThematicBreak its.OneRun) x K = IsMarked x × Ends IsRest IsRest x K
 break_ready (n.ThematicBreak its.OneRunAfter) x K = IsMarked x × Ends IsRest IsRest x K
 break_ready _ x K = rest_ready x K
 
-abbrev pub break_rank : StateName → Spot → Rank
+abbrev pub break_rank : StateName → Position → Rank
 break_rank (n.ThematicBreak its.Start) x = ranked 6 refl
 break_rank (n.ThematicBreak its.Before) x = ranked 4 refl
 break_rank (n.ThematicBreak its.AtBreak) x =

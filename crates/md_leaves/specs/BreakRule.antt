@@ -17,9 +17,9 @@ use Rattle.md_leaves.specs.HeadingSetextRule.{is_run, is_underline}
 pub use Rattle.md_leaves.specs.MarkRuns.{Apart, Marks, Run, White}
 use Rattle.md_leaves.specs.MarkRuns.{mark_runs}
 use Rattle.md_seam.specs.Ahead.{HasWhite, begins_white, from_ending, line_bytes, line_cells, line_end}
-use Rattle.md_definition.specs.Leaves.{is_rule}
+use Rattle.md_meaning.specs.Leaves.{is_rule}
 use Rattle.md_seam.specs.Events.Nested.{exit}
-use Rattle.md_definition.specs.Rest.{is_white}
+use Rattle.md_meaning.specs.Rest.{is_white}
 use Rattle.md_seam.specs.Look.{first_seen}
 use Rattle.md_seam.specs.Spaces.{ends_line}
 

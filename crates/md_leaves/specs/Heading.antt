@@ -4,7 +4,6 @@ use Rattle.std.specs.Prelude.{Option, Some, None}
 use Rattle.md_engine.specs.declared.event.Content.TheVariants as content
 use Rattle.md_engine.specs.declared.event.Link.{Link}
 use Rattle.md_engine.specs.declared.event.Name.TheVariants.{Data, HeadingAtx, HeadingAtxSequence}
-use Rattle.md_engine.specs.declared.resolve.name.Name.{Name as ResolveName}
 use Rattle.md_engine.specs.declared.resolve.name.Name.TheVariants.{HeadingAtx as HeadingResolver}
 use Rattle.md_engine.specs.declared.state.Name.{Name as StateName}
 use Rattle.md_engine.specs.declared.state.Name.TheVariants as n
@@ -12,10 +11,10 @@ use Rattle.md_engine.specs.declared.state.heading_atx.State.{State as HeadingSta
 use Rattle.md_engine.specs.declared.state.heading_atx.State.TheVariants as its
 use Rattle.md_engine.specs.declared.state.State.TheVariants.{Ok, Nok, Next, Retry}
 use Rattle.md_engine.specs.declared.tokenizer.Scratch.{Scratch}
-use Rattle.md_engine.specs.Scheme.{After, Ends, Rank, Scheme, Spot, ranked, seen}
+use Rattle.md_engine.specs.Scheme.{After, Ends, Rank, Scheme, Position, ranked, seen}
 use Rattle.md_engine.specs.World.{World, registered}
 use Rattle.md_leaves.specs.LeafStart as leaf
-use Rattle.md_definition.specs.Rest.{is_white}
+use Rattle.md_meaning.specs.Rest.{is_white}
 use Rattle.md_seam.specs.Spaces.{any_size, ends_line, IsRest, is_current, rest_ready, sees_white, white_then}
 use Rattle.md_seam.specs.Transition.{Transition, entered, entered_link, exited, taken}
 
@@ -55,17 +54,17 @@ sequence_open_code w false true white = record { to = Nok; world = record w { sc
 sequence_open_code w false false white =
     behind_part (record (exited w HeadingAtxSequence) { scratch = without_size w.scratch }) white
 
--- by whether text, `#` or the line's end stands here; `is_name` finds the resolver of headings
-abbrev pub at_break_code : (ResolveName → Bool) → World → Bool → Bool → Bool → Transition
-at_break_code is_name w true true ending =
+-- by whether text, `#` or the line's end stands here
+abbrev pub at_break_code : World → Bool → Bool → Bool → Transition
+at_break_code w true true ending =
     record { to = Retry (n.HeadingAtx its.SequenceFurther); world = entered w HeadingAtxSequence }
-at_break_code is_name w true false ending =
+at_break_code w true false ending =
     record { to = Retry (n.HeadingAtx its.Data); world = entered_link w Data heading_link }
-at_break_code is_name w false hash true = record {
+at_break_code w false hash true = record {
   to = Ok;
-  world = record (exited w HeadingAtx) { resolvers = registered is_name w.resolvers HeadingResolver };
+  world = record (exited w HeadingAtx) { resolvers = registered w.resolvers HeadingResolver };
 }
-at_break_code is_name w false hash false = record { to = Nok; world = w }
+at_break_code w false hash false = record { to = Nok; world = w }
 
 -- by whether `#` or whitespace stands here
 abbrev pub sequence_further_code : World → Bool → Bool → Transition
@@ -90,9 +89,9 @@ sequence_open_transition w =
     sequence_open_code w (is_current 35 w.current && nat_lt w.scratch.size 6) (sees_text w.current)
     (sees_white w.current)
 
-abbrev pub at_break_transition : (ResolveName → Bool) → World → Transition
-at_break_transition is_name w =
-    at_break_code is_name w (sees_text w.current) (is_current 35 w.current) (ends_line w.current)
+abbrev pub at_break_transition : World → Transition
+at_break_transition w =
+    at_break_code w (sees_text w.current) (is_current 35 w.current) (ends_line w.current)
 
 abbrev pub sequence_further_transition : World → Transition
 sequence_further_transition w = sequence_further_code w (is_current 35 w.current) (sees_white w.current)
@@ -101,24 +100,24 @@ abbrev pub data_transition : World → Transition
 data_transition w = data_code w (sees_text w.current) (sees_white w.current)
 
 -- all of them
-abbrev pub heading_transition : (ResolveName → Bool) → HeadingState → World → Transition
-heading_transition is_name its.Start w = start_transition w
-heading_transition is_name its.Before w = before_transition w
-heading_transition is_name its.SequenceOpen w = sequence_open_transition w
-heading_transition is_name its.AtBreak w = at_break_transition is_name w
-heading_transition is_name its.SequenceFurther w = sequence_further_transition w
-heading_transition is_name its.Data w = data_transition w
+abbrev pub heading_transition : HeadingState → World → Transition
+heading_transition its.Start w = start_transition w
+heading_transition its.Before w = before_transition w
+heading_transition its.SequenceOpen w = sequence_open_transition w
+heading_transition its.AtBreak w = at_break_transition w
+heading_transition its.SequenceFurther w = sequence_further_transition w
+heading_transition its.Data w = data_transition w
 
 -- In the opening sequence at most six were taken.
-pub record IsOpeningPrefix (x : Spot) : Type 0 where
+pub record IsOpeningPrefix (x : Position) : Type 0 where
   pub size : x.scratch.size ≤ 6
   pub rest : IsRest (without_size x.scratch)
 
-abbrev pub heading_ready : StateName → Spot → After → Type 0
+abbrev pub heading_ready : StateName → Position → After → Type 0
 heading_ready (n.HeadingAtx its.SequenceOpen) x K = IsOpeningPrefix x × Ends IsRest IsRest x K
 heading_ready _ x K = rest_ready x K
 
-abbrev pub heading_rank : StateName → Spot → Rank
+abbrev pub heading_rank : StateName → Position → Rank
 heading_rank (n.HeadingAtx its.Start) x = ranked 5 refl
 heading_rank (n.HeadingAtx its.Before) x = ranked 3 refl
 heading_rank (n.HeadingAtx its.SequenceOpen) x = ranked 2 refl

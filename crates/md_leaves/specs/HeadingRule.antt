@@ -15,7 +15,7 @@ use Rattle.md_leaves.specs.Heading.{heading_link, without_size}
 use Rattle.md_seam.specs.Ahead.{HasWhite, begins_white, from_ending, line_bytes, line_cells, line_end, white_end}
 use Rattle.md_seam.specs.Ahead.{white_rest}
 use Rattle.md_seam.specs.Events.Nested.{enter, exit, pair}
-use Rattle.md_definition.specs.Rest.{is_parted, is_white, run_len}
+use Rattle.md_meaning.specs.Rest.{is_parted, is_white, run_len}
 use Rattle.md_seam.specs.Spaces.{small_indent}
 
 -- in which run of a line a place lies

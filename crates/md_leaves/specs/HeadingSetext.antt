@@ -13,7 +13,7 @@ use Rattle.md_engine.specs.declared.tokenizer.Scratch.{Scratch}
 use Rattle.md_engine.specs.declared.tokenizer.held_leaf.HeldLeaf.{HeldLeaf}
 use Rattle.md_engine.specs.declared.tokenizer.held_leaf.HeldLeaf.TheVariants as held_leaf
 use Rattle.md_engine.specs.Progress.{is_whole}
-use Rattle.md_engine.specs.Scheme.{After, Ends, Rank, Scheme, Spot, cells_before, ranked, seen}
+use Rattle.md_engine.specs.Scheme.{After, Ends, Rank, Scheme, Position, cells_before, ranked, seen}
 use Rattle.md_engine.specs.World.{World}
 use Rattle.md_leaves.specs.LeafStart as leaf
 use Rattle.md_seam.specs.Spaces.{any_size, ends_line, IsRest, is_current, rest_ready, sees_white, white_then}
@@ -100,7 +100,7 @@ setext_transition its.Inside w = inside_transition w
 setext_transition its.After w = after_transition w
 
 -- In the run the marker is known, and those that were taken lie before the point.
-pub record IsMarked (x : Spot) : Type 0 where
+pub record IsMarked (x : Position) : Type 0 where
   pub marker : is_marker x.scratch.marker ≡ true
   pub size : x.scratch.size ≤ cells_before x.point
   pub rest : IsRest (without_marker x.scratch)
@@ -109,11 +109,11 @@ abbrev pub SetextNeeds : StateName → World → Type 0
 SetextNeeds (n.HeadingSetext its.Inside) w = w.scratch.size ≤ cells_before w.point
 SetextNeeds _ w = Unit {0}
 
-abbrev pub setext_ready : StateName → Spot → After → Type 0
+abbrev pub setext_ready : StateName → Position → After → Type 0
 setext_ready (n.HeadingSetext its.Inside) x K = IsMarked x × Ends IsRest IsRest x K
 setext_ready _ x K = rest_ready x K
 
-abbrev pub setext_rank : StateName → Spot → Rank
+abbrev pub setext_rank : StateName → Position → Rank
 setext_rank (n.HeadingSetext its.Start) x = ranked 5 refl
 setext_rank (n.HeadingSetext its.Before) x = ranked 3 refl
 setext_rank (n.HeadingSetext its.Inside) x = if is_current x.scratch.marker (seen x) then ranked 1 refl else ranked 2 refl

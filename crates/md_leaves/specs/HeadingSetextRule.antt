@@ -18,7 +18,7 @@ use Rattle.md_seam.specs.Ahead.{white_rest}
 use Rattle.md_seam.specs.Events.Nested.{exit, pair}
 use Rattle.md_seam.specs.Look.{first_seen}
 use Rattle.md_seam.specs.Spaces.{ends_line, small_indent}
-use Rattle.md_definition.specs.Rest.{is_blank, run_len}
+use Rattle.md_meaning.specs.Rest.{is_blank, run_len}
 
 -- the run of the marker, and the whitespace behind it
 abbrev pub runs : Run → ℕ → List Cell → Point → List Event

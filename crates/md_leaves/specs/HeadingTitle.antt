@@ -6,9 +6,9 @@ use Rattle.md_engine.specs.declared.event.Point.{Point}
 use Rattle.md_leaves.specs.HeadingRule.{Apart, Run, begun, closes, goes_on, opens}
 use Rattle.md_leaves.specs.HeadingText.{linked_text}
 use Rattle.md_seam.specs.declared.inline.Chunk.{Chunk}
-use Rattle.md_definition.specs.Leaves.{heading_text}
+use Rattle.md_meaning.specs.Leaves.{heading_text}
 use Rattle.md_seam.specs.Events.Places.{past_byte, past_text}
-use Rattle.md_definition.specs.Rest.{is_white, run_len}
+use Rattle.md_meaning.specs.Rest.{is_white, run_len}
 
 -- the runs that are left of a line: each is one part, as long as it can be
 abbrev pub line_runs : Run → List ℕ → Point → List Event

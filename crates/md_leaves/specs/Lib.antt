@@ -10,7 +10,6 @@ pub mod HeadingWalk
 pub mod HeadingSetext
 pub mod HeadingSetextRule
 pub mod Turned
-pub mod TextsHeld
 pub mod LeafStart
 pub mod MarkRuns
 pub mod Rewritten

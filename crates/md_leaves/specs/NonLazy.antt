@@ -5,7 +5,7 @@ use Rattle.md_engine.specs.declared.state.Name.TheVariants as n
 use Rattle.md_engine.specs.declared.state.non_lazy_continuation.State.{State as NonLazyState}
 use Rattle.md_engine.specs.declared.state.non_lazy_continuation.State.TheVariants as its
 use Rattle.md_engine.specs.declared.state.State.TheVariants.{Ok, Nok, Next}
-use Rattle.md_engine.specs.Scheme.{After, Ends, Scheme, Spot, ranked}
+use Rattle.md_engine.specs.Scheme.{After, Ends, Scheme, Position, ranked}
 use Rattle.md_engine.specs.World.{World}
 use Rattle.md_seam.specs.Spaces.{is_current}
 use Rattle.md_seam.specs.Transition.{Transition, entered, exited, taken}
@@ -34,7 +34,7 @@ non_lazy_transition its.Start w = start_transition w
 non_lazy_transition its.After w = after_transition w
 
 -- it leaves the scratch of the construct around it as it is, whatever that keeps
-abbrev pub non_lazy_ready : Spot → After → Type 0
+abbrev pub non_lazy_ready : Position → After → Type 0
 non_lazy_ready x K = Ends (λ s. s ≡ x.scratch) (λ s. s ≡ x.scratch) x K
 
 abbrev pub non_lazy_scheme : Scheme

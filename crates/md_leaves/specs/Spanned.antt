@@ -19,17 +19,17 @@ use Rattle.md_leaves.specs.declared.spans.Place.{Place}
 use Rattle.md_leaves.specs.declared.spans.Place.TheVariants.{Between, Inside, Outside}
 use Rattle.md_seam.specs.Events.Blocks.{is_block}
 use Rattle.md_seam.specs.Events.Nested.{is_enter}
-use Rattle.md_seam.specs.Events.Spelled.{OfCode, OfFence, OfHtml, OfMath, OfTable, Opens, Role, role}
+use Rattle.md_seam.specs.Events.Spelled.{OfCode, OfFence, OfHtml, OfMath, OfTable, LeafRole, Role, role}
 
 -- Names.
 
 -- whether it is a leaf block of several lines
 abbrev pub has_lines : Role → Bool
-has_lines (Opens OfCode) = true
-has_lines (Opens OfFence) = true
-has_lines (Opens OfMath) = true
-has_lines (Opens OfHtml) = true
-has_lines (Opens OfTable) = true
+has_lines (LeafRole OfCode) = true
+has_lines (LeafRole OfFence) = true
+has_lines (LeafRole OfMath) = true
+has_lines (LeafRole OfHtml) = true
+has_lines (LeafRole OfTable) = true
 has_lines _ = false
 
 -- whether it is a line of code

@@ -6,7 +6,7 @@
 // of it is read, `resolve` puts `HeadingAtxText` around what lies behind the opening sequence, up to the last run that
 // does not close the heading, as one `Data`.
 
-ghost use Rattle.std.specs.Prelude.{◌≡◌, ◌≢◌, Bool, [], IfOk, IfSome, None};
+ghost use Rattle.std.specs.Prelude.{◌≡◌, ◌≢◌, [], IfOk, IfSome, None};
 ghost use Rattle.std.specs.Option.{option_map};
 ghost use Rattle.md_engine.specs.Found.{found_in};
 ghost use Rattle.md_engine.specs.Going.{SeesOn};
@@ -149,11 +149,11 @@ pub fn at_break(tokenizer: &mut Tokenizer) -> State
     requires { IsAt NeedsNothing (StateName.HeadingAtx HeadingState.AtBreak) (world tokenizer.old) }
     ensures to { result ≢ State.Error →
         result ≡
-        (at_break_transition (λ name. ⟦<ResolveName as PartialEq>⟧.eq name ResolveName.HeadingAtx)
+        (at_break_transition
         (world tokenizer.old)).to }
     ensures world { result ≢ State.Error →
         world tokenizer.new ≡
-        (at_break_transition (λ name. ⟦<ResolveName as PartialEq>⟧.eq name ResolveName.HeadingAtx)
+        (at_break_transition
         (world tokenizer.old)).world }
 {
     match tokenizer.current {
@@ -239,7 +239,7 @@ fn begins_word(current: Option<u8>) -> bool
 pub fn words(tokenizer: &mut Tokenizer) -> State
     requires { IsAt NeedsNothing (StateName.HeadingAtx HeadingState.AtBreak) (world tokenizer.old) }
     ensures runs { result ≢ State.Error →
-        RunsHere (HeadingStep (λ name. ⟦<ResolveName as PartialEq>⟧.eq name ResolveName.HeadingAtx))
+        RunsHere HeadingStep
         (StateName.HeadingAtx HeadingState.AtBreak) (world tokenizer.old) result (world tokenizer.new) }
     ensures sees { result ≢ State.Error → SeesOn result (world tokenizer.old) (world tokenizer.new) }
 {
@@ -268,7 +268,7 @@ pub fn words(tokenizer: &mut Tokenizer) -> State
 pub fn opens(tokenizer: &mut Tokenizer) -> State
     requires { IsAt NeedsNothing (StateName.HeadingAtx HeadingState.SequenceOpen) (world tokenizer.old) }
     ensures runs { result ≢ State.Error →
-        RunsHere (HeadingStep (λ name. ⟦<ResolveName as PartialEq>⟧.eq name ResolveName.HeadingAtx))
+        RunsHere HeadingStep
         (StateName.HeadingAtx HeadingState.SequenceOpen) (world tokenizer.old) result (world tokenizer.new) }
     ensures sees { result ≢ State.Error → SeesOn result (world tokenizer.old) (world tokenizer.new) }
 {
@@ -288,11 +288,11 @@ pub fn call(tokenizer: &mut Tokenizer, state: HeadingState) -> State
     requires { IsAt NeedsNothing (StateName.HeadingAtx state) (world tokenizer.old) }
     ensures to { result ≢ State.Error →
         result ≡
-        (heading_transition (λ name. ⟦<ResolveName as PartialEq>⟧.eq name ResolveName.HeadingAtx) state
+        (heading_transition state
         (world tokenizer.old)).to }
     ensures world { result ≢ State.Error →
         world tokenizer.new ≡
-        (heading_transition (λ name. ⟦<ResolveName as PartialEq>⟧.eq name ResolveName.HeadingAtx) state
+        (heading_transition state
         (world tokenizer.old)).world }
 {
     match state {
@@ -306,9 +306,8 @@ pub fn call(tokenizer: &mut Tokenizer, state: HeadingState) -> State
 }
 
 /// What a state of a heading only takes and counts.
-pub fn stays(state: HeadingState) -> Option<Stay>
-    ensures { IfSome result (λ stay. (is_name : ResolveName → Bool) →
-        TakesEach stay (StateName.HeadingAtx state) (heading_transition is_name state)) }
+pub fn takes_at_once(state: HeadingState) -> Option<Stay>
+    ensures { IfSome result (λ stay. TakesEach stay (StateName.HeadingAtx state) (heading_transition state)) }
 {
     match state {
         HeadingState::SequenceOpen => Some(Stay::UpTo(b'#', OPENING)),

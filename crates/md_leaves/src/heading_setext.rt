@@ -187,7 +187,7 @@ pub fn after(tokenizer: &mut Tokenizer) -> State
 }
 
 /// What a state of an underline only takes and counts.
-pub fn stays(state: SetextState) -> Option<Stay>
+pub fn takes_at_once(state: SetextState) -> Option<Stay>
     ensures { IfSome result (λ stay. TakesEach stay (StateName.HeadingSetext state) (setext_transition state)) }
 {
     match state {

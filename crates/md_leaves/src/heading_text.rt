@@ -1,6 +1,6 @@
 // The text of each ATX heading, in one walk over the events.
 
-ghost use Rattle.std.specs.Prelude.{◌≡◌, false, ℕ, List, [], ◌++◌, IfOk, OnOk, drop, length, ◌≤◌};
+ghost use Rattle.std.specs.Prelude.{◌≡◌, ℕ, List, [], ◌++◌, IfOk, OnOk, drop, length, ◌≤◌};
 ghost use Rattle.std.specs.List.{prefix_len};
 ghost use Rattle.md_leaves.specs.Rewritten.{IsFirst, held_of, left_of, written_of};
 ghost use Rattle.md_leaves.specs.HeadingText.{begins, ends, headings_resolved, is_heading, is_outside, is_run};

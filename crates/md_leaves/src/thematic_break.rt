@@ -206,7 +206,7 @@ pub fn one_run_after(tokenizer: &mut Tokenizer) -> State
 }
 
 /// What a state of a break only takes and counts.
-pub fn stays(state: BreakState) -> Option<Stay>
+pub fn takes_at_once(state: BreakState) -> Option<Stay>
     ensures { IfSome result (λ stay. TakesEach stay (StateName.ThematicBreak state) (break_transition state)) }
 {
     match state {

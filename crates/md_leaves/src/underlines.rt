@@ -3,7 +3,7 @@
 // A paragraph and the underline behind it are one heading. The walk looks at each event as it passes it, and else at
 // most once from the begin of a paragraph that asks for its underline. So it is linear.
 
-ghost use Rattle.std.specs.Prelude.{◌≡◌, ℕ, ◌≤◌, ◌++◌, ◌∷◌, ◌&&◌, [], IfOk, List, OnOk, false, length, take};
+ghost use Rattle.std.specs.Prelude.{◌≡◌, ℕ, ◌≤◌, ◌++◌, ◌∷◌, ◌&&◌, [], IfOk, List, OnOk, false, length};
 ghost use Rattle.std.specs.List.{prefix_len};
 ghost use Rattle.md_leaves.specs.Turned.{BeginsText, EndsText, EndsUnderline, given, given_by, has_underline};
 ghost use Rattle.md_leaves.specs.Turned.{is_no_underline, is_paragraph, is_turned, is_underline, on_after, on_by};

@@ -6,15 +6,15 @@ use Rattle.md_engine.specs.declared.event.Event.{Event}
 use Rattle.md_engine.specs.declared.event.Kind.{Kind}
 use Rattle.md_engine.specs.declared.event.Kind.TheVariants.{Enter, Exit}
 use Rattle.md_engine.specs.declared.event.Point.{Point}
-use Rattle.md_seam.specs.Events.Spelled.{Around, Holds, IsEnding, OpenLeaf, Opens, Purpose, Reading, Role, Shape, Tells}
+use Rattle.md_seam.specs.Events.Spelled.{OpenContainer, ContainerRole, IsEnding, OpenLeaf, LeafRole, Purpose, Reading, Role, Shape, TextRole}
 use Rattle.md_seam.specs.Events.Spelled.{Text, block_around, block_of, finished, left, on_shape, read, read_by, role}
 use Rattle.md_seam.specs.Events.Spelled.{told_at}
 use Rattle.md_seam.specs.Events.Throughout.{all_blocks}
-use Rattle.md_definition.specs.Tree.{Block}
+use Rattle.md_meaning.specs.Tree.{Block}
 use Rattle.md_seam.proofs.ThroughoutLemmas.{all-inside, all-then}
 use Rattle.md_outline.proofs.RoleLemmas.{by-ending, by-told_at}
 
-abbrev pub outer_hold : (Block → Bool) → List Around → Bool
+abbrev pub outer_hold : (Block → Bool) → List OpenContainer → Bool
 outer_hold p [] = true
 outer_hold p (around ∷ outer) = all_blocks p around.before && outer_hold p outer
 
@@ -22,7 +22,7 @@ abbrev pub AllHold : (Block → Bool) → Reading → Type 0
 AllHold p r = (all_blocks p r.here ≡ true) × (outer_hold p r.outer ≡ true)
 
 -- a container ends
-stay-left : (p : Block → Bool) (outer : List Around) (r : Reading) → r.outer ≡ outer →
+stay-left : (p : Block → Bool) (outer : List OpenContainer) (r : Reading) → r.outer ≡ outer →
     AllHold p (left outer r) → AllHold p r
 stay-left p [] r e d = d
 stay-left p (around ∷ outer) r e d =
@@ -36,7 +36,7 @@ stay-finished p None r d = d
 stay-finished p (Some leaf) r d = ((all-then p r.here (block_of leaf) d.0).0, d.1)
 
 -- a text ends
-outer-named : (p : Block → Bool) (f : Shape → Shape) (outer : List Around) →
+outer-named : (p : Block → Bool) (f : Shape → Shape) (outer : List OpenContainer) →
     outer_hold p (on_shape f outer) ≡ outer_hold p outer
 outer-named p f [] = refl
 outer-named p f (around ∷ outer) = refl
@@ -53,10 +53,10 @@ stay-told p bytes x at text r =
 
 stay-step : (p : Block → Bool) (bytes : List ℕ) (kind : Kind) (x : Role) (at : Point) (r : Reading) →
     AllHold p (read_by bytes kind x at r) → AllHold p r
-stay-step p bytes Enter (Holds shape) at r d = and_parts (all_blocks p r.here) (outer_hold p r.outer) d.1
-stay-step p bytes Exit (Holds shape) at r d = stay-left p r.outer r refl d
-stay-step p bytes Exit (Opens kind) at r d = stay-finished p r.leaf r d
-stay-step p bytes Exit (Tells x) at r d = stay-told p bytes x at r.text r d
+stay-step p bytes Enter (ContainerRole shape) at r d = and_parts (all_blocks p r.here) (outer_hold p r.outer) d.1
+stay-step p bytes Exit (ContainerRole shape) at r d = stay-left p r.outer r refl d
+stay-step p bytes Exit (LeafRole kind) at r d = stay-finished p r.leaf r d
+stay-step p bytes Exit (TextRole x) at r d = stay-told p bytes x at r.text r d
 stay-step p bytes Exit IsEnding at r d =
     by-ending (λ now. AllHold p now → AllHold p r) bytes at r.text r (λ d. d) (λ d. d) d
 stay-step p bytes Enter _ at r d = d

@@ -3,27 +3,27 @@ use Rattle.std.proofs.Common.{◌≡◌, ℕ, ◌+◌, Bool, true, false, List, 
 use Rattle.std.proofs.Common.{append_assoc, append-nil}
 use Rattle.std.specs.Prelude.{◌==◌, if◌then◌else◌}
 use Rattle.std.proofs.lemmas.Bool.{true≢false}
-use Rattle.md_definition.specs.declared.outline.Word.TheVariants as word
-use Rattle.md_definition.specs.Containers.{is_bullet}
-use Rattle.md_definition.specs.Outline.{Entry, block_entries, entry, entry_with, outline}
-use Rattle.md_definition.specs.State.{then_block}
-use Rattle.md_definition.specs.Texts.{first_byte}
-use Rattle.md_definition.specs.Tree.{Block, Blocks, End, Item, More}
-use Rattle.md_seam.specs.Events.Spelled.{Around, AsDigits, AsItemMarker, FootnoteShape, ItemShape, OrderedShape}
+use Rattle.md_meaning.specs.declared.outline.Word.TheVariants as word
+use Rattle.md_meaning.specs.Containers.{is_bullet}
+use Rattle.md_meaning.specs.Outline.{Entry, block_entries, entry, entry_with, outline}
+use Rattle.md_meaning.specs.State.{then_block}
+use Rattle.md_meaning.specs.Texts.{first_byte}
+use Rattle.md_meaning.specs.Tree.{Block, Blocks, End, Item, More}
+use Rattle.md_seam.specs.Events.Spelled.{OpenContainer, AsDigits, AsItemMarker, FootnoteShape, ItemShape, OrderedShape}
 use Rattle.md_seam.specs.Events.Spelled.{Shape, UnorderedShape, block_around, is_ordered, list_marker}
 use Rattle.md_seam.specs.Events.Spelled.{named, on_shape}
 
 -- how many containers are open
-abbrev pub depth_of : List Around → ℕ
+abbrev pub depth_of : List OpenContainer → ℕ
 depth_of [] = 0
 depth_of (around ∷ outer) = depth_of outer + 1
 
-abbrev pub closed : List Around → Blocks → Blocks
+abbrev pub closed : List OpenContainer → Blocks → Blocks
 closed [] here = here
 closed (around ∷ outer) here = closed outer (then_block around.before (block_around around.shape here))
 
 -- the lines of what was read so far
-abbrev pub shown : List Around → Blocks → List Entry
+abbrev pub shown : List OpenContainer → Blocks → List Entry
 shown outer here = outline 0 (closed outer here)
 
 -- a block that is added last is shown last
@@ -49,13 +49,13 @@ HasWord UnorderedShape items = (list_marker is_bullet items == 0) ≡ false
 HasWord _ items = Unit {0}
 
 -- so have all lists that are open
-abbrev pub HaveWords : List Around → Blocks → Type 0
+abbrev pub HaveWords : List OpenContainer → Blocks → Type 0
 HaveWords [] here = Unit {0}
 HaveWords (around ∷ outer) here =
     HasWord around.shape here × HaveWords outer (then_block around.before (block_around around.shape here))
 
 -- the innermost container, if it is a list, is shown with the same marker
-abbrev SameWord : List Around → Blocks → Blocks → Type 0
+abbrev SameWord : List OpenContainer → Blocks → Blocks → Type 0
 SameWord [] xs ys = Unit {0}
 SameWord (around ∷ outer) xs ys = list_word around.shape ys ≡ list_word around.shape xs
 
@@ -86,7 +86,7 @@ inside-word : (f : ℕ → Bool) (shape : Shape) (xs ys : Blocks) →
 inside-word f OrderedShape xs ys = refl
 inside-word f _ xs ys = refl
 
-around-word : (outer : List Around) (around : Around) (xs ys : Blocks) →
+around-word : (outer : List OpenContainer) (around : OpenContainer) (xs ys : Blocks) →
     SameWord outer (then_block around.before (block_around around.shape xs))
     (then_block around.before (block_around around.shape ys))
 around-word [] around xs ys = tt
@@ -107,12 +107,12 @@ then-word OrderedShape here b h = then-told is_ordered here b h
 then-word UnorderedShape here b h = then-told is_bullet here b h
 then-word _ here b h = refl
 
-then-same : (outer : List Around) (here : Blocks) (b : Block) → HaveWords outer here →
+then-same : (outer : List OpenContainer) (here : Blocks) (b : Block) → HaveWords outer here →
     SameWord outer here (then_block here b)
 then-same [] here b h = tt
 then-same (around ∷ outer) here b h = then-word around.shape here b h.0
 
-words-stay : (outer : List Around) (xs ys : Blocks) → SameWord outer xs ys → HaveWords outer xs → HaveWords outer ys
+words-stay : (outer : List OpenContainer) (xs ys : Blocks) → SameWord outer xs ys → HaveWords outer xs → HaveWords outer ys
 words-stay [] xs ys e h = tt
 words-stay (around ∷ outer) xs ys e h = (
   word-stays around.shape xs ys e h.0,
@@ -120,7 +120,7 @@ words-stay (around ∷ outer) xs ys e h = (
       (then_block around.before (block_around around.shape ys)) (around-word outer around xs ys) h.1,
 )
 
-pub words-then : (outer : List Around) (here : Blocks) (b : Block) → HaveWords outer here →
+pub words-then : (outer : List OpenContainer) (here : Blocks) (b : Block) → HaveWords outer here →
     HaveWords outer (then_block here b)
 words-then outer here b h = words-stay outer here (then_block here b) (then-same outer here b h) h
 
@@ -144,7 +144,7 @@ inside-lines depth (FootnoteShape label) xs ys es e h =
     ap (λ l. entry depth word.Footnote ∷ entry_with (depth + 1) word.Label label ∷ l) h
 inside-lines depth _ xs ys es e h = in-front _ (outline (depth + 1) ys) (outline (depth + 1) xs) es h
 
-grown : (outer : List Around) (xs ys : Blocks) (es : List Entry) → SameWord outer xs ys →
+grown : (outer : List OpenContainer) (xs ys : Blocks) (es : List Entry) → SameWord outer xs ys →
     outline (depth_of outer) ys ≡ outline (depth_of outer) xs ++ es →
     shown outer ys ≡ shown outer xs ++ es
 grown [] xs ys es e h = h
@@ -159,7 +159,7 @@ grown (around ∷ outer) xs ys es e h =
     ∙ ap (λ l. l ++ es) (sym (outline-then (depth_of outer) around.before old)))
 
 -- a block more
-pub shown-then : (outer : List Around) (here : Blocks) (b : Block) → HaveWords outer here →
+pub shown-then : (outer : List OpenContainer) (here : Blocks) (b : Block) → HaveWords outer here →
     shown outer (then_block here b) ≡ shown outer here ++ block_entries (depth_of outer) b
 shown-then outer here b h =
     grown outer here (then_block here b) (block_entries (depth_of outer) b) (then-same outer here b h)
@@ -191,7 +191,7 @@ KeepsWord f here =
     list_word list (then_block before (block_around (f shape) here))
     ≡ list_word list (then_block before (block_around shape here))
 
-named-same : (f : Shape → Shape) (outer : List Around) (around : Around) (here : Blocks) → KeepsWord f here →
+named-same : (f : Shape → Shape) (outer : List OpenContainer) (around : OpenContainer) (here : Blocks) → KeepsWord f here →
     HaveWords outer (then_block around.before (block_around around.shape here)) →
     SameWord outer (then_block around.before (block_around around.shape here))
     (then_block around.before (block_around (f around.shape) here))
@@ -199,7 +199,7 @@ named-same f [] around here k h = tt
 named-same f (list ∷ outer) around here k h = k list.shape around.before around.shape h.0
 
 -- a container that is shown as before, with what it tells of its list
-renamed : (f : Shape → Shape) (around : Around) (outer : List Around) (here : Blocks) →
+renamed : (f : Shape → Shape) (around : OpenContainer) (outer : List OpenContainer) (here : Blocks) →
     ((depth : ℕ) → block_entries depth (block_around (f around.shape) here)
     ≡ block_entries depth (block_around around.shape here)) →
     SameWord outer (then_block around.before (block_around around.shape here))
@@ -216,12 +216,12 @@ renamed f around outer here h e =
     ∙ append-nil (shown (around ∷ outer) here)
 
 -- What is told of the innermost container changes nothing that is shown.
-pub record StaysShown (f : Shape → Shape) (outer : List Around) (here : Blocks) : Type 0 where
+pub record StaysShown (f : Shape → Shape) (outer : List OpenContainer) (here : Blocks) : Type 0 where
   pub lines : shown (on_shape f outer) here ≡ shown outer here
   pub words : HaveWords (on_shape f outer) here
   pub depth : depth_of (on_shape f outer) ≡ depth_of outer
 
-stays-shown : (f : Shape → Shape) (outer : List Around) (here : Blocks) →
+stays-shown : (f : Shape → Shape) (outer : List OpenContainer) (here : Blocks) →
     ((shape : Shape) → ToldItem shape (f shape)) → KeepsWord f here → HaveWords outer here → StaysShown f outer here
 stays-shown f [] here alone k h = record { lines = refl; words = h; depth = refl }
 stays-shown f (around ∷ outer) here alone k h =
@@ -249,7 +249,7 @@ digits-word : (f : ℕ → Bool) (text : List ℕ) (shape : Shape) (here : Block
 digits-word f text (ItemShape m d) here = refl
 digits-word f text _ here = refl
 
-pub digits-stay : (text : List ℕ) (outer : List Around) (here : Blocks) → HaveWords outer here →
+pub digits-stay : (text : List ℕ) (outer : List OpenContainer) (here : Blocks) → HaveWords outer here →
     StaysShown (named AsDigits text) outer here
 digits-stay text outer here h =
     stays-shown (named AsDigits text) outer here (digits-alone text)
@@ -292,7 +292,7 @@ marker-word OrderedShape text before _ here h = refl
 marker-word UnorderedShape text before _ here h = refl
 marker-word _ text before shape here h = refl
 
-pub marker-stays : (text : List ℕ) (outer : List Around) (here : Blocks) → HaveWords outer here →
+pub marker-stays : (text : List ℕ) (outer : List OpenContainer) (here : Blocks) → HaveWords outer here →
     StaysShown (named AsItemMarker text) outer here
 marker-stays text outer here h =
     stays-shown (named AsItemMarker text) outer here (marker-alone text)

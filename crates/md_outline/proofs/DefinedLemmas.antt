@@ -7,17 +7,17 @@ use Rattle.std.specs.List.{list_any}
 use Rattle.std.proofs.lemmas.Bool.{and_parts, true≢false}
 use Rattle.md_engine.specs.declared.event.Kind.TheVariants.{Enter, Exit}
 use Rattle.md_engine.specs.declared.event.Point.{Point}
-use Rattle.md_definition.specs.declared.outline.Word.{Word}
-use Rattle.md_definition.specs.declared.outline.Word.TheVariants as word
-use Rattle.md_definition.specs.Lines.{begins_with, is_ending}
-use Rattle.md_definition.specs.Outline.{Entry, block_entries, entries, entry, entry_with}
-use Rattle.md_definition.specs.Rest.{is_blank}
-use Rattle.md_definition.specs.State.{then_block}
-use Rattle.md_definition.specs.Texts.{split_lines, trim_further}
-use Rattle.md_definition.specs.Tree.{Block, Definition, Line}
+use Rattle.md_meaning.specs.declared.outline.Word.{Word}
+use Rattle.md_meaning.specs.declared.outline.Word.TheVariants as word
+use Rattle.md_meaning.specs.Lines.{begins_with, is_ending}
+use Rattle.md_meaning.specs.Outline.{Entry, block_entries, entries, entry, entry_with}
+use Rattle.md_meaning.specs.Rest.{is_blank}
+use Rattle.md_meaning.specs.State.{then_block}
+use Rattle.md_meaning.specs.Texts.{split_lines, trim_further}
+use Rattle.md_meaning.specs.Tree.{Block, Definition, Line}
 use Rattle.md_seam.specs.Events.Places.{last_line}
 use Rattle.md_seam.specs.Events.Spelled.{AsDestination, AsLabel, AsTitle, DefinitionLeaf, DefinitionSoFar, IsPrefix}
-use Rattle.md_seam.specs.Events.Spelled.{IsTitle, OfDefinition, OpenLeaf, Opens, Purpose, Reading, Tells, Text}
+use Rattle.md_seam.specs.Events.Spelled.{IsTitle, OfDefinition, OpenLeaf, LeafRole, Reading, TextRole, Text}
 use Rattle.md_seam.specs.Events.Spelled.{after_prefix, at_ending, at_title, before_prefix, begun, behind_title}
 use Rattle.md_seam.specs.Events.Spelled.{byte_at, columns_left, finished, first_told, next_line, on_leaf, read_enter}
 use Rattle.md_seam.specs.Events.Spelled.{read_exit, text_to}
@@ -31,7 +31,7 @@ use Rattle.md_outline.specs.Outlined.{begins_line, parts_by}
 use Rattle.md_outline.specs.OutlineSteps.{OutlineState, line_ended, parted_at, piece_shown, state_enter}
 use Rattle.md_outline.specs.OutlineSteps.{is_titled, state_exit, told, told_at}
 use Rattle.md_outline.specs.TextLines.{first_as, first_full_as, full_as, lines_as}
-use Rattle.md_outline.specs.declared.outline.Span.{Span}
+use Rattle.md_outline.specs.declared.outline.TextSpan.{TextSpan}
 use Rattle.md_outline.specs.declared.outline.lined.Form.TheVariants as form
 use Rattle.md_outline.specs.declared.outline.lined.Lined.{Lined}
 use Rattle.md_outline.specs.declared.outline.role.Purpose.TheVariants as purpose
@@ -113,7 +113,7 @@ at_text-keeps part s r span spaces text h = (
 )
 
 -- in its text, behind a prefix: the lines in front are shown, and what follows will be shown by its own lines
-abbrev PartIs : Word → List Entry → ℕ → List Entry → Option Span → Option Text → Type 0
+abbrev PartIs : Word → List Entry → ℕ → List Entry → Option TextSpan → Option Text → Type 0
 PartIs w before depth lines (Some span) (Some text) =
     (span.is_parted ≡ true) × (text.from ≡ span.from) × (full : List Entry) × (lines ≡ before ++ full) ×
     ((rest : List ℕ) → begins_with 10 rest ≡ false →
@@ -170,8 +170,8 @@ BehindText s r =
 -- It begins.
 
 pub definition-begins : (bytes : List ℕ) (p : Point) (s : OutlineState) (r : Reading) → s.text ≡ None → Agrees s r →
-    AtText LabelPart (state_enter bytes (role.Lined word.Definition) p s) (read_enter bytes (Opens OfDefinition) p r)
-    × NoText (state_enter bytes (role.Lined word.Definition) p s) (read_enter bytes (Opens OfDefinition) p r)
+    AtText LabelPart (state_enter bytes (role.Lined word.Definition) p s) (read_enter bytes (LeafRole OfDefinition) p r)
+    × NoText (state_enter bytes (role.Lined word.Definition) p s) (read_enter bytes (LeafRole OfDefinition) p r)
 definition-begins bytes p s r none is =
     let text : r.text ≡ None = begins-texts s r none is in
     let same : s.lines ≡ shown r.outer r.here =
@@ -240,7 +240,7 @@ part-parts bytes part q p s r some k h =
     let before : List Entry = front_lines part h.0.0 h.0.1 s r in
     let piece : List ℕ = slice_range bytes (byte_at q) p.index in
     let w : Word = shown_by part in
-    let span : Span = record { from = byte_at q; is_parted = false } in
+    let span : TextSpan = record { from = byte_at q; is_parted = false } in
     let lines : List Entry =
     piece_shown (part_word s.lined) (is_titled s.lined || false) false s.depth piece s.lines in
     let blank : is_blank (last_line (split_lines piece)) ≡ true =
@@ -251,7 +251,7 @@ part-parts bytes part q p s r some k h =
     h.0.2.is.lined
     ∙ ap (λ es. es ++ first_full_as w (s.depth + 1) piece) (front-left part h.0.0 h.0.1 s r h.0.2.all) in
     subst
-    (λ (x : Option Span).
+    (λ (x : Option TextSpan).
     InText part (parted_at bytes p.index x s) (record r { text = option_map (before_prefix bytes p) r.text }))
     (sym h.1.span)
     (subst
@@ -282,14 +282,14 @@ other-than true h = absurd (true≢false (sym h))
 other-than false h = refl
 
 -- behind a prefix no piece begins with a line feed
-no-feed : (span : Span) (piece : List ℕ) → span.is_parted ≡ true → begins_line span piece ≡ true →
+no-feed : (span : TextSpan) (piece : List ℕ) → span.is_parted ≡ true → begins_line span piece ≡ true →
     begins_with 10 piece ≡ false
 no-feed span piece parted h =
     other-than (begins_with 10 piece) (sym (ap (λ x. not x || not (begins_with 10 piece)) parted) ∙ h)
 
 -- a further prefix begins
 further-parts : (bytes : List ℕ) (part : Part) (label : List (List ℕ)) (destination : List ℕ) (p : Point)
-    (s : OutlineState) (r : Reading) (span : Option Span) (text : Option Text) →
+    (s : OutlineState) (r : Reading) (span : Option TextSpan) (text : Option Text) →
     parts_by bytes Enter IsPrefix p span ≡ true →
     Defined (part_known part label destination) (label_known part) s r →
     PartIs (shown_by part) (front_lines part label destination s r) s.depth s.lines span text →
@@ -338,21 +338,21 @@ pub part-prefix : (bytes : List ℕ) (part : Part) (p : Point) (s : OutlineState
 part-prefix bytes part p s r k h = further-parts bytes part h.0 h.1 p s r s.text r.text k h.2 h.3
 
 -- and ends
-part-from : (w : Word) (p : Point) (before : List Entry) (depth : ℕ) (lines : List Entry) (span : Option Span)
+part-from : (w : Word) (p : Point) (before : List Entry) (depth : ℕ) (lines : List Entry) (span : Option TextSpan)
     (text : Option Text) → PartIs w before depth lines span text →
-    PartIs w before depth lines (option_map (λ (t : Span). record t { from = byte_at p }) span)
+    PartIs w before depth lines (option_map (λ (t : TextSpan). record t { from = byte_at p }) span)
     (option_map (after_prefix p) text)
 part-from w p before depth lines (Some span) (Some text) h = (h.0, refl, h.2, h.3, h.4)
 part-from w p before depth lines _ _ h = absurd h
 
 pub part-on : (part : Part) (p : Point) (s : OutlineState) (r : Reading) → InText part s r →
-    InText part (record s { text = option_map (λ (t : Span). record t { from = byte_at p }) s.text })
+    InText part (record s { text = option_map (λ (t : TextSpan). record t { from = byte_at p }) s.text })
     (record r { text = option_map (after_prefix p) r.text })
 part-on part p s r h = (
   h.0,
   h.1,
   defined-keeps (part_known part h.0 h.1) (label_known part) s r
-      (option_map (λ (t : Span). record t { from = byte_at p }) s.text) s.spaces
+      (option_map (λ (t : TextSpan). record t { from = byte_at p }) s.text) s.spaces
       (option_map (after_prefix p) r.text) h.2,
   part-from (shown_by part) p (front_lines part h.0 h.1 s r) s.depth s.lines s.text r.text h.3,
 )
@@ -365,7 +365,7 @@ pub first-line : (bytes : List ℕ) (part : Part) (q p : Point) (s : OutlineStat
 first-line bytes part q p s r h = text-ending (λ s r. AtText part s r × TextFrom q s r) bytes q p s r h.1 h
 
 line-stays : (bytes : List ℕ) (part : Part) (p : Point) (s : OutlineState) (r : Reading) (w : Word)
-    (before : List Entry) (span : Option Span) (text : Option Text) → PartIs w before s.depth s.lines span text →
+    (before : List Entry) (span : Option TextSpan) (text : Option Text) → PartIs w before s.depth s.lines span text →
     InText part s r → InText part (line_ended bytes p.index s.lined span s) (at_ending bytes p text r)
 line-stays bytes part p s r w before (Some span) (Some text) h is =
     subst (λ (x : OutlineState). InText part x r) (sym (text-line bytes p.index s.lined span s)) is
@@ -378,7 +378,7 @@ part-line bytes part p s r is =
 
 -- it ends: its last lines are shown
 further-ends : (bytes : List ℕ) (part : Part) (label : List (List ℕ)) (destination : List ℕ) (p : Point)
-    (s : OutlineState) (r : Reading) (span : Span) (text : Text) →
+    (s : OutlineState) (r : Reading) (span : TextSpan) (text : Text) →
     begins_line span (slice_range bytes span.from p.index) ≡ true →
     PartIs (shown_by part) (front_lines part label destination s r) s.depth s.lines (Some span) (Some text) →
     part_ended (shown_by part) span.is_parted (s.depth + 1) (slice_range bytes span.from p.index) s.lines
@@ -439,7 +439,7 @@ label-told is_parted piece destination label line s r is lines =
     )
 
 label-all : (bytes : List ℕ) (label : List (List ℕ)) (destination : List ℕ) (p : Point) (s : OutlineState)
-    (r : Reading) (span : Option Span) (text : Option Text) → parts_by bytes Exit (Tells AsLabel) p span ≡ true →
+    (r : Reading) (span : Option TextSpan) (text : Option Text) → parts_by bytes Exit (TextRole AsLabel) p span ≡ true →
     Defined (part_known LabelPart label destination) false s r →
     PartIs word.Label (front_lines LabelPart label destination s r) s.depth s.lines span text →
     Behind DestinationLeft (told_at bytes purpose.Label p.index span s) (spelled.told_at bytes AsLabel p text r)
@@ -451,7 +451,7 @@ label-all bytes label destination p s r (Some span) (Some text) k is h =
 label-all bytes label destination p s r _ _ k is h = absurd h
 
 pub label-ends : (bytes : List ℕ) (p : Point) (s : OutlineState) (r : Reading) →
-    parts_by bytes Exit (Tells AsLabel) p s.text ≡ true → InText LabelPart s r →
+    parts_by bytes Exit (TextRole AsLabel) p s.text ≡ true → InText LabelPart s r →
     Behind DestinationLeft (told_at bytes purpose.Label p.index s.text s) (spelled.told_at bytes AsLabel p r.text r)
     × NoText (told_at bytes purpose.Label p.index s.text s) (spelled.told_at bytes AsLabel p r.text r)
 label-ends bytes p s r k h = label-all bytes h.0 h.1 p s r s.text r.text k h.2 h.3
@@ -515,7 +515,7 @@ title-told is_parted piece destination label line s r is lines =
     )
 
 title-all : (bytes : List ℕ) (label : List (List ℕ)) (destination : List ℕ) (p : Point) (s : OutlineState)
-    (r : Reading) (span : Option Span) (text : Option Text) → parts_by bytes Exit (Tells AsTitle) p span ≡ true →
+    (r : Reading) (span : Option TextSpan) (text : Option Text) → parts_by bytes Exit (TextRole AsTitle) p span ≡ true →
     Defined (part_known TitlePart label destination) true s r →
     PartIs word.Title (front_lines TitlePart label destination s r) s.depth s.lines span text →
     BehindText (told_at bytes purpose.DefinitionTitle p.index span s) (spelled.told_at bytes AsTitle p text r)
@@ -527,7 +527,7 @@ title-all bytes label destination p s r (Some span) (Some text) k is h =
 title-all bytes label destination p s r _ _ k is h = absurd h
 
 pub title-ends : (bytes : List ℕ) (p : Point) (s : OutlineState) (r : Reading) →
-    parts_by bytes Exit (Tells AsTitle) p s.text ≡ true → InText TitlePart s r →
+    parts_by bytes Exit (TextRole AsTitle) p s.text ≡ true → InText TitlePart s r →
     BehindText (told_at bytes purpose.DefinitionTitle p.index s.text s) (spelled.told_at bytes AsTitle p r.text r)
     × NoText (told_at bytes purpose.DefinitionTitle p.index s.text s) (spelled.told_at bytes AsTitle p r.text r)
 title-ends bytes p s r k h = title-all bytes h.0 h.1 p s r s.text r.text k h.2 h.3
@@ -575,7 +575,7 @@ behind-line bytes left p s r is =
     × NoText (line_ended bytes p.index l s.text s) (at_ending bytes p r.text r))
     (sym is.0.4.is.lined)
     (subst
-    (λ (span : Option Span).
+    (λ (span : Option TextSpan).
     Behind left (line_ended bytes p.index (Some head) span s) (at_ending bytes p r.text r)
     × NoText (line_ended bytes p.index (Some head) span s) (at_ending bytes p r.text r))
     (sym is.1.0)

@@ -12,11 +12,11 @@ use Rattle.md_engine.specs.declared.event.Kind.{Kind}
 use Rattle.md_engine.specs.declared.event.Kind.TheVariants.{Enter, Exit}
 use Rattle.md_engine.specs.declared.event.Name.{Name}
 use Rattle.md_engine.specs.declared.event.Point.{Point}
-use Rattle.md_definition.specs.Lines.{is_ending}
+use Rattle.md_meaning.specs.Lines.{is_ending}
 use Rattle.md_seam.specs.Events.Nested.{Balanced, Fits, Forward, Matches, around, enter, exit, open_behind}
 use Rattle.md_seam.specs.Events.Places.{at_or_before}
 use Rattle.md_seam.specs.Events.Spelled.{AsDestination, AsLabel, AsTitle, IsEnding, IsPrefix, IsQuiet, IsTitle}
-use Rattle.md_seam.specs.Events.Spelled.{OfDefinition, Opens, Purpose, Role, Tells, byte_at, role}
+use Rattle.md_seam.specs.Events.Spelled.{OfDefinition, LeafRole, Purpose, Role, TextRole, byte_at, role}
 use Rattle.md_seam.proofs.SpelledLemmas.{Between, Quiet, QuietOrEnding, Roles}
 use Rattle.md_outline.specs.LinesStand.{AtLabel, AtTitleText, BehindPart, BehindTitleText, InDestination, InPart}
 use Rattle.md_outline.specs.LinesStand.{InParted, LabelPart, Left, LinesStand, MayHaveDestination, MayHaveTitle}
@@ -26,10 +26,10 @@ use Rattle.md_outline.proofs.LinesPass.{passes-event, passes-quiet, stand-both}
 
 -- All of it.
 pub passes-definition : (bytes : List ℕ) (name : Name) (p q : Point) (left : Left) (es : List Event) →
-    role name ≡ Opens OfDefinition → Passes bytes AtLabel (BehindPart left) es →
+    role name ≡ LeafRole OfDefinition → Passes bytes AtLabel (BehindPart left) es →
     Passes bytes Outside Outside (around name p q es)
 passes-definition bytes name p q left es is h =
-    passes-around bytes Outside AtLabel (BehindPart left) Outside (Opens OfDefinition) name p q es is (tt, refl) h
+    passes-around bytes Outside AtLabel (BehindPart left) Outside (LeafRole OfDefinition) name p q es is (tt, refl) h
     (tt, refl)
 
 -- Between its parts endings and prefixes may stand,
@@ -47,10 +47,10 @@ passes-between bytes left es h = passes-by bytes Between (BehindPart left) es on
 
 -- its destination,
 pub passes-destination : (bytes : List ℕ) (name : Name) (p q : Point) (left : Left) (es : List Event) →
-    role name ≡ Tells AsDestination → MayHaveDestination left → Roles Quiet es →
+    role name ≡ TextRole AsDestination → MayHaveDestination left → Roles Quiet es →
     Passes bytes (BehindPart left) (BehindPart TitleLeft) (around name p q es)
 passes-destination bytes name p q left es is may h =
-    passes-around bytes (BehindPart left) InDestination InDestination (BehindPart TitleLeft) (Tells AsDestination) name
+    passes-around bytes (BehindPart left) InDestination InDestination (BehindPart TitleLeft) (TextRole AsDestination) name
     p q es is (may, refl) (passes-quiet bytes InDestination es h) (tt, refl)
 
 -- and its title, around its text, or with none.
@@ -80,21 +80,21 @@ part_begin LabelPart = AtLabel
 part_begin TitlePart = AtTitleText
 
 passes-text : (bytes : List ℕ) (part : Part) (name : Name) (p q : Point) (site : Site) (es : List Event) →
-    role name ≡ Tells (part_purpose part) → Passes bytes (InPart part p) site es →
-    MayStand bytes site Exit (Tells (part_purpose part)) q
-    × (site_by bytes site Exit (Tells (part_purpose part)) q ≡ part_site part) →
+    role name ≡ TextRole (part_purpose part) → Passes bytes (InPart part p) site es →
+    MayStand bytes site Exit (TextRole (part_purpose part)) q
+    × (site_by bytes site Exit (TextRole (part_purpose part)) q ≡ part_site part) →
     Passes bytes (part_begin part) (part_site part) (around name p q es)
 passes-text bytes LabelPart name p q site es is h ends =
-    passes-around bytes AtLabel (InPart LabelPart p) site (part_site LabelPart) (Tells AsLabel) name p q es is
+    passes-around bytes AtLabel (InPart LabelPart p) site (part_site LabelPart) (TextRole AsLabel) name p q es is
     (tt, refl) h ends
 passes-text bytes TitlePart name p q site es is h ends =
-    passes-around bytes AtTitleText (InPart TitlePart p) site (part_site TitlePart) (Tells AsTitle) name p q es is
+    passes-around bytes AtTitleText (InPart TitlePart p) site (part_site TitlePart) (TextRole AsTitle) name p q es is
     (tt, refl) h ends
 
 -- without prefixes
 first-ends : (bytes : List ℕ) (part : Part) (p q : Point) →
-    MayStand bytes (InPart part p) Exit (Tells (part_purpose part)) q
-    × (site_by bytes (InPart part p) Exit (Tells (part_purpose part)) q ≡ part_site part)
+    MayStand bytes (InPart part p) Exit (TextRole (part_purpose part)) q
+    × (site_by bytes (InPart part p) Exit (TextRole (part_purpose part)) q ≡ part_site part)
 first-ends bytes LabelPart p q = (tt, refl)
 first-ends bytes TitlePart p q = (tt, refl)
 
@@ -109,7 +109,7 @@ passes-first bytes part p es h = passes-by bytes QuietOrEnding (InPart part p) e
     one _ h kind q = absurd h
 
 pub passes-part_line : (bytes : List ℕ) (part : Part) (name : Name) (p q : Point) (es : List Event) →
-    role name ≡ Tells (part_purpose part) → Roles QuietOrEnding es →
+    role name ≡ TextRole (part_purpose part) → Roles QuietOrEnding es →
     Passes bytes (part_begin part) (part_site part) (around name p q es)
 passes-part_line bytes part name p q es is h =
     passes-text bytes part name p q (InPart part p) es is (passes-first bytes part p es h) (first-ends bytes part p q)
@@ -218,28 +218,28 @@ walk bytes part q i names (e ∷ es) ys none matches forward between some first 
     (passes-parted bytes part es between.1 ys parted)
 
 parted-ends : (bytes : List ℕ) (part : Part) (q : Point) →
-    MayStand bytes (InParted part) Exit (Tells (part_purpose part)) q
-    × (site_by bytes (InParted part) Exit (Tells (part_purpose part)) q ≡ part_site part)
+    MayStand bytes (InParted part) Exit (TextRole (part_purpose part)) q
+    × (site_by bytes (InParted part) Exit (TextRole (part_purpose part)) q ≡ part_site part)
 parted-ends bytes LabelPart q = (tt, refl)
 parted-ends bytes TitlePart q = (tt, refl)
 
 -- its first line up to a point behind an ending, and what stands behind that
 pub passes-part : (bytes : List ℕ) (part : Part) (name : Name) (p i q : Point) (first further : List Event) →
-    role name ≡ Tells (part_purpose part) → Roles QuietOrEnding first →
+    role name ≡ TextRole (part_purpose part) → Roles QuietOrEnding first →
     list_any is_ending (slice_range bytes (byte_at p) i.index) ≡ true → Balanced further → Forward i further →
     Roles Between further → Passes bytes (part_begin part) (part_site part) (around name p q (first ++ further))
 passes-part bytes part name p i q first further is line some balanced forward between =
     passes-append bytes (part_begin part) (InPart part p) (part_site part) (enter name p ∷ [])
     ((first ++ further) ++ exit name q ∷ []) (passes-event bytes (part_begin part) (InPart part p)
-    (Tells (part_purpose part)) (enter name p) is (begins part)) inside
+    (TextRole (part_purpose part)) (enter name p) is (begins part)) inside
   where
-    begins : (part : Part) → Steps bytes (part_begin part) (InPart part p) Enter (Tells (part_purpose part)) p
+    begins : (part : Part) → Steps bytes (part_begin part) (InPart part p) Enter (TextRole (part_purpose part)) p
     begins LabelPart = (tt, refl)
     begins TitlePart = (tt, refl)
 
-    ends : (site : Site) → Steps bytes site (part_site part) Exit (Tells (part_purpose part)) q →
+    ends : (site : Site) → Steps bytes site (part_site part) Exit (TextRole (part_purpose part)) q →
         Passes bytes site (part_site part) (exit name q ∷ [])
-    ends site step = passes-event bytes site (part_site part) (Tells (part_purpose part)) (exit name q) is step
+    ends site step = passes-event bytes site (part_site part) (TextRole (part_purpose part)) (exit name q) is step
 
     inside : Passes bytes (InPart part p) (part_site part) ((first ++ further) ++ exit name q ∷ [])
     inside ys more =

@@ -5,7 +5,7 @@ use Rattle.std.specs.List.{prefix_len}
 use Rattle.std.proofs.lemmas.Bool.{cases_order, false≢true}
 use Rattle.std.proofs.lemmas.List.Sums.{prefix_len-le-length, prefix_len_passes, prefix_len_stops}
 use Rattle.memchr.specs.Find.{Nowhere, Passes, is_byte2}
-use Rattle.md_definition.specs.Lines.{is_ending}
+use Rattle.md_meaning.specs.Lines.{is_ending}
 use Rattle.md_outline.specs.TextLines.{line_len}
 
 -- each element in front of a place passes, and the one that stands there does not

@@ -3,24 +3,23 @@ use Rattle.std.proofs.Common.{◌≡◌, ℕ, ◌+◌, true, List, [], ◌∷◌
 use Rattle.std.proofs.Common.{append_assoc}
 use Rattle.std.specs.Prelude.{Option, Some, None}
 use Rattle.md_engine.specs.declared.event.Point.{Point}
-use Rattle.md_definition.specs.declared.outline.Word.TheVariants as word
-use Rattle.md_definition.specs.Outline.{Entry, entry, entry_with}
-use Rattle.md_definition.specs.Tree.{Blocks, End, Footnote}
-use Rattle.md_seam.specs.Events.Spelled.{Around, AsFootnoteLabel, FootnoteShape, Reading, Text, named, on_shape}
-use Rattle.md_seam.specs.Events.Spelled.{text_to}
+use Rattle.md_meaning.specs.declared.outline.Word.TheVariants as word
+use Rattle.md_meaning.specs.Outline.{Entry, entry, entry_with}
+use Rattle.md_meaning.specs.Tree.{Blocks, End, Footnote}
+use Rattle.md_seam.specs.Events.Spelled.{OpenContainer, AsFootnoteLabel, FootnoteShape, Reading, Text, named, on_shape}
 use Rattle.md_seam.specs.Events.Spelled as spelled
 use Rattle.md_outline.specs.FootnoteState.{label_told}
 use Rattle.md_outline.specs.Outlined.{is_unparted}
 use Rattle.md_outline.specs.OutlineSteps.{OutlineState, told_at}
-use Rattle.md_outline.specs.declared.outline.Span.{Span}
+use Rattle.md_outline.specs.declared.outline.TextSpan.{TextSpan}
 use Rattle.md_outline.specs.declared.outline.role.Purpose.TheVariants as purpose
 use Rattle.md_outline.proofs.ClosedTrees.{HaveWords, depth_of, shown, shown-then, words-then}
 use Rattle.md_outline.proofs.LinedLines.{end-taken}
 use Rattle.md_outline.proofs.OutlineAgrees.{Agrees, TextIs, text-lines, whole-piece}
 
 -- it is innermost, and has neither a label nor a block
-pub record AwaitsLabel (opened : List Around) (here : Blocks) : Type 0 where
-  pub outer : List Around
+pub record AwaitsLabel (opened : List OpenContainer) (here : Blocks) : Type 0 where
+  pub outer : List OpenContainer
   pub before : Blocks
   pub is : opened ≡ record { shape = FootnoteShape []; before = before } ∷ outer
   pub empty : here ≡ End
@@ -48,7 +47,7 @@ label-agrees now s r a same is =
     let head : Entry = entry (depth_of a.outer) word.Footnote in
     let depth : s.depth ≡ depth_of a.outer + 1 = is.depth ∙ ap depth_of a.is in
     subst
-    (λ (o : List Around).
+    (λ (o : List OpenContainer).
     Agrees told (record r { text = None; outer = on_shape (named AsFootnoteLabel now) o }))
     (sym a.is)
     (subst
@@ -80,7 +79,7 @@ label-agrees now s r a same is =
           ∙ sym (shown-then a.outer a.before (Footnote now End) a.words);
     }))
 
-pub label-ends : (bytes : List ℕ) (p : Point) (s : OutlineState) (r : Reading) (span : Option Span)
+pub label-ends : (bytes : List ℕ) (p : Point) (s : OutlineState) (r : Reading) (span : Option TextSpan)
     (text : Option Text) → AwaitsLabel r.outer r.here →
     TextIs (shown r.outer r.here) s.depth s.lines span text → is_unparted span ≡ true → Agrees s r →
     Agrees (told_at bytes purpose.FootnoteLabel p.index span s) (spelled.told_at bytes AsFootnoteLabel p text r)

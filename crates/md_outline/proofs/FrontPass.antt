@@ -2,17 +2,16 @@
 --
 -- Each fence, line ending and text of it has a lemma here. `passes-append` puts them together, from `at_front` to
 -- `behind_front`, and all of it is `passes-front`.
-use Rattle.std.proofs.Common.{◌≡◌, ℕ, true, false, cond, ◌==◌, List, ◌++◌, length, slice_range, refl, ap, subst}
-use Rattle.std.specs.Prelude.{nat_lt}
+use Rattle.std.proofs.Common.{◌≡◌, ℕ, false, ◌==◌, List, ◌++◌, slice_range, refl}
 use Rattle.md_engine.specs.declared.event.Event.{Event}
 use Rattle.md_engine.specs.declared.event.Name.TheVariants as n
 use Rattle.md_engine.specs.declared.event.Point.{Point}
-use Rattle.md_definition.specs.Texts.{first_byte}
+use Rattle.md_meaning.specs.Texts.{first_byte}
 use Rattle.md_seam.specs.Events.Nested.{around, pair}
 use Rattle.md_seam.specs.Events.Spelled.{IsFence, OfFrontmatter, byte_at}
 use Rattle.md_seam.proofs.SpelledLemmas.{Quiet, Roles}
 use Rattle.md_outline.specs.LinesStand.{AtEnd, AtEnding, AtInfo, AtLine, AtMarkers, Outside, Site}
-use Rattle.md_outline.proofs.LinesPass.{Passes, passes-append, passes-around, passes-ending, passes-leaf, passes-quiet}
+use Rattle.md_outline.proofs.LinesPass.{Passes, passes-append, passes-around, passes-leaf, passes-quiet}
 
 -- in front of its first fence, on a line that is empty yet, on one that has its text, and behind its last fence
 abbrev pub at_front : Site
@@ -42,17 +41,6 @@ passes-front_fence bytes p q end white quiet some =
     (passes-append bytes at_front (AtInfo OfFrontmatter) (AtInfo OfFrontmatter) (pair n.FrontmatterSequence p end) white
     (λ ys more. (tt, (some, more))) (passes-quiet bytes (AtInfo OfFrontmatter) white quiet))
     (tt, refl)
-
--- A line ending, behind which a line begins: on a line without a text,
-pub passes-empty_line : (bytes : List ℕ) (p q : Point) → Passes bytes on_line on_line (pair n.LineEnding p q)
-passes-empty_line bytes p q = passes-ending bytes p q on_line tt
-
--- and behind the text of a line, or behind the first fence, where the text goes on.
-pub passes-next_line : (bytes : List ℕ) (p q : Point) → nat_lt q.index (length bytes) ≡ true →
-    Passes bytes behind_line on_line (pair n.LineEnding p q)
-passes-next_line bytes p q goes =
-    subst (λ (s : Site). Passes bytes behind_line s (pair n.LineEnding p q))
-    (ap (λ x. cond x on_line behind_line) goes) (passes-ending bytes p q behind_line tt)
 
 -- The text of a line.
 pub passes-front_chunk : (bytes : List ℕ) (p q : Point) →

@@ -18,7 +18,7 @@ use Rattle.md_seam.specs.Events.Nested.{Balanced, is_exit, pair}
 use Rattle.md_seam.specs.Events.Places.{same_place}
 use Rattle.md_seam.specs.Events.Spelled.{AsCell, AsDelimiter, AsDestination, AsDigits, AsFootnoteLabel, AsHeading}
 use Rattle.md_seam.specs.Events.Spelled.{AsInfo, AsItemMarker, AsLabel, AsLine, AsMarkers, AsMeta, AsParagraph, AsTitle}
-use Rattle.md_seam.specs.Events.Spelled.{IsEnding, IsPrefix, IsQuiet, Purpose, Role, Tells, byte_at, role}
+use Rattle.md_seam.specs.Events.Spelled.{IsEnding, IsPrefix, IsQuiet, Purpose, Role, TextRole, byte_at, role}
 use Rattle.md_seam.specs.Events.Tiles.{Tiles, chunks_stand, depth_behind, filled, filled_from, first_list, further_lists}
 use Rattle.md_seam.specs.Events.Tiles.{is_chunk, is_part, parts, plain_lists, plain_read, stands_in_part}
 use Rattle.md_seam.proofs.FilledLemmas.{EachInline, chunk-behind, first-inline, further-inline, spelled-filled}
@@ -32,11 +32,11 @@ use Rattle.md_outline.specs.LinesStand.{AtInfo, AtLabel, AtMeta, AtTitle, AtTitl
 use Rattle.md_outline.specs.LinesStand.{InDestination, InPart, InParted, InTable, InText, InTitle, LinesStand, MayStand}
 use Rattle.md_outline.specs.LinesStand.{Outside, Site, site_by, table_site}
 use Rattle.md_outline.specs.ListsBegin.{AllTold, AtLabel as AtFootnoteLabel, ListsBegin, MayFollow, Stage, stage_by}
-use Rattle.md_outline.specs.Outlined.{IsOutlined, TextSpan as Span, are_parted, has_shown_name, parts_by, span_by}
+use Rattle.md_outline.specs.Outlined.{IsOutlined, OpenTextSpan, are_parted, has_shown_name, parts_by, span_by}
 use Rattle.md_outline.specs.Outlined.{stands_between, tells_between}
 use Rattle.md_outline.specs.Roles.{is_seen, is_shown, is_told, shown_as}
-use Rattle.md_outline.specs.TableSpots.{AtCell, AtHead, BehindCell, BehindHead, BehindRow, InCell, InDelimiter, InRow}
-use Rattle.md_outline.specs.TableSpots.{MayBe, Spot, spot_by}
+use Rattle.md_outline.specs.TablePlaces.{AtCell, AtHead, BehindCell, BehindHead, BehindRow, InCell, InDelimiter, InRow}
+use Rattle.md_outline.specs.TablePlaces.{MayBe, TablePlace, spot_by}
 use Rattle.md_outline.proofs.LinesPass.{keeps-quiet}
 
 -- Text parts.
@@ -50,7 +50,7 @@ IsPartText AsDigits = ⊥
 IsPartText AsItemMarker = ⊥
 IsPartText _ = Unit {0}
 
-part-text : (name : Name) → is_part name ≡ true → (x : Purpose) × (role name ≡ Tells x) × IsPartText x
+part-text : (name : Name) → is_part name ≡ true → (x : Purpose) × (role name ≡ TextRole x) × IsPartText x
 part-text n.Paragraph h = (AsParagraph, refl, tt)
 part-text n.HeadingAtxText h = (AsHeading, refl, tt)
 part-text n.HeadingSetextText h = (AsHeading, refl, tt)
@@ -77,7 +77,7 @@ record Walk (S : Type 0) (W : S → List Event → Type 0) : Type 1 where
       May s e.kind (role e.name) e.point × W (next s e.kind (role e.name) e.point) es
   joins : (s : S) (e : Event) (es : List Event) → May s e.kind (role e.name) e.point →
       W (next s e.kind (role e.name) e.point) es → W s (e ∷ es)
-  begins : (s : S) (x : Purpose) (p : Point) → IsPartText x → May s Enter (Tells x) p → IsText (next s Enter (Tells x) p)
+  begins : (s : S) (x : Purpose) (p : Point) → IsPartText x → May s Enter (TextRole x) p → IsText (next s Enter (TextRole x) p)
   goes : (s : S) (kind : Kind) (x : Role) (p : Point) → IsText s → QuietOrPrefix x → May s kind x p →
       IsText (next s kind x p)
   keeps : (s : S) (kind : Kind) (x : Role) (p : Point) → IsText s → QuietOrEnding x →
@@ -258,7 +258,7 @@ all-walk P inline = record {
 }
 
 -- over the texts that are parted
-parts-keep : (bytes : List ℕ) (span : Option Span) (kind : Kind) (x : Role) (p : Point) → QuietOrEnding x →
+parts-keep : (bytes : List ℕ) (span : Option OpenTextSpan) (kind : Kind) (x : Role) (p : Point) → QuietOrEnding x →
     (parts_by bytes kind x p span ≡ true) × (span_by kind x p span ≡ span)
 parts-keep bytes None Enter IsQuiet p is = (refl, refl)
 parts-keep bytes None Exit IsQuiet p is = (refl, refl)
@@ -270,7 +270,7 @@ parts-keep bytes (Some span) Enter IsEnding p is = (refl, refl)
 parts-keep bytes (Some span) Exit IsEnding p is = (refl, refl)
 parts-keep bytes span kind _ p is = absurd is
 
-parts-walk : (bytes : List ℕ) → Walk (Option Span) (λ span es. are_parted bytes span es ≡ true)
+parts-walk : (bytes : List ℕ) → Walk (Option OpenTextSpan) (λ span es. are_parted bytes span es ≡ true)
 parts-walk bytes = record {
   May = λ span kind x p. parts_by bytes kind x p span ≡ true;
   next = λ span kind x p. span_by kind x p span;
@@ -294,7 +294,7 @@ IsToldText AtFootnoteLabel = Unit {0}
 IsToldText _ = ⊥
 
 lists-begin : (bytes : List ℕ) (stage : Stage) (x : Purpose) (p : Point) → IsPartText x →
-    MayFollow bytes stage Enter (Tells x) p → IsToldText (stage_by stage Enter (Tells x) p)
+    MayFollow bytes stage Enter (TextRole x) p → IsToldText (stage_by stage Enter (TextRole x) p)
 lists-begin bytes stage AsMarkers p is may = absurd is
 lists-begin bytes stage AsLine p is may = absurd is
 lists-begin bytes stage AsDelimiter p is may = absurd is
@@ -356,8 +356,8 @@ IsTextSite InDestination = Unit {0}
 IsTextSite (InTable (InCell row)) = Unit {0}
 IsTextSite _ = ⊥
 
-cell-begins : (spot : Spot) (x : Purpose) → IsPartText x → MayBe spot Enter (Tells x) →
-    IsTextSite (table_site (spot_by spot Enter (Tells x)))
+cell-begins : (spot : TablePlace) (x : Purpose) → IsPartText x → MayBe spot Enter (TextRole x) →
+    IsTextSite (table_site (spot_by spot Enter (TextRole x)))
 cell-begins spot AsMarkers is may = absurd is
 cell-begins spot AsLine is may = absurd is
 cell-begins spot AsDelimiter is may = absurd is
@@ -374,7 +374,7 @@ cell-begins InDelimiter x is may = absurd may
 cell-begins BehindRow x is may = absurd may
 
 lines-begin : (bytes : List ℕ) (site : Site) (x : Purpose) (p : Point) → IsPartText x →
-    MayStand bytes site Enter (Tells x) p → IsTextSite (site_by bytes site Enter (Tells x) p)
+    MayStand bytes site Enter (TextRole x) p → IsTextSite (site_by bytes site Enter (TextRole x) p)
 lines-begin bytes site AsMarkers p is may = absurd is
 lines-begin bytes site AsLine p is may = absurd is
 lines-begin bytes site AsDelimiter p is may = absurd is
@@ -496,7 +496,7 @@ outlined-filled bytes blocks plain lists stands before each balanced is = record
       (all-walk (λ x p. not (is_told x) || is_between bytes (byte_at p)) (texts-inline bytes)) tt blocks plain lists
       stands before each is.texts;
   parted =
-      walk-filled (Option Span) (λ span es. are_parted bytes span es ≡ true) (parts-walk bytes) None blocks plain lists
+      walk-filled (Option OpenTextSpan) (λ span es. are_parted bytes span es ≡ true) (parts-walk bytes) None blocks plain lists
       stands before each is.parted;
   lists =
       walk-filled Stage (ListsBegin bytes) (lists-walk bytes) AllTold blocks plain lists stands before each is.lists;

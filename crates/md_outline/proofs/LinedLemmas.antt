@@ -6,15 +6,15 @@ use Rattle.std.specs.Prelude.{None, Option, Some, nat_lt, option_map}
 use Rattle.std.proofs.lemmas.Bool.{eqb-true, true≢false}
 use Rattle.std.proofs.lemmas.List.{map-append}
 use Rattle.md_engine.specs.declared.event.Point.{Point}
-use Rattle.md_definition.specs.declared.outline.Word.{Word}
-use Rattle.md_definition.specs.declared.outline.Word.TheVariants as word
-use Rattle.md_definition.specs.Outline.{Entry, block_entries, entries, entry, entry_with, line_entry, part_entry}
-use Rattle.md_definition.specs.State.{then_block}
-use Rattle.md_definition.specs.Texts.{first_byte}
-use Rattle.md_definition.specs.Tree.{Line}
+use Rattle.md_meaning.specs.declared.outline.Word.{Word}
+use Rattle.md_meaning.specs.declared.outline.Word.TheVariants as word
+use Rattle.md_meaning.specs.Outline.{Entry, block_entries, entries, entry, entry_with, line_entry, part_entry}
+use Rattle.md_meaning.specs.State.{then_block}
+use Rattle.md_meaning.specs.Texts.{first_byte}
+use Rattle.md_meaning.specs.Tree.{Line}
 use Rattle.md_seam.specs.Events.Spelled.{AsInfo, AsLine, AsMarkers, AsMeta, CodeLeaf, FenceLeaf, FrontmatterLeaf}
 use Rattle.md_seam.specs.Events.Spelled.{HtmlLeaf, LeafKind, MathLeaf, OfCode, OfFence, OfFrontmatter, OfHtml, OfMath}
-use Rattle.md_seam.specs.Events.Spelled.{OpenLeaf, Opens, Reading, Text, at_ending, at_fence, block_of, empty_line}
+use Rattle.md_seam.specs.Events.Spelled.{OpenLeaf, LeafRole, Reading, Text, at_ending, at_fence, block_of, empty_line}
 use Rattle.md_seam.specs.Events.Spelled.{finished, fresh, joined, next_line, on_last, on_leaf, read_enter, read_exit}
 use Rattle.md_seam.specs.Events.Spelled.{without_last}
 use Rattle.md_seam.specs.Events.Spelled as spelled
@@ -25,7 +25,7 @@ use Rattle.md_outline.specs.Outlined.{is_unparted}
 use Rattle.md_outline.specs.OutlineSteps.{OutlineState, fence_begun, head_marked, line_ended, state_enter, state_exit}
 use Rattle.md_outline.specs.OutlineSteps.{told, told_leaf}
 use Rattle.md_outline.specs.Roles.{shown_as}
-use Rattle.md_outline.specs.declared.outline.Span.{Span}
+use Rattle.md_outline.specs.declared.outline.TextSpan.{TextSpan}
 use Rattle.md_outline.specs.declared.outline.lined.Form.{Form}
 use Rattle.md_outline.specs.declared.outline.lined.Form.TheVariants as form
 use Rattle.md_outline.specs.declared.outline.lined.Lined.{Lined}
@@ -108,7 +108,7 @@ pub record Lining (kind : LeafKind) (markers : List ℕ) (info meta : Option (Li
 
 -- whatever text is read
 pub texted : (kind : LeafKind) (markers : List ℕ) (info meta : Option (List ℕ)) (lines : List Line) (closed : Bool)
-    (fenced : Bool) (s : OutlineState) (r : Reading) (span : Option Span) (spaces : ℕ) (text : Option Text) →
+    (fenced : Bool) (s : OutlineState) (r : Reading) (span : Option TextSpan) (spaces : ℕ) (text : Option Text) →
     Lining kind markers info meta lines closed fenced s r →
     Lining kind markers info meta lines closed fenced (record s { text = span; spaces = spaces })
     (record r { text = text })
@@ -138,7 +138,7 @@ pub record Marked (kind : LeafKind) (info meta : Option (List ℕ)) (lines : Lis
   pub is : Lining kind markers info meta lines closed fenced s r
 
 pub again : (kind : LeafKind) (info meta : Option (List ℕ)) (lines : List Line) (closed : Bool) (s : OutlineState)
-    (r : Reading) (span : Option Span) (spaces : ℕ) (text : Option Text) → Marked kind info meta lines closed s r →
+    (r : Reading) (span : Option TextSpan) (spaces : ℕ) (text : Option Text) → Marked kind info meta lines closed s r →
     Marked kind info meta lines closed (record s { text = span; spaces = spaces }) (record r { text = text })
 again kind info meta lines closed s r span spaces text m = record {
   markers = m.markers;
@@ -168,7 +168,7 @@ InTextOf kind _ s r = ⊥
 pub lining-begins : (bytes : List ℕ) (kind : LeafKind) (w : Word) (lines : List Line) (p : Point) (s : OutlineState)
     (r : Reading) → form_of w ≡ lined_form kind → fresh kind ≡ lined_leaf kind [] None None lines false →
     begin_lines s.depth w ≡ lined_entries kind s.depth [] None None lines false → s.text ≡ None → Agrees s r →
-    Lining kind [] None None lines false false (state_enter bytes (role.Lined w) p s) (read_enter bytes (Opens kind) p r)
+    Lining kind [] None None lines false false (state_enter bytes (role.Lined w) p s) (read_enter bytes (LeafRole kind) p r)
 lining-begins bytes kind w lines p s r other leaf begins none is =
     let same : s.lines ≡ shown r.outer r.here =
     text-lines (shown r.outer r.here) s.depth s.lines s.text r.text (ap is_unparted none) is.text in
@@ -625,7 +625,7 @@ lining-ends kind info meta lines closed s r m none =
 
 pub leaf-ends : (bytes : List ℕ) (x : LeafKind) (p : Point) (s : OutlineState) (r : Reading) → HasLines x →
     Agrees (record s { lined = None }) (finished r.leaf r) →
-    Agrees (state_exit bytes (shown_as (Opens x)) p s) (read_exit bytes (Opens x) p r)
+    Agrees (state_exit bytes (shown_as (LeafRole x)) p s) (read_exit bytes (LeafRole x) p r)
 leaf-ends bytes OfCode p s r h is = is
 leaf-ends bytes OfFence p s r h is = is
 leaf-ends bytes OfMath p s r h is = is
@@ -669,7 +669,7 @@ span-fenced (Some lined) s = go lined.is_fenced
     go true = refl
     go false = refl
 
-pub span-line : (bytes : List ℕ) (end : ℕ) (lined : Option Lined) (text : Option Span) (s : OutlineState) →
+pub span-line : (bytes : List ℕ) (end : ℕ) (lined : Option Lined) (text : Option TextSpan) (s : OutlineState) →
     (line_ended bytes end lined text s).text ≡ s.text
 span-line bytes end None text s = refl
 span-line bytes end (Some lined) (Some text) s = refl

@@ -3,10 +3,10 @@ use Rattle.std.proofs.Common.{◌≡◌, ℕ, ◌+◌, ◌-◌, ◌<◌, List, [
 use Rattle.std.proofs.Common.{arith}
 use Rattle.std.specs.Prelude.{set}
 use Rattle.std.proofs.lemmas.List.{get_or-map, get_or_at, length-append, length-map, map-set, set_at, take-map, take_at}
-use Rattle.md_definition.specs.declared.outline.OutlineLine.{OutlineLine}
-use Rattle.md_definition.specs.declared.outline.Word.{Word}
-use Rattle.md_definition.specs.declared.outline.Word.TheVariants as word
-use Rattle.md_definition.specs.Outline.{Entry, entry, entry_of}
+use Rattle.md_meaning.specs.declared.outline.OutlineLine.{OutlineLine}
+use Rattle.md_meaning.specs.declared.outline.Word.{Word}
+use Rattle.md_meaning.specs.declared.outline.Word.TheVariants as word
+use Rattle.md_meaning.specs.Outline.{Entry, entry, entry_of}
 use Rattle.md_seam.specs.Events.Spelled.{on_last}
 use Rattle.md_outline.specs.LinedState.{with_head, without_end}
 

@@ -14,7 +14,7 @@ use Rattle.md_seam.specs.Events.Nested.{around, enter, exit, pair}
 use Rattle.md_seam.specs.Events.Spelled.{AsCell, AsDelimiter, AsDestination, AsHeading, AsInfo, AsLabel, AsLine}
 use Rattle.md_seam.specs.Events.Spelled.{AsMarkers, AsMeta, AsTitle, IsCell, IsEnding, IsFence, IsPrefix, IsQuiet, IsRow}
 use Rattle.md_seam.specs.Events.Spelled.{IsTitle, LeafKind, OfCode, OfDefinition, OfFence, OfFrontmatter}
-use Rattle.md_seam.specs.Events.Spelled.{OfHeadingSetext, OfHtml, OfMath, OfTable, Opens, Role, Tells, role}
+use Rattle.md_seam.specs.Events.Spelled.{OfHeadingSetext, OfHtml, OfMath, OfTable, LeafRole, Role, TextRole, role}
 use Rattle.md_seam.proofs.SpelledLemmas.{Between, Quiet, QuietOrEnding, QuietOrPrefix, Roles}
 use Rattle.md_outline.specs.LinesStand.{AtEnd, AtEnding, AtLine, AtTitle, BehindTitle, BehindUnderline, HasLines}
 use Rattle.md_outline.specs.LinesStand.{InAtxText, InTitle, InUnderline, LinesStand, MayStand, Outside, Site}
@@ -63,27 +63,27 @@ passes-kept bytes site es h = passes-by bytes (Keeps bytes site) site es (λ x k
 -- those of no such leaf block leave one outside: so what opens a container passes by `passes-kept`, a footnote
 -- definition with its prefix and its label as an item with its digits and its marker,
 pub keeps-plain : (bytes : List ℕ) (x : Role) → is_plain x ≡ true → Keeps bytes Outside x
-keeps-plain bytes (Opens OfCode) h kind p = absurd (true≢false (sym h))
-keeps-plain bytes (Opens OfFence) h kind p = absurd (true≢false (sym h))
-keeps-plain bytes (Opens OfMath) h kind p = absurd (true≢false (sym h))
-keeps-plain bytes (Opens OfHtml) h kind p = absurd (true≢false (sym h))
-keeps-plain bytes (Opens OfHeadingSetext) h kind p = absurd (true≢false (sym h))
-keeps-plain bytes (Opens OfDefinition) h kind p = absurd (true≢false (sym h))
-keeps-plain bytes (Opens OfTable) h kind p = absurd (true≢false (sym h))
-keeps-plain bytes (Opens OfFrontmatter) h kind p = absurd (true≢false (sym h))
-keeps-plain bytes (Tells AsHeading) h kind p = absurd (true≢false (sym h))
+keeps-plain bytes (LeafRole OfCode) h kind p = absurd (true≢false (sym h))
+keeps-plain bytes (LeafRole OfFence) h kind p = absurd (true≢false (sym h))
+keeps-plain bytes (LeafRole OfMath) h kind p = absurd (true≢false (sym h))
+keeps-plain bytes (LeafRole OfHtml) h kind p = absurd (true≢false (sym h))
+keeps-plain bytes (LeafRole OfHeadingSetext) h kind p = absurd (true≢false (sym h))
+keeps-plain bytes (LeafRole OfDefinition) h kind p = absurd (true≢false (sym h))
+keeps-plain bytes (LeafRole OfTable) h kind p = absurd (true≢false (sym h))
+keeps-plain bytes (LeafRole OfFrontmatter) h kind p = absurd (true≢false (sym h))
+keeps-plain bytes (TextRole AsHeading) h kind p = absurd (true≢false (sym h))
 keeps-plain bytes IsFence h kind p = absurd (true≢false (sym h))
 keeps-plain bytes IsTitle h kind p = absurd (true≢false (sym h))
 keeps-plain bytes IsRow h kind p = absurd (true≢false (sym h))
 keeps-plain bytes IsCell h kind p = absurd (true≢false (sym h))
-keeps-plain bytes (Tells AsLine) h kind p = absurd (true≢false (sym h))
-keeps-plain bytes (Tells AsInfo) h kind p = absurd (true≢false (sym h))
-keeps-plain bytes (Tells AsMeta) h kind p = absurd (true≢false (sym h))
-keeps-plain bytes (Tells AsLabel) h kind p = absurd (true≢false (sym h))
-keeps-plain bytes (Tells AsDestination) h kind p = absurd (true≢false (sym h))
-keeps-plain bytes (Tells AsTitle) h kind p = absurd (true≢false (sym h))
-keeps-plain bytes (Tells AsCell) h kind p = absurd (true≢false (sym h))
-keeps-plain bytes (Tells AsDelimiter) h kind p = absurd (true≢false (sym h))
+keeps-plain bytes (TextRole AsLine) h kind p = absurd (true≢false (sym h))
+keeps-plain bytes (TextRole AsInfo) h kind p = absurd (true≢false (sym h))
+keeps-plain bytes (TextRole AsMeta) h kind p = absurd (true≢false (sym h))
+keeps-plain bytes (TextRole AsLabel) h kind p = absurd (true≢false (sym h))
+keeps-plain bytes (TextRole AsDestination) h kind p = absurd (true≢false (sym h))
+keeps-plain bytes (TextRole AsTitle) h kind p = absurd (true≢false (sym h))
+keeps-plain bytes (TextRole AsCell) h kind p = absurd (true≢false (sym h))
+keeps-plain bytes (TextRole AsDelimiter) h kind p = absurd (true≢false (sym h))
 keeps-plain bytes x h Enter p = (tt, refl)
 keeps-plain bytes x h Exit p = (tt, refl)
 
@@ -177,13 +177,13 @@ MayLeave (AtEnd kind) = Unit {0}
 MayLeave _ = ⊥
 
 pub passes-leaf : (bytes : List ℕ) (name : Name) (kind : LeafKind) (p q : Point) (site : Site) (es : List Event) →
-    role name ≡ Opens kind → HasLines kind → MayLeave site → Passes bytes (begun_site kind) site es →
+    role name ≡ LeafRole kind → HasLines kind → MayLeave site → Passes bytes (begun_site kind) site es →
     Passes bytes Outside Outside (around name p q es)
 passes-leaf bytes name kind p q site es is lined leave h =
-    passes-around bytes Outside (begun_site kind) site Outside (Opens kind) name p q es is (tt, refl) h
+    passes-around bytes Outside (begun_site kind) site Outside (LeafRole kind) name p q es is (tt, refl) h
     (ends site leave)
   where
-    ends : (site : Site) → MayLeave site → Steps bytes site Outside Exit (Opens kind) q
+    ends : (site : Site) → MayLeave site → Steps bytes site Outside Exit (LeafRole kind) q
     ends (AtEnding k) leave = (lined, refl)
     ends (AtLine k) leave = (lined, refl)
     ends (AtEnd k) leave = (lined, refl)
@@ -192,10 +192,10 @@ passes-leaf bytes name kind p q site es is lined leave h =
 -- Headings.
 
 -- the text of an ATX heading, in which no prefix stands
-pub passes-atx_text : (bytes : List ℕ) (name : Name) (p q : Point) (es : List Event) → role name ≡ Tells AsHeading →
+pub passes-atx_text : (bytes : List ℕ) (name : Name) (p q : Point) (es : List Event) → role name ≡ TextRole AsHeading →
     Roles QuietOrEnding es → Passes bytes Outside Outside (around name p q es)
 passes-atx_text bytes name p q es is h =
-    passes-around bytes Outside InAtxText InAtxText Outside (Tells AsHeading) name p q es is (tt, refl)
+    passes-around bytes Outside InAtxText InAtxText Outside (TextRole AsHeading) name p q es is (tt, refl)
     (passes-by bytes QuietOrEnding InAtxText es one h) (tt, refl)
   where
     ending : Keeps bytes InAtxText IsEnding
@@ -238,10 +238,10 @@ passes-lines bytes site es takes h = passes-by bytes Between site es one h
     one _ h = absurd h
 
 -- its text
-pub passes-title : (bytes : List ℕ) (name : Name) (p q : Point) (es : List Event) → role name ≡ Tells AsHeading →
+pub passes-title : (bytes : List ℕ) (name : Name) (p q : Point) (es : List Event) → role name ≡ TextRole AsHeading →
     Roles Between es → Passes bytes AtTitle BehindTitle (around name p q es)
 passes-title bytes name p q es is h =
-    passes-around bytes AtTitle InTitle InTitle BehindTitle (Tells AsHeading) name p q es is (tt, refl)
+    passes-around bytes AtTitle InTitle InTitle BehindTitle (TextRole AsHeading) name p q es is (tt, refl)
     (passes-lines bytes InTitle es tt h) (tt, refl)
 
 -- what stands between that and its underline
@@ -250,15 +250,15 @@ passes-gap bytes es h = passes-lines bytes BehindTitle es tt h
 
 -- the markers of its underline
 pub passes-underline : (bytes : List ℕ) (name : Name) (p q : Point) (es : List Event) →
-    role name ≡ Tells AsMarkers → Roles Quiet es → Passes bytes BehindTitle BehindUnderline (around name p q es)
+    role name ≡ TextRole AsMarkers → Roles Quiet es → Passes bytes BehindTitle BehindUnderline (around name p q es)
 passes-underline bytes name p q es is h =
-    passes-around bytes BehindTitle InUnderline InUnderline BehindUnderline (Tells AsMarkers) name p q es is (tt, refl)
+    passes-around bytes BehindTitle InUnderline InUnderline BehindUnderline (TextRole AsMarkers) name p q es is (tt, refl)
     (passes-quiet bytes InUnderline es h) (tt, refl)
 
 -- all of it
 pub passes-heading : (bytes : List ℕ) (name : Name) (p q : Point) (es : List Event) →
-    role name ≡ Opens OfHeadingSetext → Passes bytes AtTitle BehindUnderline es →
+    role name ≡ LeafRole OfHeadingSetext → Passes bytes AtTitle BehindUnderline es →
     Passes bytes Outside Outside (around name p q es)
 passes-heading bytes name p q es is h =
-    passes-around bytes Outside AtTitle BehindUnderline Outside (Opens OfHeadingSetext) name p q es is (tt, refl) h
+    passes-around bytes Outside AtTitle BehindUnderline Outside (LeafRole OfHeadingSetext) name p q es is (tt, refl) h
     (tt, refl)

@@ -8,15 +8,15 @@ use Rattle.std.proofs.lemmas.List.{get_or-map, get_or_at, map-set, set_at}
 use Rattle.md_engine.specs.declared.event.Kind.{Kind}
 use Rattle.md_engine.specs.declared.event.Kind.TheVariants.{Enter, Exit}
 use Rattle.md_engine.specs.declared.event.Point.{Point}
-use Rattle.md_definition.specs.declared.outline.OutlineLine.{OutlineLine}
-use Rattle.md_definition.specs.declared.outline.Word.TheVariants as word
-use Rattle.md_definition.specs.Outline.{Entry, block_entries, entry, entry_of, outline}
-use Rattle.md_definition.specs.Texts.{first_byte}
-use Rattle.md_definition.specs.Tree.{Block, Blocks, End, Item, More}
-use Rattle.md_seam.specs.Events.Spelled.{Around, AsDigits, AsFootnoteLabel, AsItemMarker, FootnoteShape, Holds}
+use Rattle.md_meaning.specs.declared.outline.OutlineLine.{OutlineLine}
+use Rattle.md_meaning.specs.declared.outline.Word.TheVariants as word
+use Rattle.md_meaning.specs.Outline.{Entry, block_entries, entry, entry_of, outline}
+use Rattle.md_meaning.specs.Texts.{first_byte}
+use Rattle.md_meaning.specs.Tree.{Block, Blocks, End, Item, More}
+use Rattle.md_seam.specs.Events.Spelled.{OpenContainer, AsDigits, AsFootnoteLabel, AsItemMarker, FootnoteShape, ContainerRole}
 use Rattle.md_seam.specs.Events.Spelled.{IsEnding, IsPrefix, IsQuiet, ItemShape, OrderedShape}
-use Rattle.md_seam.specs.Events.Spelled.{Reading, Shape, Tells, Text, UnorderedShape, begun, block_around, byte_at}
-use Rattle.md_seam.specs.Events.Spelled.{columns_left, first_told, read_by, read_enter, read_exit, text_to}
+use Rattle.md_seam.specs.Events.Spelled.{Reading, Shape, TextRole, Text, UnorderedShape, begun, block_around, byte_at}
+use Rattle.md_seam.specs.Events.Spelled.{columns_left, first_told, read_by, read_enter, text_to}
 use Rattle.md_seam.specs.Events.Spelled as spelled
 use Rattle.md_outline.specs.HeadingDepths.{are_shallow}
 use Rattle.md_outline.specs.ListsBegin.{AllTold, AtItem, AtLabel, AtMarker, InMarker, MayFollow, Stage, marks, stage_by}
@@ -26,7 +26,7 @@ use Rattle.md_outline.specs.OutlineSteps.{marked_at}
 use Rattle.md_outline.specs.Roles.{is_listed, shown_as}
 use Rattle.md_outline.specs.declared.outline.role.Purpose.TheVariants as purpose
 use Rattle.md_outline.specs.declared.outline.role.Role.TheVariants as role
-use Rattle.md_outline.specs.declared.outline.Span.{Span}
+use Rattle.md_outline.specs.declared.outline.TextSpan.{TextSpan}
 use Rattle.md_outline.proofs.ClosedTrees.{HasWord, HaveWords, depth_of, shown, shown-then, words-then}
 use Rattle.md_outline.proofs.FootnoteLemmas.{AwaitsLabel, awaits-label, label-ends}
 use Rattle.md_outline.proofs.OutlineAgrees.{Agrees, KnowsOpen, TextIs, agrees-begun, agrees-left, agrees-step, apart}
@@ -65,13 +65,6 @@ IsList OrderedShape = Unit {0}
 IsList UnorderedShape = Unit {0}
 IsList _ = ⊥
 
--- one without items has no marker yet
-list-line : (shape : Shape) (depth : ℕ) → IsList shape →
-    block_entries depth (block_around shape End) ≡ entry depth (word.List 0) ∷ []
-list-line OrderedShape depth h = refl
-list-line UnorderedShape depth h = refl
-list-line _ depth h = absurd h
-
 -- one with an item that has a marker of such lists has that,
 item-lines : (shape : Shape) (depth b : ℕ) (d : List ℕ) → IsList shape → marks shape b ≡ true →
     block_entries depth (block_around shape (More (Item b d End) End))
@@ -99,7 +92,7 @@ item-told _ b d h m = absurd h
 -- its first item is to come
 pub record AwaitsItem (shape : Shape) (s : OutlineState) (r : Reading) : Type 0 where
   pub list : IsList shape
-  pub outer : List Around
+  pub outer : List OpenContainer
   pub before : Blocks
   pub opened : r.outer ≡ record { shape = shape; before = before } ∷ outer
   pub empty : r.here ≡ End
@@ -114,7 +107,7 @@ pub record AwaitsItem (shape : Shape) (s : OutlineState) (r : Reading) : Type 0 
 -- the marker of that is to come
 pub record AwaitsMarker (shape : Shape) (s : OutlineState) (r : Reading) : Type 0 where
   pub list : IsList shape
-  pub outer : List Around
+  pub outer : List OpenContainer
   pub before : Blocks
   pub digits : List ℕ
   pub opened : r.outer
@@ -141,7 +134,7 @@ AgreesAt AtLabel s r = Agrees s r × AwaitsLabel r.outer r.here
 -- a list begins
 list-begins : (bytes : List ℕ) (shape : Shape) (p : Point) (s : OutlineState) (r : Reading) → IsList shape →
     is_unparted s.text ≡ true → Agrees s r →
-    AwaitsItem shape (state_enter bytes role.List p s) (read_enter bytes (Holds shape) p r)
+    AwaitsItem shape (state_enter bytes role.List p s) (read_enter bytes (ContainerRole shape) p r)
 list-begins bytes shape p s r h k is =
     let same : s.lines ≡ shown r.outer r.here =
     text-lines (shown r.outer r.here) s.depth s.lines s.text r.text k is.text in
@@ -169,7 +162,7 @@ list-begins bytes shape p s r h k is =
 -- its first item begins
 item-begins : (bytes : List ℕ) (shape : Shape) (m : ℕ) (d : List ℕ) (p : Point) (s : OutlineState) (r : Reading) →
     m ≡ 0 → is_unparted s.text ≡ true → AwaitsItem shape s r →
-    AwaitsMarker shape (state_enter bytes (role.Container word.Item) p s) (read_enter bytes (Holds (ItemShape m d)) p r)
+    AwaitsMarker shape (state_enter bytes (role.Container word.Item) p s) (read_enter bytes (ContainerRole (ItemShape m d)) p r)
 item-begins bytes shape m d p s r zero k is =
     let before : List Entry = shown is.outer is.before in
     let list : Entry = entry (depth_of is.outer) (word.List 0) in
@@ -181,7 +174,7 @@ item-begins bytes shape m d p s r zero k is =
       opened =
           ap (λ (m : ℕ). record { shape = ItemShape m d; before = r.here } ∷ r.outer) zero
           ∙ ap (λ (b : Blocks). record { shape = ItemShape 0 d; before = b } ∷ r.outer) is.empty
-          ∙ ap (λ (o : List Around). record { shape = ItemShape 0 d; before = End } ∷ o) is.opened;
+          ∙ ap (λ (o : List OpenContainer). record { shape = ItemShape 0 d; before = End } ∷ o) is.opened;
       empty = refl;
       words = is.words;
       depth = ap (λ d. d + 1) is.depth;
@@ -231,7 +224,7 @@ front-begins shape p s r k is = record {
 }
 
 -- digits end there
-digits-end : (bytes : List ℕ) (shape : Shape) (p : Point) (s : OutlineState) (r : Reading) (span : Option Span)
+digits-end : (bytes : List ℕ) (shape : Shape) (p : Point) (s : OutlineState) (r : Reading) (span : Option TextSpan)
     (text : Option Text) (is : AwaitsMarker shape s r) →
     TextIs
     (shown is.outer is.before ++ entry (depth_of is.outer) (word.List 0) ∷ entry (depth_of is.outer + 1) word.Item ∷ [])
@@ -297,7 +290,7 @@ marked-agrees shape now s r is same m =
           ∙ sym (shown-then is.outer is.before list is.words);
     }
 
-marker-ends : (bytes : List ℕ) (shape : Shape) (p q : Point) (s : OutlineState) (r : Reading) (span : Option Span)
+marker-ends : (bytes : List ℕ) (shape : Shape) (p q : Point) (s : OutlineState) (r : Reading) (span : Option TextSpan)
     (text : Option Text) (is : AwaitsMarker shape s r) → text ≡ Some (begun q) →
     TextIs
     (shown is.outer is.before ++ entry (depth_of is.outer) (word.List 0) ∷ entry (depth_of is.outer + 1) word.Item ∷ [])
@@ -330,7 +323,7 @@ marker-ends bytes shape p q s r (Some span) (Some text) is e h k m =
     (spelled.told_at bytes AsItemMarker p (Some t) r))
     (sym same)
     (subst
-    (λ (o : List Around).
+    (λ (o : List OpenContainer).
     Agrees (marked_at (Some (length (shown is.outer is.before))) now (record s { text = None }))
     (record r { text = None; outer = spelled.on_shape (spelled.named AsItemMarker now) o }))
     (sym is.opened)
@@ -358,37 +351,37 @@ pub agrees-stage : (bytes : List ℕ) (stage : Stage) (kind : Kind) (x : spelled
     (r : Reading) → is_listed x ≡ true → IsFresh x → parts_by bytes kind x p s.text ≡ true →
     are_shallow (read_by bytes kind x p r).here ≡ true → MayFollow bytes stage kind x p → AgreesAt stage s r →
     AgreesAt (stage_by stage kind x p) (state_by bytes kind (shown_as x) p s) (read_by bytes kind x p r)
-agrees-stage bytes AllTold Enter (Holds OrderedShape) p s r h fresh k d may is =
-    list-begins bytes OrderedShape p s r tt (apart bytes Enter (Holds OrderedShape) p s.text (λ t. refl) k) is
-agrees-stage bytes AllTold Enter (Holds UnorderedShape) p s r h fresh k d may is =
-    list-begins bytes UnorderedShape p s r tt (apart bytes Enter (Holds UnorderedShape) p s.text (λ t. refl) k) is
-agrees-stage bytes AllTold Exit (Holds OrderedShape) p s r h fresh k d may is =
-    agrees-left s r r.outer refl (apart bytes Exit (Holds OrderedShape) p s.text (λ t. refl) k) is
-agrees-stage bytes AllTold Exit (Holds UnorderedShape) p s r h fresh k d may is =
-    agrees-left s r r.outer refl (apart bytes Exit (Holds UnorderedShape) p s.text (λ t. refl) k) is
-agrees-stage bytes AllTold Enter (Holds (FootnoteShape label)) p s r h fresh k d may is = (
-  agrees-step bytes Enter (Holds (FootnoteShape label)) p s r h fresh k d tt is,
+agrees-stage bytes AllTold Enter (ContainerRole OrderedShape) p s r h fresh k d may is =
+    list-begins bytes OrderedShape p s r tt (apart bytes Enter (ContainerRole OrderedShape) p s.text (λ t. refl) k) is
+agrees-stage bytes AllTold Enter (ContainerRole UnorderedShape) p s r h fresh k d may is =
+    list-begins bytes UnorderedShape p s r tt (apart bytes Enter (ContainerRole UnorderedShape) p s.text (λ t. refl) k) is
+agrees-stage bytes AllTold Exit (ContainerRole OrderedShape) p s r h fresh k d may is =
+    agrees-left s r r.outer refl (apart bytes Exit (ContainerRole OrderedShape) p s.text (λ t. refl) k) is
+agrees-stage bytes AllTold Exit (ContainerRole UnorderedShape) p s r h fresh k d may is =
+    agrees-left s r r.outer refl (apart bytes Exit (ContainerRole UnorderedShape) p s.text (λ t. refl) k) is
+agrees-stage bytes AllTold Enter (ContainerRole (FootnoteShape label)) p s r h fresh k d may is = (
+  agrees-step bytes Enter (ContainerRole (FootnoteShape label)) p s r h fresh k d tt is,
   awaits-label label r fresh is.words,
 )
 agrees-stage bytes AllTold Enter x p s r h fresh k d may is = agrees-step bytes Enter x p s r h fresh k d may is
 agrees-stage bytes AllTold Exit x p s r h fresh k d may is = agrees-step bytes Exit x p s r h fresh k d may is
-agrees-stage bytes (AtItem shape) Enter (Holds (ItemShape m digits)) p s r h fresh k d may is =
+agrees-stage bytes (AtItem shape) Enter (ContainerRole (ItemShape m digits)) p s r h fresh k d may is =
     item-begins bytes shape m digits p s r may
-    (apart bytes Enter (Holds (ItemShape m digits)) p s.text (λ t. refl) k) is
+    (apart bytes Enter (ContainerRole (ItemShape m digits)) p s.text (λ t. refl) k) is
 agrees-stage bytes (AtItem shape) _ _ p s r h fresh k d may is = absurd may
 agrees-stage bytes (AtMarker shape) Enter IsQuiet p s r h fresh k d may is = is
 agrees-stage bytes (AtMarker shape) Exit IsQuiet p s r h fresh k d may is = is
-agrees-stage bytes (AtMarker shape) Enter (Tells AsDigits) p s r h fresh k d may is =
-    front-begins shape p s r (apart bytes Enter (Tells AsDigits) p s.text (λ t. refl) k) is
-agrees-stage bytes (AtMarker shape) Exit (Tells AsDigits) p s r h fresh k d may is =
+agrees-stage bytes (AtMarker shape) Enter (TextRole AsDigits) p s r h fresh k d may is =
+    front-begins shape p s r (apart bytes Enter (TextRole AsDigits) p s.text (λ t. refl) k) is
+agrees-stage bytes (AtMarker shape) Exit (TextRole AsDigits) p s r h fresh k d may is =
     digits-end bytes shape p s r s.text r.text is is.text
-    (apart bytes Exit (Tells AsDigits) p s.text (λ t. refl) k)
-agrees-stage bytes (AtMarker shape) Enter (Tells AsItemMarker) p s r h fresh k d may is =
-    (front-begins shape p s r (apart bytes Enter (Tells AsItemMarker) p s.text (λ t. refl) k) is, refl)
+    (apart bytes Exit (TextRole AsDigits) p s.text (λ t. refl) k)
+agrees-stage bytes (AtMarker shape) Enter (TextRole AsItemMarker) p s r h fresh k d may is =
+    (front-begins shape p s r (apart bytes Enter (TextRole AsItemMarker) p s.text (λ t. refl) k) is, refl)
 agrees-stage bytes (AtMarker shape) _ _ p s r h fresh k d may is = absurd may
-agrees-stage bytes (InMarker shape q) Exit (Tells AsItemMarker) p s r h fresh k d may is =
+agrees-stage bytes (InMarker shape q) Exit (TextRole AsItemMarker) p s r h fresh k d may is =
     marker-ends bytes shape p q s r s.text r.text is.0 is.1 is.0.text
-    (apart bytes Exit (Tells AsItemMarker) p s.text (λ t. refl) k) may
+    (apart bytes Exit (TextRole AsItemMarker) p s.text (λ t. refl) k) may
 agrees-stage bytes (InMarker shape q) _ _ p s r h fresh k d may is = absurd may
 agrees-stage bytes AtLabel Enter IsPrefix p s r h fresh k d may is =
     (agrees-step bytes Enter IsPrefix p s r refl tt k d tt is.0, is.1)
@@ -401,15 +394,15 @@ agrees-stage bytes AtLabel Exit IsEnding p s r h fresh k d may is = (
 )
 agrees-stage bytes AtLabel Enter IsQuiet p s r h fresh k d may is = is
 agrees-stage bytes AtLabel Exit IsQuiet p s r h fresh k d may is = is
-agrees-stage bytes AtLabel Enter (Tells AsFootnoteLabel) p s r h fresh k d may is =
-    (agrees-begun p s r (apart bytes Enter (Tells AsFootnoteLabel) p s.text (λ t. refl) k) is.0, is.1)
-agrees-stage bytes AtLabel Exit (Tells AsFootnoteLabel) p s r h fresh k d may is =
+agrees-stage bytes AtLabel Enter (TextRole AsFootnoteLabel) p s r h fresh k d may is =
+    (agrees-begun p s r (apart bytes Enter (TextRole AsFootnoteLabel) p s.text (λ t. refl) k) is.0, is.1)
+agrees-stage bytes AtLabel Exit (TextRole AsFootnoteLabel) p s r h fresh k d may is =
     label-ends bytes p s r s.text r.text is.1 is.0.text
-    (apart bytes Exit (Tells AsFootnoteLabel) p s.text (λ t. refl) k) is.0
+    (apart bytes Exit (TextRole AsFootnoteLabel) p s.text (λ t. refl) k) is.0
 agrees-stage bytes AtLabel _ _ p s r h fresh k d may is = absurd may
 
 -- where no container is open, the lines are those of the tree
-none-opened : (outer : List Around) (a : Around) (arounds : List Around) → outer ≡ a ∷ arounds → outer ≡ [] → ⊥
+none-opened : (outer : List OpenContainer) (a : OpenContainer) (arounds : List OpenContainer) → outer ≡ a ∷ arounds → outer ≡ [] → ⊥
 none-opened outer a arounds h e =
     let same : depth_of arounds + 1 ≡ 0 = ap depth_of (sym h ∙ e) in
     omega (arith, same)

@@ -7,23 +7,23 @@ use Rattle.std.proofs.lemmas.Bool.{and_parts}
 use Rattle.md_engine.specs.declared.event.Kind.{Kind}
 use Rattle.md_engine.specs.declared.event.Kind.TheVariants.{Enter, Exit}
 use Rattle.md_engine.specs.declared.event.Point.{Point}
-use Rattle.md_definition.specs.declared.outline.Word.{Word}
-use Rattle.md_definition.specs.declared.outline.Word.TheVariants as word
-use Rattle.md_definition.specs.Outline.{Entry, block_entries}
+use Rattle.md_meaning.specs.declared.outline.Word.{Word}
+use Rattle.md_meaning.specs.declared.outline.Word.TheVariants as word
+use Rattle.md_meaning.specs.Outline.{Entry, block_entries}
 use Rattle.md_seam.specs.Events.Places.{last_line}
-use Rattle.md_definition.specs.Rest.{is_blank}
-use Rattle.md_seam.specs.Events.Spelled.{Around, AsDigits, AsFootnoteLabel, AsHeading, AsItemMarker, AsMarkers}
-use Rattle.md_seam.specs.Events.Spelled.{FootnoteShape, Holds, IsPrefix}
-use Rattle.md_seam.specs.Events.Spelled.{OpenLeaf, Opens, Reading}
-use Rattle.md_seam.specs.Events.Spelled.{Shape, Tells, Text}
+use Rattle.md_meaning.specs.Rest.{is_blank}
+use Rattle.md_seam.specs.Events.Spelled.{OpenContainer, AsDigits, AsFootnoteLabel, AsHeading, AsItemMarker, AsMarkers}
+use Rattle.md_seam.specs.Events.Spelled.{FootnoteShape, ContainerRole, IsPrefix}
+use Rattle.md_seam.specs.Events.Spelled.{OpenLeaf, LeafRole, Reading}
+use Rattle.md_seam.specs.Events.Spelled.{Shape, TextRole, Text}
 use Rattle.md_seam.specs.Events.Spelled.{after_prefix, at_ending, before_prefix, begun, block_around, block_of, byte_at}
 use Rattle.md_seam.specs.Events.Spelled.{columns_left}
-use Rattle.md_seam.specs.Events.Spelled.{finished, left, next_line, on_leaf, read, read_by, read_enter, read_exit}
+use Rattle.md_seam.specs.Events.Spelled.{finished, left, next_line, on_leaf, read_by, read_enter, read_exit}
 use Rattle.md_seam.specs.Events.Spelled.{named, on_shape, text_to}
 use Rattle.md_seam.specs.Events.Spelled as spelled
-use Rattle.md_definition.specs.State.{then_block}
-use Rattle.md_definition.specs.Texts.{split_lines}
-use Rattle.md_definition.specs.Tree.{Block, End, Line}
+use Rattle.md_meaning.specs.State.{then_block}
+use Rattle.md_meaning.specs.Texts.{split_lines}
+use Rattle.md_meaning.specs.Tree.{Block, End, Line}
 use Rattle.md_seam.proofs.ThroughoutLemmas.{all-then}
 use Rattle.md_outline.specs.FootnoteState.{container_lines}
 use Rattle.md_outline.specs.HeadingDepths.{are_shallow, fits}
@@ -43,7 +43,7 @@ use Rattle.md_outline.specs.declared.outline.role.Note.TheVariants as note
 use Rattle.md_outline.specs.declared.outline.role.Purpose.TheVariants as purpose
 use Rattle.md_outline.specs.declared.outline.role.Role.{Role}
 use Rattle.md_outline.specs.declared.outline.role.Role.TheVariants as role
-use Rattle.md_outline.specs.declared.outline.Span.{Span}
+use Rattle.md_outline.specs.declared.outline.TextSpan.{TextSpan}
 use Rattle.md_outline.proofs.HeadingLemmas.{fitted-same}
 use Rattle.md_outline.proofs.ClosedTrees.{HaveWords, StaysShown, depth_of, digits-stay, marker-stays, shown}
 use Rattle.md_outline.proofs.ClosedTrees.{shown-then, words-then}
@@ -58,7 +58,7 @@ KnowsOpen None = Unit {0}
 KnowsOpen (Some leaf) = Knows leaf
 
 -- the text that is read, by where it begins or goes on, where it is a block of its own if it is parted
-abbrev pub TextIs : List Entry → ℕ → List Entry → Option Span → Option Text → Type 0
+abbrev pub TextIs : List Entry → ℕ → List Entry → Option TextSpan → Option Text → Type 0
 TextIs before depth lines None None = lines ≡ before
 TextIs before depth lines (Some span) (Some text) =
     (text.from ≡ span.from)
@@ -77,7 +77,7 @@ pub record Agrees (s : OutlineState) (r : Reading) : Type 0 where
   pub text : TextIs (shown r.outer r.here) s.depth s.lines s.text r.text
 
 -- where no text is parted, the lines are those of the tree
-pub text-lines : (before : List Entry) (depth : ℕ) (lines : List Entry) (span : Option Span) (text : Option Text) →
+pub text-lines : (before : List Entry) (depth : ℕ) (lines : List Entry) (span : Option TextSpan) (text : Option Text) →
     is_unparted span ≡ true → TextIs before depth lines span text → lines ≡ before
 text-lines before depth lines None None h k = k
 text-lines before depth lines (Some span) (Some text) h k =
@@ -86,7 +86,7 @@ text-lines before depth lines None (Some text) h k = absurd k
 text-lines before depth lines (Some span) None h k = absurd k
 
 -- and the text stays when lines and blocks are added
-pub text-stays : (before before' : List Entry) (depth depth' : ℕ) (lines lines' : List Entry) (span : Option Span)
+pub text-stays : (before before' : List Entry) (depth depth' : ℕ) (lines lines' : List Entry) (span : Option TextSpan)
     (text : Option Text) →
     is_unparted span ≡ true → (lines ≡ before → lines' ≡ before') → TextIs before depth lines span text →
     TextIs before' depth' lines' span text
@@ -136,7 +136,7 @@ known-line None k = refl
 known-line (Some leaf) k = ap Some (knows-line leaf k)
 
 -- a text that has no prefix in it is one piece
-pub whole-piece : (bytes : List ℕ) (p : Point) (before : List Entry) (depth : ℕ) (lines : List Entry) (span : Span)
+pub whole-piece : (bytes : List ℕ) (p : Point) (before : List Entry) (depth : ℕ) (lines : List Entry) (span : TextSpan)
     (text : Text) →
     not span.is_parted ≡ true → TextIs before depth lines (Some span) (Some text) →
     text_to bytes p.index text ≡ slice_range bytes span.from p.index
@@ -146,9 +146,9 @@ whole-piece bytes p before depth lines span text h k =
     ∙ ap (λ i. slice_range bytes i p.index) k.0
 
 -- a text that is a block of its own
-agrees-block : (bytes : List ℕ) (x : spelled.Purpose) (p : Point) (s : OutlineState) (r : Reading) (span : Option Span)
+agrees-block : (bytes : List ℕ) (x : spelled.Purpose) (p : Point) (s : OutlineState) (r : Reading) (span : Option TextSpan)
     (text : Option Text) → IsBlock x → TextIs (shown r.outer r.here) s.depth s.lines span text →
-    parts_by bytes Exit (Tells x) p span ≡ true → Agrees s r →
+    parts_by bytes Exit (TextRole x) p span ≡ true → Agrees s r →
     Agrees (told_at bytes purpose.Block p.index span s) (spelled.told_at bytes x p text r)
 agrees-block bytes x p s r None None by h k is = is
 agrees-block bytes x p s r None (Some text) by h k is = absurd h
@@ -177,11 +177,11 @@ agrees-block bytes x p s r (Some span) (Some text) by h k is =
     })
 
 -- a text that says something of a leaf
-abbrev noted_at : List ℕ → Note → ℕ → Option Span → OutlineState → OutlineState
+abbrev noted_at : List ℕ → Note → ℕ → Option TextSpan → OutlineState → OutlineState
 noted_at bytes y end None s = s
 noted_at bytes y end (Some span) s = told_leaf y (slice_range bytes span.from end) (record s { text = None })
 
-agrees-note : (bytes : List ℕ) (y : Note) (p : Point) (s : OutlineState) (r : Reading) (span : Option Span)
+agrees-note : (bytes : List ℕ) (y : Note) (p : Point) (s : OutlineState) (r : Reading) (span : Option TextSpan)
     (text : Option Text) → TextIs (shown r.outer r.here) s.depth s.lines span text → is_unparted span ≡ true →
     Agrees s r → Agrees (noted_at bytes y p.index span s) (spelled.told_at bytes (told_as y) p text r)
 agrees-note bytes y p s r None None h k is = is
@@ -203,7 +203,7 @@ agrees-note bytes y p s r (Some span) (Some text) h k is =
     })
 
 -- as the markers of a heading
-agrees-markers : (bytes : List ℕ) (p : Point) (s : OutlineState) (r : Reading) (span : Option Span)
+agrees-markers : (bytes : List ℕ) (p : Point) (s : OutlineState) (r : Reading) (span : Option TextSpan)
     (text : Option Text) → TextIs (shown r.outer r.here) s.depth s.lines span text → is_unparted span ≡ true →
     Agrees s r → Agrees (told_at bytes purpose.Markers p.index span s) (spelled.told_at bytes AsMarkers p text r)
 agrees-markers bytes p s r None text h k is = agrees-note bytes note.Markers p s r None text h k is
@@ -216,7 +216,7 @@ agrees-markers bytes p s r (Some span) text h k is =
     (sym is.lined) (agrees-note bytes note.Markers p s r (Some span) text h k is)
 
 -- and as its text, if it is an ATX heading
-pub agrees-title : (bytes : List ℕ) (p : Point) (s : OutlineState) (r : Reading) (span : Option Span)
+pub agrees-title : (bytes : List ℕ) (p : Point) (s : OutlineState) (r : Reading) (span : Option TextSpan)
     (text : Option Text) → TextIs (shown r.outer r.here) s.depth s.lines span text → is_unparted span ≡ true →
     Agrees s r → Agrees (told_at bytes purpose.Title p.index span s) (spelled.told_at bytes AsHeading p text r)
 agrees-title bytes p s r None text h k is = agrees-note bytes note.Title p s r None text h k is
@@ -228,7 +228,7 @@ agrees-title bytes p s r (Some span) text h k is =
     (sym is.lined) (agrees-note bytes note.Title p s r (Some span) text h k is)
 
 -- a text that says something of a container
-agrees-named : (f : Shape → Shape) (s : OutlineState) (r : Reading) (span : Span) (text : Text) →
+agrees-named : (f : Shape → Shape) (s : OutlineState) (r : Reading) (span : TextSpan) (text : Text) →
     StaysShown f r.outer r.here → TextIs (shown r.outer r.here) s.depth s.lines (Some span) (Some text) →
     not span.is_parted ≡ true → Agrees s r →
     Agrees (record s { text = None }) (record r { text = None; outer = on_shape f r.outer })
@@ -242,7 +242,7 @@ agrees-named f s r span text stays h k is = record {
   text = text-lines (shown r.outer r.here) s.depth s.lines (Some span) (Some text) k h ∙ sym stays.lines;
 }
 
-agrees-digits : (bytes : List ℕ) (p : Point) (s : OutlineState) (r : Reading) (span : Option Span)
+agrees-digits : (bytes : List ℕ) (p : Point) (s : OutlineState) (r : Reading) (span : Option TextSpan)
     (text : Option Text) →
     TextIs (shown r.outer r.here) s.depth s.lines span text → is_unparted span ≡ true → Agrees s r →
     Agrees (told_at bytes purpose.Digits p.index span s) (spelled.told_at bytes AsDigits p text r)
@@ -254,7 +254,7 @@ agrees-digits bytes p s r (Some span) (Some text) h k is =
     (digits-stay (text_to bytes p.index text) r.outer r.here is.words) h k is
 
 -- a marker of a further item
-agrees-marker : (bytes : List ℕ) (p : Point) (s : OutlineState) (r : Reading) (span : Option Span)
+agrees-marker : (bytes : List ℕ) (p : Point) (s : OutlineState) (r : Reading) (span : Option TextSpan)
     (text : Option Text) →
     TextIs (shown r.outer r.here) s.depth s.lines span text → is_unparted span ≡ true → Agrees s r →
     Agrees (told_at bytes purpose.Marker p.index span s) (spelled.told_at bytes AsItemMarker p text r)
@@ -271,7 +271,7 @@ agrees-marker bytes p s r (Some span) (Some text) h k is =
     (marker-stays (text_to bytes p.index text) r.outer r.here is.words) h k is)
 
 -- a prefix begins
-agrees-prefix : (bytes : List ℕ) (p : Point) (s : OutlineState) (r : Reading) (span : Option Span)
+agrees-prefix : (bytes : List ℕ) (p : Point) (s : OutlineState) (r : Reading) (span : Option TextSpan)
     (text : Option Text) →
     s.text ≡ span → TextIs (shown r.outer r.here) s.depth s.lines span text →
     parts_by bytes Enter IsPrefix p span ≡ true → Agrees s r →
@@ -316,10 +316,10 @@ agrees-prefix bytes p s r (Some span) (Some text) e h k is =
     }
 
 -- a prefix ends
-agrees-gone_on : (p : Point) (before : List Entry) (depth : ℕ) (lines : List Entry) (span : Option Span)
+agrees-gone_on : (p : Point) (before : List Entry) (depth : ℕ) (lines : List Entry) (span : Option TextSpan)
     (text : Option Text) →
     TextIs before depth lines span text →
-    TextIs before depth lines (option_map (λ (t : Span). record t { from = byte_at p }) span)
+    TextIs before depth lines (option_map (λ (t : TextSpan). record t { from = byte_at p }) span)
     (option_map (after_prefix p) text)
 agrees-gone_on p before depth lines None None h = h
 agrees-gone_on p before depth lines (Some span) (Some text) h = (refl, h.1)
@@ -327,7 +327,7 @@ agrees-gone_on p before depth lines None (Some text) h = absurd h
 agrees-gone_on p before depth lines (Some span) None h = absurd h
 
 -- a container ends
-pub agrees-left : (s : OutlineState) (r : Reading) (outer : List Around) → r.outer ≡ outer → is_unparted s.text ≡ true →
+pub agrees-left : (s : OutlineState) (r : Reading) (outer : List OpenContainer) → r.outer ≡ outer → is_unparted s.text ≡ true →
     Agrees s r → Agrees (record s { depth = s.depth - 1 }) (left outer r)
 agrees-left s r [] e h is =
     let none : depth_of r.outer ≡ 0 = ap depth_of e in
@@ -380,8 +380,8 @@ agrees-ending bytes p s r is =
     (by-ending (Agrees s) bytes p r.text r is (agrees-line s r is))
 
 -- What stands in no text that is parted.
-pub apart : (bytes : List ℕ) (kind : Kind) (x : spelled.Role) (p : Point) (span : Option Span) →
-    ((t : Span) → parts_by bytes kind x p (Some t) ≡ not t.is_parted) → parts_by bytes kind x p span ≡ true →
+pub apart : (bytes : List ℕ) (kind : Kind) (x : spelled.Role) (p : Point) (span : Option TextSpan) →
+    ((t : TextSpan) → parts_by bytes kind x p (Some t) ≡ not t.is_parted) → parts_by bytes kind x p span ≡ true →
     is_unparted span ≡ true
 apart bytes kind x p None by h = refl
 apart bytes kind x p (Some span) by h = sym (by span) ∙ h
@@ -403,7 +403,7 @@ agrees-begun p s r k is = record {
 -- a container begins
 agrees-container : (bytes : List ℕ) (shape : Shape) (w : Word) (p : Point) (s : OutlineState) (r : Reading) →
     IsShownBy shape w → is_unparted s.text ≡ true → Agrees s r →
-    Agrees (state_enter bytes (role.Container w) p s) (read_enter bytes (Holds shape) p r)
+    Agrees (state_enter bytes (role.Container w) p s) (read_enter bytes (ContainerRole shape) p r)
 agrees-container bytes shape w p s r by k is = record {
   depth = ap (λ d. d + 1) is.depth;
   words = (by.none, words-then r.outer r.here (block_around shape End) is.words);
@@ -439,10 +439,10 @@ AgreesBehind bytes p x y =
 agrees-enter : (bytes : List ℕ) (p : Point) → ByRole (AgreesBehind bytes p)
 agrees-enter bytes p = record {
   container = λ shape w by fresh s r k is.
-      agrees-container bytes shape w p s r by (apart bytes Enter (Holds shape) p s.text (λ t. refl) k) is;
+      agrees-container bytes shape w p s r by (apart bytes Enter (ContainerRole shape) p s.text (λ t. refl) k) is;
   footnote = λ label fresh s r k is.
       agrees-container bytes (FootnoteShape label) word.Footnote p s r (fresh-shown label fresh)
-      (apart bytes Enter (Holds (FootnoteShape label)) p s.text (λ t. refl) k) is;
+      (apart bytes Enter (ContainerRole (FootnoteShape label)) p s.text (λ t. refl) k) is;
   prefix = λ fresh s r k is. agrees-prefix bytes p s r s.text r.text refl is.text k is;
   begins = λ kind l by fresh s r k is.
       record {
@@ -454,11 +454,11 @@ agrees-enter bytes p = record {
         known = by.known;
         text = is.text;
       };
-  block = λ x by fresh s r k is. agrees-begun p s r (apart bytes Enter (Tells x) p s.text (λ t. refl) k) is;
-  markers = λ fresh s r k is. agrees-begun p s r (apart bytes Enter (Tells AsMarkers) p s.text (λ t. refl) k) is;
-  digits = λ fresh s r k is. agrees-begun p s r (apart bytes Enter (Tells AsDigits) p s.text (λ t. refl) k) is;
-  marker = λ fresh s r k is. agrees-begun p s r (apart bytes Enter (Tells AsItemMarker) p s.text (λ t. refl) k) is;
-  label = λ fresh s r k is. agrees-begun p s r (apart bytes Enter (Tells AsFootnoteLabel) p s.text (λ t. refl) k) is;
+  block = λ x by fresh s r k is. agrees-begun p s r (apart bytes Enter (TextRole x) p s.text (λ t. refl) k) is;
+  markers = λ fresh s r k is. agrees-begun p s r (apart bytes Enter (TextRole AsMarkers) p s.text (λ t. refl) k) is;
+  digits = λ fresh s r k is. agrees-begun p s r (apart bytes Enter (TextRole AsDigits) p s.text (λ t. refl) k) is;
+  marker = λ fresh s r k is. agrees-begun p s r (apart bytes Enter (TextRole AsItemMarker) p s.text (λ t. refl) k) is;
+  label = λ fresh s r k is. agrees-begun p s r (apart bytes Enter (TextRole AsFootnoteLabel) p s.text (λ t. refl) k) is;
   ending = λ fresh s r k is. is;
   quiet = λ fresh s r k is. is;
 }
@@ -472,9 +472,9 @@ AgreesEnded bytes p x y =
 agrees-exit : (bytes : List ℕ) (p : Point) → ByRole (AgreesEnded bytes p)
 agrees-exit bytes p = record {
   container = λ shape w by may s r k d is.
-      agrees-left s r r.outer refl (apart bytes Exit (Holds shape) p s.text (λ t. refl) k) is;
+      agrees-left s r r.outer refl (apart bytes Exit (ContainerRole shape) p s.text (λ t. refl) k) is;
   footnote = λ label may s r k d is.
-      agrees-left s r r.outer refl (apart bytes Exit (Holds (FootnoteShape label)) p s.text (λ t. refl) k) is;
+      agrees-left s r r.outer refl (apart bytes Exit (ContainerRole (FootnoteShape label)) p s.text (λ t. refl) k) is;
   prefix = λ may s r k d is. record {
     depth = is.depth;
     words = is.words;
@@ -486,14 +486,14 @@ agrees-exit bytes p = record {
   };
   begins = λ kind l by may s r k d is.
       subst (λ leaf. Agrees (leaf_ended leaf s) (finished r.leaf r)) (sym is.leaf)
-      (agrees-leaf s r r.leaf (apart bytes Exit (Opens kind) p s.text (λ t. refl) k) d is);
+      (agrees-leaf s r r.leaf (apart bytes Exit (LeafRole kind) p s.text (λ t. refl) k) d is);
   block = λ x by may s r k d is. agrees-block bytes x p s r s.text r.text by is.text k is;
   markers = λ may s r k d is.
-      agrees-markers bytes p s r s.text r.text is.text (apart bytes Exit (Tells AsMarkers) p s.text (λ t. refl) k) is;
+      agrees-markers bytes p s r s.text r.text is.text (apart bytes Exit (TextRole AsMarkers) p s.text (λ t. refl) k) is;
   digits = λ may s r k d is.
-      agrees-digits bytes p s r s.text r.text is.text (apart bytes Exit (Tells AsDigits) p s.text (λ t. refl) k) is;
+      agrees-digits bytes p s r s.text r.text is.text (apart bytes Exit (TextRole AsDigits) p s.text (λ t. refl) k) is;
   marker = λ may s r k d is.
-      agrees-marker bytes p s r s.text r.text is.text (apart bytes Exit (Tells AsItemMarker) p s.text (λ t. refl) k) is;
+      agrees-marker bytes p s r s.text r.text is.text (apart bytes Exit (TextRole AsItemMarker) p s.text (λ t. refl) k) is;
   label = λ may. absurd may;
   ending = λ may s r k d is. agrees-ending bytes p s r is;
   quiet = λ may s r k d is. is;

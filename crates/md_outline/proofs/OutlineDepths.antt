@@ -7,7 +7,7 @@ use Rattle.md_engine.specs.declared.event.Kind.TheVariants.{Enter, Exit}
 use Rattle.md_engine.specs.declared.event.Name.{Name}
 use Rattle.md_engine.specs.declared.event.Point.{Point}
 use Rattle.md_seam.specs.Events.Nested.{Balanced, Fits, Matches, open_after, open_behind}
-use Rattle.md_seam.specs.Events.Spelled.{Around, Holds, IsEnding, OpenLeaf, Opens, Purpose, Reading, Role, Shape, Tells}
+use Rattle.md_seam.specs.Events.Spelled.{OpenContainer, ContainerRole, IsEnding, OpenLeaf, LeafRole, Purpose, Reading, Role, Shape, TextRole}
 use Rattle.md_seam.specs.Events.Spelled.{Text, finished, left, on_shape, read, read_by, read_enter, read_exit, role}
 use Rattle.md_seam.specs.Events.Spelled.{told_at, unread}
 use Rattle.md_outline.proofs.ClosedTrees.{depth_of}
@@ -16,11 +16,11 @@ use Rattle.md_outline.proofs.RoleLemmas.{by-ending, by-told_at}
 -- The containers that are open are those whose names are.
 
 abbrev deeper : Role → ℕ → ℕ
-deeper (Holds shape) n = n + 1
+deeper (ContainerRole shape) n = n + 1
 deeper _ n = n
 
 abbrev shallower : Role → ℕ → ℕ
-shallower (Holds shape) n = n - 1
+shallower (ContainerRole shape) n = n - 1
 shallower _ n = n
 
 abbrev held : List Name → ℕ
@@ -28,15 +28,15 @@ held [] = 0
 held (name ∷ names) = deeper (role name) (held names)
 
 shallower-deeper : (x : Role) (n : ℕ) → shallower x (deeper x n) ≡ n
-shallower-deeper (Holds shape) n = omega arith
+shallower-deeper (ContainerRole shape) n = omega arith
 shallower-deeper _ n = refl
 
 depth-enter : (bytes : List ℕ) (x : Role) (p : Point) (r : Reading) →
     depth_of (read_enter bytes x p r).outer ≡ deeper x (depth_of r.outer)
-depth-enter bytes (Holds shape) p r = refl
+depth-enter bytes (ContainerRole shape) p r = refl
 depth-enter bytes _ p r = refl
 
-depth-left : (outer : List Around) (r : Reading) → r.outer ≡ outer → depth_of (left outer r).outer ≡ depth_of outer - 1
+depth-left : (outer : List OpenContainer) (r : Reading) → r.outer ≡ outer → depth_of (left outer r).outer ≡ depth_of outer - 1
 depth-left [] r e = ap depth_of e
 depth-left (around ∷ outer) r e = omega arith
 
@@ -44,7 +44,7 @@ depth-finished : (leaf : Option OpenLeaf) (r : Reading) → depth_of (finished l
 depth-finished None r = refl
 depth-finished (Some leaf) r = refl
 
-depth-shape : (f : Shape → Shape) (outer : List Around) → depth_of (on_shape f outer) ≡ depth_of outer
+depth-shape : (f : Shape → Shape) (outer : List OpenContainer) → depth_of (on_shape f outer) ≡ depth_of outer
 depth-shape f [] = refl
 depth-shape f (around ∷ outer) = refl
 
@@ -56,9 +56,9 @@ depth-told bytes x p text r =
 
 depth-exit : (bytes : List ℕ) (x : Role) (p : Point) (r : Reading) →
     depth_of (read_exit bytes x p r).outer ≡ shallower x (depth_of r.outer)
-depth-exit bytes (Holds shape) p r = depth-left r.outer r refl
-depth-exit bytes (Opens kind) p r = depth-finished r.leaf r
-depth-exit bytes (Tells x) p r = depth-told bytes x p r.text r
+depth-exit bytes (ContainerRole shape) p r = depth-left r.outer r refl
+depth-exit bytes (LeafRole kind) p r = depth-finished r.leaf r
+depth-exit bytes (TextRole x) p r = depth-told bytes x p r.text r
 depth-exit bytes IsEnding p r = by-ending (λ now. depth_of now.outer ≡ depth_of r.outer) bytes p r.text r refl refl
 depth-exit bytes _ p r = refl
 
@@ -80,7 +80,7 @@ depth-all bytes (x ∷ events) r names m e =
     depth-all bytes events (read_by bytes x.kind (role x.name) x.point r) (open_behind names x.kind x.name) m.1
     (depth-step bytes x.kind x.name x.point r names m.0 e)
 
-none-open : (outer : List Around) → depth_of outer ≡ 0 → outer ≡ []
+none-open : (outer : List OpenContainer) → depth_of outer ≡ 0 → outer ≡ []
 none-open [] h = refl
 none-open (around ∷ outer) h = let no : ⊥ = omega (arith, h) in absurd no
 

@@ -12,16 +12,16 @@ use Rattle.md_engine.specs.declared.event.Event.{Event}
 use Rattle.md_engine.specs.declared.event.Kind.{Kind}
 use Rattle.md_engine.specs.declared.event.Kind.TheVariants.{Enter, Exit}
 use Rattle.md_engine.specs.declared.event.Point.{Point}
-use Rattle.md_definition.specs.declared.outline.Word.{Word}
-use Rattle.md_definition.specs.declared.outline.Word.TheVariants as word
-use Rattle.md_definition.specs.Outline.{Entry, outline}
+use Rattle.md_meaning.specs.declared.outline.Word.{Word}
+use Rattle.md_meaning.specs.declared.outline.Word.TheVariants as word
+use Rattle.md_meaning.specs.Outline.{Entry, outline}
 use Rattle.md_seam.specs.Events.Spelled.{AsCell, AsDelimiter, AsDestination, AsHeading, AsInfo, AsLabel, AsLine, AsMeta}
-use Rattle.md_seam.specs.Events.Spelled.{AsTitle, Holds, IsCell, IsFence, IsPrefix, IsRow, IsTitle, OfCode}
+use Rattle.md_seam.specs.Events.Spelled.{AsTitle, ContainerRole, IsCell, IsFence, IsPrefix, IsRow, IsTitle, OfCode}
 use Rattle.md_seam.specs.Events.Spelled.{OfDefinition, OfFence, OfFrontmatter, OfHeadingSetext, OfHtml, OfTable}
-use Rattle.md_seam.specs.Events.Spelled.{OfMath, OpenLeaf, Opens, OrderedShape, Reading, Shape, Tells, Text}
-use Rattle.md_seam.specs.Events.Spelled.{UnorderedShape, after_prefix, at_ending, before_prefix, begun, block_around}
-use Rattle.md_seam.specs.Events.Spelled.{block_of, byte_at, finished, left, next_line, on_leaf, read, read_by}
-use Rattle.md_seam.specs.Events.Spelled.{read_enter, read_exit, spelled, text_to, unread}
+use Rattle.md_seam.specs.Events.Spelled.{OfMath, OpenLeaf, LeafRole, OrderedShape, Reading, TextRole}
+use Rattle.md_seam.specs.Events.Spelled.{UnorderedShape, begun}
+use Rattle.md_seam.specs.Events.Spelled.{byte_at, read, read_by}
+use Rattle.md_seam.specs.Events.Spelled.{spelled, unread}
 use Rattle.md_seam.specs.Events.Spelled as spelled
 use Rattle.md_outline.specs.Between.{is_between}
 use Rattle.md_outline.specs.HeadingDepths.{fits}
@@ -43,7 +43,7 @@ use Rattle.md_outline.specs.declared.outline.role.Purpose.{Purpose}
 use Rattle.md_outline.specs.declared.outline.role.Purpose.TheVariants as purpose
 use Rattle.md_outline.specs.declared.outline.role.Role.{Role}
 use Rattle.md_outline.specs.declared.outline.role.Role.TheVariants as role
-use Rattle.md_outline.specs.declared.outline.Span.{Span}
+use Rattle.md_outline.specs.declared.outline.TextSpan.{TextSpan}
 use Rattle.md_outline.proofs.BlocksStay.{AllHold, blocks-stay, outer_hold}
 use Rattle.md_outline.proofs.LinedLemmas.{span-fenced, span-headed, span-line}
 use Rattle.md_outline.proofs.LinedSteps.{AgreesWithin, agrees-site, sites-closed}
@@ -54,8 +54,8 @@ use Rattle.md_outline.proofs.TextCuts.{utf8-part}
 
 -- The text that is read is that of the events.
 
-span-parted : (bytes : List ℕ) (i : ℕ) (span : Option Span) (s : OutlineState) → s.text ≡ span →
-    (parted_at bytes i span s).text ≡ option_map (λ (t : Span). record t { is_parted = true }) span
+span-parted : (bytes : List ℕ) (i : ℕ) (span : Option TextSpan) (s : OutlineState) → s.text ≡ span →
+    (parted_at bytes i span s).text ≡ option_map (λ (t : TextSpan). record t { is_parted = true }) span
 span-parted bytes i None s e = e
 span-parted bytes i (Some span) s e = refl
 
@@ -63,7 +63,7 @@ span-marked : (untold : Option ℕ) (text : List ℕ) (s : OutlineState) → (ma
 span-marked None text s = refl
 span-marked (Some place) text s = refl
 
-span-told : (bytes : List ℕ) (y : Purpose) (i : ℕ) (span : Option Span) (s : OutlineState) → s.text ≡ span →
+span-told : (bytes : List ℕ) (y : Purpose) (i : ℕ) (span : Option TextSpan) (s : OutlineState) → s.text ≡ span →
     (told_at bytes y i span s).text ≡ None
 span-told bytes y i None s e = e
 span-told bytes purpose.Block i (Some span) s e = refl
@@ -127,52 +127,52 @@ span-exit bytes p s = record {
 
 span-step : (bytes : List ℕ) (kind : Kind) (x : spelled.Role) (p : Point) (s : OutlineState) → is_shown x ≡ true →
     (state_by bytes kind (shown_as x) p s).text ≡ span_by kind x p s.text
-span-step bytes Enter (Holds OrderedShape) p s h = refl
-span-step bytes Enter (Holds UnorderedShape) p s h = refl
-span-step bytes Exit (Holds OrderedShape) p s h = refl
-span-step bytes Exit (Holds UnorderedShape) p s h = refl
-span-step bytes Enter (Opens OfCode) p s h = refl
-span-step bytes Enter (Opens OfFence) p s h = refl
-span-step bytes Enter (Opens OfMath) p s h = refl
-span-step bytes Enter (Opens OfHtml) p s h = refl
-span-step bytes Enter (Opens OfHeadingSetext) p s h = refl
-span-step bytes Enter (Opens OfDefinition) p s h = refl
-span-step bytes Enter (Opens OfTable) p s h = refl
-span-step bytes Enter (Opens OfFrontmatter) p s h = refl
+span-step bytes Enter (ContainerRole OrderedShape) p s h = refl
+span-step bytes Enter (ContainerRole UnorderedShape) p s h = refl
+span-step bytes Exit (ContainerRole OrderedShape) p s h = refl
+span-step bytes Exit (ContainerRole UnorderedShape) p s h = refl
+span-step bytes Enter (LeafRole OfCode) p s h = refl
+span-step bytes Enter (LeafRole OfFence) p s h = refl
+span-step bytes Enter (LeafRole OfMath) p s h = refl
+span-step bytes Enter (LeafRole OfHtml) p s h = refl
+span-step bytes Enter (LeafRole OfHeadingSetext) p s h = refl
+span-step bytes Enter (LeafRole OfDefinition) p s h = refl
+span-step bytes Enter (LeafRole OfTable) p s h = refl
+span-step bytes Enter (LeafRole OfFrontmatter) p s h = refl
 span-step bytes Enter IsTitle p s h = refl
 span-step bytes Enter IsRow p s h = refl
 span-step bytes Enter IsCell p s h = span-cell s
-span-step bytes Enter (Tells AsHeading) p s h = refl
+span-step bytes Enter (TextRole AsHeading) p s h = refl
 span-step bytes Enter IsFence p s h = span-fenced s.lined s
-span-step bytes Enter (Tells AsLine) p s h = refl
-span-step bytes Enter (Tells AsInfo) p s h = refl
-span-step bytes Enter (Tells AsMeta) p s h = refl
-span-step bytes Enter (Tells AsLabel) p s h = refl
-span-step bytes Enter (Tells AsDestination) p s h = refl
-span-step bytes Enter (Tells AsTitle) p s h = refl
-span-step bytes Enter (Tells AsCell) p s h = refl
-span-step bytes Enter (Tells AsDelimiter) p s h = refl
-span-step bytes Exit (Opens OfCode) p s h = refl
-span-step bytes Exit (Opens OfFence) p s h = refl
-span-step bytes Exit (Opens OfMath) p s h = refl
-span-step bytes Exit (Opens OfHtml) p s h = refl
-span-step bytes Exit (Opens OfHeadingSetext) p s h = refl
-span-step bytes Exit (Opens OfDefinition) p s h = refl
-span-step bytes Exit (Opens OfTable) p s h = refl
-span-step bytes Exit (Opens OfFrontmatter) p s h = refl
+span-step bytes Enter (TextRole AsLine) p s h = refl
+span-step bytes Enter (TextRole AsInfo) p s h = refl
+span-step bytes Enter (TextRole AsMeta) p s h = refl
+span-step bytes Enter (TextRole AsLabel) p s h = refl
+span-step bytes Enter (TextRole AsDestination) p s h = refl
+span-step bytes Enter (TextRole AsTitle) p s h = refl
+span-step bytes Enter (TextRole AsCell) p s h = refl
+span-step bytes Enter (TextRole AsDelimiter) p s h = refl
+span-step bytes Exit (LeafRole OfCode) p s h = refl
+span-step bytes Exit (LeafRole OfFence) p s h = refl
+span-step bytes Exit (LeafRole OfMath) p s h = refl
+span-step bytes Exit (LeafRole OfHtml) p s h = refl
+span-step bytes Exit (LeafRole OfHeadingSetext) p s h = refl
+span-step bytes Exit (LeafRole OfDefinition) p s h = refl
+span-step bytes Exit (LeafRole OfTable) p s h = refl
+span-step bytes Exit (LeafRole OfFrontmatter) p s h = refl
 span-step bytes Exit IsTitle p s h = refl
 span-step bytes Exit IsRow p s h = refl
 span-step bytes Exit IsCell p s h = refl
-span-step bytes Exit (Tells AsHeading) p s h = span-told bytes purpose.Title p.index s.text s refl
+span-step bytes Exit (TextRole AsHeading) p s h = span-told bytes purpose.Title p.index s.text s refl
 span-step bytes Exit IsFence p s h = refl
-span-step bytes Exit (Tells AsLine) p s h = span-told bytes purpose.Line p.index s.text s refl
-span-step bytes Exit (Tells AsInfo) p s h = span-told bytes (purpose.Part word.Info) p.index s.text s refl
-span-step bytes Exit (Tells AsMeta) p s h = span-told bytes (purpose.Part word.Meta) p.index s.text s refl
-span-step bytes Exit (Tells AsLabel) p s h = span-told bytes purpose.Label p.index s.text s refl
-span-step bytes Exit (Tells AsDestination) p s h = span-told bytes purpose.Destination p.index s.text s refl
-span-step bytes Exit (Tells AsTitle) p s h = span-told bytes purpose.DefinitionTitle p.index s.text s refl
-span-step bytes Exit (Tells AsCell) p s h = span-told bytes purpose.Cell p.index s.text s refl
-span-step bytes Exit (Tells AsDelimiter) p s h = span-told bytes purpose.Delimiter p.index s.text s refl
+span-step bytes Exit (TextRole AsLine) p s h = span-told bytes purpose.Line p.index s.text s refl
+span-step bytes Exit (TextRole AsInfo) p s h = span-told bytes (purpose.Part word.Info) p.index s.text s refl
+span-step bytes Exit (TextRole AsMeta) p s h = span-told bytes (purpose.Part word.Meta) p.index s.text s refl
+span-step bytes Exit (TextRole AsLabel) p s h = span-told bytes purpose.Label p.index s.text s refl
+span-step bytes Exit (TextRole AsDestination) p s h = span-told bytes purpose.Destination p.index s.text s refl
+span-step bytes Exit (TextRole AsTitle) p s h = span-told bytes purpose.DefinitionTitle p.index s.text s refl
+span-step bytes Exit (TextRole AsCell) p s h = span-told bytes purpose.Cell p.index s.text s refl
+span-step bytes Exit (TextRole AsDelimiter) p s h = span-told bytes purpose.Delimiter p.index s.text s refl
 span-step bytes Enter x p s h = by-role (SameSpan bytes Enter p s) x (span-enter bytes p s) h
 span-step bytes Exit x p s h = by-role (SameSpan bytes Exit p s) x (span-exit bytes p s) h
 
@@ -217,8 +217,8 @@ outline-spelled bytes events out =
 -- Events of no list are shown.
 
 shown-unlisted : (x : spelled.Role) → is_unlisted x ≡ true → is_shown x ≡ true
-shown-unlisted (Holds OrderedShape) h = refl
-shown-unlisted (Holds UnorderedShape) h = refl
+shown-unlisted (ContainerRole OrderedShape) h = refl
+shown-unlisted (ContainerRole UnorderedShape) h = refl
 shown-unlisted x h = h
 
 pub names-shown : (events : List Event) → list_all has_unlisted_name events ≡ true →
@@ -253,14 +253,14 @@ on_ok-map (Err e) f h = h
 
 -- A text is cut.
 
-part-is_text : (bytes part : List ℕ) (span : Span) (end : ℕ) (text : Option Span) → text ≡ Some span →
+part-is_text : (bytes part : List ℕ) (span : TextSpan) (end : ℕ) (text : Option TextSpan) → text ≡ Some span →
     IsCutAt bytes text end → part ≡ slice_range bytes span.from end → IsUtf8 part
 part-is_text bytes part span end text is cut epart =
     subst IsUtf8 (sym epart)
     (utf8-part bytes span.from end cut.utf8 (subst (BeginsBetween bytes) is cut.begins) cut.ends)
 
 -- its lines, or those that have an ending, are shown behind the begin of the block
-part-shown : (bytes part : List ℕ) (span : Span) (end : ℕ) (text : Option Span) (s : OutlineState) (lines : List Entry)
+part-shown : (bytes part : List ℕ) (span : TextSpan) (end : ℕ) (text : Option TextSpan) (s : OutlineState) (lines : List Entry)
     (is_shown : Bool) (shows : ℕ → List ℕ → List Entry) → text ≡ Some span → IsCutAt bytes text end →
     part ≡ slice_range bytes span.from end →
     (IsUtf8 part → lines ≡ s.lines ++ begin_entries s.depth is_shown ++ shows (s.depth + 1) part) →
@@ -270,7 +270,7 @@ part-shown bytes part span end text s lines is_shown shows is cut epart elines =
     ∙ ap (λ t. s.lines ++ begin_entries s.depth is_shown ++ shows (s.depth + 1) t) epart
 
 -- a block of its own ends
-pub block-end : (bytes part : List ℕ) (span : Span) (end : ℕ) (text : Option Span) (x : Purpose) (s : OutlineState)
+pub block-end : (bytes part : List ℕ) (span : TextSpan) (end : ℕ) (text : Option TextSpan) (x : Purpose) (s : OutlineState)
     (lines : List Entry) → text ≡ Some span → x ≡ purpose.Block → IsCutAt bytes text end →
     part ≡ slice_range bytes span.from end →
     (IsUtf8 part → lines ≡ s.lines ++ begin_entries s.depth span.is_parted ++ text_entries (s.depth + 1) part) →
@@ -281,7 +281,7 @@ block-end bytes part span end text x s lines is same cut epart elines =
     ∙ sym (ap (λ t. told_at bytes x end t s) is ∙ ap (λ y. told_at bytes y end (Some span) s) same)
 
 -- the text of a heading ends
-pub title-end : (bytes part : List ℕ) (span : Span) (end : ℕ) (text : Option Span) (x : Purpose)
+pub title-end : (bytes part : List ℕ) (span : TextSpan) (end : ℕ) (text : Option TextSpan) (x : Purpose)
     (s next : OutlineState) → text ≡ Some span → x ≡ purpose.Title → IsCutAt bytes text end →
     part ≡ slice_range bytes span.from end →
     (IsUtf8 part → next ≡ title_told (is_titled s.lined) part (record s { text = None })) →
@@ -292,7 +292,7 @@ title-end bytes part span end text x s next is same cut epart reads =
     ∙ sym (ap (λ t. told_at bytes x end t s) is ∙ ap (λ z. told_at bytes z end (Some span) s) same)
 
 -- the label of a definition ends
-pub label-end : (bytes part : List ℕ) (span : Span) (end : ℕ) (text : Option Span) (x : Purpose)
+pub label-end : (bytes part : List ℕ) (span : TextSpan) (end : ℕ) (text : Option TextSpan) (x : Purpose)
     (s next : OutlineState) → text ≡ Some span → x ≡ purpose.Label → IsCutAt bytes text end →
     part ≡ slice_range bytes span.from end →
     (IsUtf8 part → next ≡ label_ended span.is_parted part (record s { text = None })) →
@@ -303,7 +303,7 @@ label-end bytes part span end text x s next is same cut epart reads =
     ∙ sym (ap (λ t. told_at bytes x end t s) is ∙ ap (λ z. told_at bytes z end (Some span) s) same)
 
 -- the delimiter row of a table ends
-pub delimiter-end : (bytes part : List ℕ) (span : Span) (end : ℕ) (text : Option Span) (x : Purpose)
+pub delimiter-end : (bytes part : List ℕ) (span : TextSpan) (end : ℕ) (text : Option TextSpan) (x : Purpose)
     (s next : OutlineState) → text ≡ Some span → x ≡ purpose.Delimiter → IsCutAt bytes text end →
     part ≡ slice_range bytes span.from end →
     (IsUtf8 part → next ≡ delimiter_ended part (record s { text = None })) → next ≡ told_at bytes x end text s
@@ -313,7 +313,7 @@ delimiter-end bytes part span end text x s next is same cut epart reads =
     ∙ sym (ap (λ t. told_at bytes x end t s) is ∙ ap (λ z. told_at bytes z end (Some span) s) same)
 
 -- a run of markers ends
-pub markers-end : (bytes part : List ℕ) (span : Span) (end : ℕ) (text : Option Span) (x : Purpose)
+pub markers-end : (bytes part : List ℕ) (span : TextSpan) (end : ℕ) (text : Option TextSpan) (x : Purpose)
     (s middle next : OutlineState) → text ≡ Some span → x ≡ purpose.Markers → IsCutAt bytes text end →
     part ≡ slice_range bytes span.from end →
     (IsUtf8 part → middle ≡ told_leaf note.Markers part (record s { text = None })) →
@@ -325,7 +325,7 @@ markers-end bytes part span end text x s middle next is same cut epart reads mar
     ∙ sym (ap (λ t. told_at bytes x end t s) is ∙ ap (λ z. told_at bytes z end (Some span) s) same)
 
 -- a text of a leaf block of several lines ends, which is shown by its lines
-pub part-end : (bytes part : List ℕ) (span : Span) (end : ℕ) (text : Option Span) (x y : Purpose) (s : OutlineState)
+pub part-end : (bytes part : List ℕ) (span : TextSpan) (end : ℕ) (text : Option TextSpan) (x y : Purpose) (s : OutlineState)
     (lines : List Entry) (shows : List ℕ → List Entry) → text ≡ Some span → x ≡ y → IsCutAt bytes text end →
     part ≡ slice_range bytes span.from end → (IsUtf8 part → lines ≡ shows part) →
     record s { text = None; lines = shows (slice_range bytes span.from end) }
@@ -338,7 +338,7 @@ part-end bytes part span end text x y s lines shows is same cut epart elines tol
     ∙ sym (ap (λ t. told_at bytes x end t s) is ∙ ap (λ z. told_at bytes z end (Some span) s) same)
 
 -- a prefix has begun in a text: of another block, or of a part of a definition
-pub piece-end : (bytes part : List ℕ) (span : Span) (end : ℕ) (text : Option Span) (s : OutlineState)
+pub piece-end : (bytes part : List ℕ) (span : TextSpan) (end : ℕ) (text : Option TextSpan) (s : OutlineState)
     (lines : List Entry) (w : Option Word) (is_begun : Bool) → text ≡ Some span → w ≡ part_word s.lined →
     is_begun ≡ is_titled s.lined || span.is_parted → IsCutAt bytes text end → part ≡ slice_range bytes span.from end →
     (IsUtf8 part → lines ≡ piece_shown w is_begun span.is_parted s.depth part s.lines) →
@@ -357,20 +357,20 @@ piece-end bytes part span end text s lines w is_begun is by begun cut epart elin
 -- The loop over the events.
 
 -- a text that begins or goes on at an event does so between characters
-begins-step : (bytes : List ℕ) (kind : Kind) (x : spelled.Role) (p : Point) (span : Option Span) →
+begins-step : (bytes : List ℕ) (kind : Kind) (x : spelled.Role) (p : Point) (span : Option TextSpan) →
     (not (is_told x) || is_between bytes (byte_at p)) ≡ true → parts_by bytes kind x p span ≡ true →
     BeginsBetween bytes span → BeginsBetween bytes (span_by kind x p span)
-begins-step bytes Enter (Tells x) p span t k h = t
+begins-step bytes Enter (TextRole x) p span t k h = t
 begins-step bytes Enter IsPrefix p None t k h = tt
 begins-step bytes Enter IsPrefix p (Some span) t k h = h
-begins-step bytes Exit (Tells x) p span t k h = tt
+begins-step bytes Exit (TextRole x) p span t k h = tt
 begins-step bytes Exit IsPrefix p None t k h = tt
 begins-step bytes Exit IsPrefix p (Some span) t k h = k
 begins-step bytes Enter _ p span t k h = h
 begins-step bytes Exit _ p span t k h = h
 
 -- and it may be cut at an event that stands so
-cut-by : (y : Role) (bytes : List ℕ) (text : Option Span) (end : ℕ) → IsUtf8 bytes → BeginsBetween bytes text →
+cut-by : (y : Role) (bytes : List ℕ) (text : Option TextSpan) (end : ℕ) → IsUtf8 bytes → BeginsBetween bytes text →
     (not (is_seen y) || is_between bytes end) ≡ true → IsCutBy y bytes text end
 cut-by role.Ending bytes text end u begins h = tt
 cut-by role.Quiet bytes text end u begins h = tt

@@ -7,19 +7,19 @@ use Rattle.std.proofs.lemmas.Bool.{true≢false}
 use Rattle.md_engine.specs.declared.event.Point.{Point}
 use Rattle.md_engine.specs.declared.event.Name.{Name}
 use Rattle.md_engine.specs.declared.event.Name.TheVariants as n
-use Rattle.md_definition.specs.declared.outline.Word.{Word}
-use Rattle.md_definition.specs.declared.outline.Word.TheVariants as word
-use Rattle.md_definition.specs.Outline.{block_entries}
+use Rattle.md_meaning.specs.declared.outline.Word.{Word}
+use Rattle.md_meaning.specs.declared.outline.Word.TheVariants as word
+use Rattle.md_meaning.specs.Outline.{block_entries}
 use Rattle.md_seam.specs.Events.Spelled.{AsDigits, AsFootnoteLabel, AsHeading, AsItemMarker, AsMarkers, CodeLeaf}
-use Rattle.md_seam.specs.Events.Spelled.{FootnoteShape, Holds, IsEnding}
+use Rattle.md_seam.specs.Events.Spelled.{FootnoteShape, ContainerRole, IsEnding}
 use Rattle.md_seam.specs.Events.Spelled.{IsPrefix, IsQuiet, LeafKind, OfCode, OfHeadingSetext, OfHtml, OpenLeaf}
-use Rattle.md_seam.specs.Events.Spelled.{Opens, OrderedShape, Reading}
-use Rattle.md_seam.specs.Events.Spelled.{Shape, Tells, Text, UnorderedShape, add_block, at_ending, block_around, fresh}
+use Rattle.md_seam.specs.Events.Spelled.{LeafRole, OrderedShape, Reading}
+use Rattle.md_seam.specs.Events.Spelled.{Shape, TextRole, Text, UnorderedShape, add_block, at_ending, block_around, fresh}
 use Rattle.md_seam.specs.Events.Spelled.{named, next_line, on_leaf, on_shape, spelled, text_to}
 use Rattle.md_seam.specs.Events.Spelled as spelled
 use Rattle.md_seam.specs.Events.Told.{OfContainer, OfItself, OfLeaf, Told, block_told, told_of}
 use Rattle.md_seam.proofs.ToldLemmas.{told-block, told-named, told-noted}
-use Rattle.md_definition.specs.Tree.{Block, End, Line}
+use Rattle.md_meaning.specs.Tree.{Block, End, Line}
 use Rattle.md_outline.specs.FootnoteState.{container_lines}
 use Rattle.md_outline.specs.Outlined.{begins_line, parts_exit, piece_to}
 use Rattle.md_outline.specs.Roles.{is_known, is_plain, leaf_of, noted, shown_as, told_as}
@@ -29,7 +29,7 @@ use Rattle.md_outline.specs.declared.outline.role.Note.TheVariants as note
 use Rattle.md_outline.specs.declared.outline.role.Purpose.TheVariants as purpose
 use Rattle.md_outline.specs.declared.outline.role.Role.{Role}
 use Rattle.md_outline.specs.declared.outline.role.Role.TheVariants as role
-use Rattle.md_outline.specs.declared.outline.Span.{Span}
+use Rattle.md_outline.specs.declared.outline.TextSpan.{TextSpan}
 use Rattle.md_outline.proofs.ClosedTrees.{HasWord}
 
 -- Leaf blocks.
@@ -65,48 +65,48 @@ pub record IsBegun (kind : LeafKind) (l : Leaf) : Type 0 where
 -- A text that is a block of its own, and may be parted.
 pub record IsBlock (x : spelled.Purpose) : Type 0 where
   pub tree : (line : Line) (r : Reading) → spelled.told x line r ≡ add_block (block_told line.text) r
-  pub parted : (bytes : List ℕ) (p : Point) (text : Span) →
-      parts_exit bytes (Tells x) p text ≡ begins_line text (piece_to bytes p text)
+  pub parted : (bytes : List ℕ) (p : Point) (text : TextSpan) →
+      parts_exit bytes (TextRole x) p text ≡ begins_line text (piece_to bytes p text)
 
 -- What is known of each role that an outline shows, but of lists, of leaf blocks of several lines and of the texts of
 -- headings.
 pub record ByRole (P : spelled.Role → Role → Type 0) : Type 0 where
-  pub container : (shape : Shape) (w : Word) → IsShownBy shape w → P (Holds shape) (role.Container w)
-  pub footnote : (label : List ℕ) → P (Holds (FootnoteShape label)) (role.Container word.Footnote)
+  pub container : (shape : Shape) (w : Word) → IsShownBy shape w → P (ContainerRole shape) (role.Container w)
+  pub footnote : (label : List ℕ) → P (ContainerRole (FootnoteShape label)) (role.Container word.Footnote)
   pub prefix : P IsPrefix role.Prefix
-  pub begins : (kind : LeafKind) (l : Leaf) → IsBegun kind l → P (Opens kind) (role.Leaf l)
-  pub block : (x : spelled.Purpose) → IsBlock x → P (Tells x) (role.Text purpose.Block)
-  pub markers : P (Tells AsMarkers) (role.Text purpose.Markers)
-  pub digits : P (Tells AsDigits) (role.Text purpose.Digits)
-  pub marker : P (Tells AsItemMarker) (role.Text purpose.Marker)
-  pub label : P (Tells AsFootnoteLabel) (role.Text purpose.FootnoteLabel)
+  pub begins : (kind : LeafKind) (l : Leaf) → IsBegun kind l → P (LeafRole kind) (role.Leaf l)
+  pub block : (x : spelled.Purpose) → IsBlock x → P (TextRole x) (role.Text purpose.Block)
+  pub markers : P (TextRole AsMarkers) (role.Text purpose.Markers)
+  pub digits : P (TextRole AsDigits) (role.Text purpose.Digits)
+  pub marker : P (TextRole AsItemMarker) (role.Text purpose.Marker)
+  pub label : P (TextRole AsFootnoteLabel) (role.Text purpose.FootnoteLabel)
   pub ending : P IsEnding role.Ending
   pub quiet : P IsQuiet role.Quiet
 
 -- so it is known of all that are shown
 pub by-role : (P : spelled.Role → Role → Type 0) (x : spelled.Role) → ByRole P → is_plain x ≡ true → P x (shown_as x)
-by-role P (Holds OrderedShape) by h = absurd (cc)
-by-role P (Holds UnorderedShape) by h = absurd (cc)
-by-role P (Holds (FootnoteShape label)) by h = by.footnote label
-by-role P (Holds _) by h = first_of (cc, search (by.container))
+by-role P (ContainerRole OrderedShape) by h = absurd (cc)
+by-role P (ContainerRole UnorderedShape) by h = absurd (cc)
+by-role P (ContainerRole (FootnoteShape label)) by h = by.footnote label
+by-role P (ContainerRole _) by h = first_of (cc, search (by.container))
 by-role P IsPrefix by h = by.prefix
-by-role P (Opens OfCode) by h = absurd (cc)
-by-role P (Opens OfHtml) by h = absurd (cc)
-by-role P (Opens OfHeadingSetext) by h = absurd (cc)
-by-role P (Opens _) by h = first_of (cc, search (by.begins))
-by-role P (Tells AsHeading) by h = absurd (cc)
-by-role P (Tells AsMarkers) by h = by.markers
-by-role P (Tells AsDigits) by h = by.digits
-by-role P (Tells AsItemMarker) by h = by.marker
-by-role P (Tells AsFootnoteLabel) by h = by.label
-by-role P (Tells _) by h = first_of (cc, search (by.block))
+by-role P (LeafRole OfCode) by h = absurd (cc)
+by-role P (LeafRole OfHtml) by h = absurd (cc)
+by-role P (LeafRole OfHeadingSetext) by h = absurd (cc)
+by-role P (LeafRole _) by h = first_of (cc, search (by.begins))
+by-role P (TextRole AsHeading) by h = absurd (cc)
+by-role P (TextRole AsMarkers) by h = by.markers
+by-role P (TextRole AsDigits) by h = by.digits
+by-role P (TextRole AsItemMarker) by h = by.marker
+by-role P (TextRole AsFootnoteLabel) by h = by.label
+by-role P (TextRole _) by h = first_of (cc, search (by.block))
 by-role P IsEnding by h = by.ending
 by-role P IsQuiet by h = by.quiet
 by-role P _ by h = absurd (true≢false (sym h))
 
 -- A footnote definition as it begins has no label yet.
 abbrev pub IsFresh : spelled.Role → Type 0
-IsFresh (Holds (FootnoteShape label)) = label ≡ []
+IsFresh (ContainerRole (FootnoteShape label)) = label ≡ []
 IsFresh _ = Unit {0}
 
 pub role-fresh : (name : Name) → IsFresh (spelled.role name)

@@ -4,15 +4,15 @@ use Rattle.std.specs.Prelude.{Option, Some, None, option_map}
 use Rattle.std.proofs.lemmas.Bool.{true≢false}
 use Rattle.md_engine.specs.declared.event.Kind.TheVariants.{Enter}
 use Rattle.md_engine.specs.declared.event.Point.{Point}
-use Rattle.md_definition.specs.Outline.{Entry}
-use Rattle.md_seam.specs.Events.Spelled.{IsPrefix, LeafKind, Opens, Reading, Text, after_prefix, at_ending}
+use Rattle.md_meaning.specs.Outline.{Entry}
+use Rattle.md_seam.specs.Events.Spelled.{IsPrefix, LeafKind, LeafRole, Reading, Text, after_prefix, at_ending}
 use Rattle.md_seam.specs.Events.Spelled.{before_prefix, begun}
 use Rattle.md_seam.specs.Events.Spelled.{byte_at, columns_left, read_enter, read_exit}
 use Rattle.md_seam.specs.Events.Spelled as spelled
 use Rattle.md_outline.specs.Outlined.{parts_by}
 use Rattle.md_outline.specs.OutlineSteps.{OutlineState, line_ended, parted_at, state_enter, state_exit, told, told_at}
 use Rattle.md_outline.specs.Roles.{has_lines}
-use Rattle.md_outline.specs.declared.outline.Span.{Span}
+use Rattle.md_outline.specs.declared.outline.TextSpan.{TextSpan}
 use Rattle.md_outline.specs.declared.outline.lined.Lined.{Lined}
 use Rattle.md_outline.specs.declared.outline.role.Purpose.{Purpose}
 use Rattle.md_outline.specs.declared.outline.role.Role.TheVariants as role
@@ -34,8 +34,8 @@ pub from-here : (p : Point) (s : OutlineState) (r : Reading) →
 from-here p s r = record { span = refl; text = refl; spaces = refl }
 
 -- such a leaf block begins in no text
-pub no-span : (bytes : List ℕ) (kind : LeafKind) (p : Point) (span : Option Span) → has_lines kind ≡ true →
-    parts_by bytes Enter (Opens kind) p span ≡ true → span ≡ None
+pub no-span : (bytes : List ℕ) (kind : LeafKind) (p : Point) (span : Option TextSpan) → has_lines kind ≡ true →
+    parts_by bytes Enter (LeafRole kind) p span ≡ true → span ≡ None
 no-span bytes kind p None e k = refl
 no-span bytes kind p (Some span) e k =
     absurd (true≢false (sym k ∙ ap (λ (x : Bool). not x && not span.is_parted) e))
@@ -67,7 +67,7 @@ text-ends P bytes q p x y s r from h =
 
 -- A line ending in a text is a part of it.
 
-pub text-line : (bytes : List ℕ) (end : ℕ) (lined : Option Lined) (span : Span) (s : OutlineState) →
+pub text-line : (bytes : List ℕ) (end : ℕ) (lined : Option Lined) (span : TextSpan) (s : OutlineState) →
     line_ended bytes end lined (Some span) s ≡ s
 text-line bytes end None span s = refl
 text-line bytes end (Some lined) span s = refl
@@ -77,7 +77,7 @@ pub text-ending : (P : OutlineState → Reading → Type 0) (bytes : List ℕ) (
     P (line_ended bytes p.index s.lined s.text s) (at_ending bytes p r.text r)
 text-ending P bytes q p s r from h =
     let same : line_ended bytes p.index s.lined s.text s ≡ s =
-    ap (λ (x : Option Span). line_ended bytes p.index s.lined x s) from.span
+    ap (λ (x : Option TextSpan). line_ended bytes p.index s.lined x s) from.span
     ∙ text-line bytes p.index s.lined (record { from = byte_at q; is_parted = false }) s in
     let tree : at_ending bytes p r.text r ≡ r = ap (λ (x : Option Text). at_ending bytes p x r) from.text in
     subst (λ (x : OutlineState). P x (at_ending bytes p r.text r)) (sym same)
@@ -91,7 +91,7 @@ unparted bytes i s none = ap (λ span. parted_at bytes i span s) none
 -- whatever text is read
 abbrev pub Keeps : (OutlineState → Reading → Type 0) → Type 0
 Keeps P =
-    (s : OutlineState) (r : Reading) (span : Option Span) (spaces : ℕ) (text : Option Text) → P s r →
+    (s : OutlineState) (r : Reading) (span : Option TextSpan) (spaces : ℕ) (text : Option Text) → P s r →
     P (record s { text = span; spaces = spaces }) (record r { text = text })
 
 pub prefix-enter : (P : OutlineState → Reading → Type 0) (bytes : List ℕ) (p : Point) (s : OutlineState)
@@ -112,7 +112,7 @@ pub prefix-exit : (P : OutlineState → Reading → Type 0) (bytes : List ℕ) (
     P (state_exit bytes role.Prefix p s) (read_exit bytes IsPrefix p r)
     × NoText (state_exit bytes role.Prefix p s) (read_exit bytes IsPrefix p r)
 prefix-exit P bytes p s r keeps is = (
-  keeps s r (option_map (λ (t : Span). record t { from = byte_at p }) s.text) s.spaces
+  keeps s r (option_map (λ (t : TextSpan). record t { from = byte_at p }) s.text) s.spaces
       (option_map (after_prefix p) r.text) is.0,
-  (ap (option_map (λ (t : Span). record t { from = byte_at p })) is.1.0, ap (option_map (after_prefix p)) is.1.1),
+  (ap (option_map (λ (t : TextSpan). record t { from = byte_at p })) is.1.0, ap (option_map (after_prefix p)) is.1.1),
 )

@@ -7,13 +7,13 @@ use Rattle.std.proofs.lemmas.List.{append-nil, length-append, map-append}
 use Rattle.md_engine.specs.declared.event.Kind.{Kind}
 use Rattle.md_engine.specs.declared.event.Kind.TheVariants.{Enter, Exit}
 use Rattle.md_engine.specs.declared.event.Point.{Point}
-use Rattle.md_definition.specs.declared.outline.Word.TheVariants as word
-use Rattle.md_definition.specs.Outline.{Entry, block_entries, entry, entry_with, row_entries, rows_entries, table_entries}
-use Rattle.md_definition.specs.Rest.{trim}
-use Rattle.md_definition.specs.State.{then_block}
-use Rattle.md_definition.specs.Tree.{Block, Line, Table}
+use Rattle.md_meaning.specs.declared.outline.Word.TheVariants as word
+use Rattle.md_meaning.specs.Outline.{Entry, block_entries, entry, entry_with, row_entries, rows_entries, table_entries}
+use Rattle.md_meaning.specs.Rest.{trim}
+use Rattle.md_meaning.specs.State.{then_block}
+use Rattle.md_meaning.specs.Tree.{Block, Line, Table}
 use Rattle.md_seam.specs.Events.Spelled.{AsCell, AsDelimiter, IsCell, IsEnding, IsPrefix, IsQuiet, IsRow, OfTable}
-use Rattle.md_seam.specs.Events.Spelled.{OpenLeaf, Opens, Reading, TableLeaf, TableSoFar, Tells, Text, at_cell, at_ending}
+use Rattle.md_seam.specs.Events.Spelled.{OpenLeaf, LeafRole, Reading, TableLeaf, TableSoFar, TextRole, at_cell, at_ending}
 use Rattle.md_seam.specs.Events.Spelled.{at_row, begun, byte_at, columns_left, finished, first_told, next_line, on_last}
 use Rattle.md_seam.specs.Events.Spelled.{on_leaf, read_by, read_enter}
 use Rattle.md_seam.specs.Events.Spelled as spelled
@@ -21,10 +21,10 @@ use Rattle.md_outline.specs.LinedState.{now_told, with_head, without_end}
 use Rattle.md_outline.specs.OutlineSteps.{OutlineState, cell_begun, counted_at, line_ended, state_by, state_enter}
 use Rattle.md_outline.specs.OutlineSteps.{told, told_at, with_empty}
 use Rattle.md_outline.specs.Roles.{shown_as}
-use Rattle.md_outline.specs.TableSpots.{AtCell, AtHead, BehindCell, BehindHead, BehindRow, BodyRow, HeadRow, InCell}
-use Rattle.md_outline.specs.TableSpots.{InDelimiter, InRow, MayBe, Row, Spot, behind_row, spot_by}
+use Rattle.md_outline.specs.TablePlaces.{AtCell, AtHead, BehindCell, BehindHead, BehindRow, BodyRow, HeadRow, InCell}
+use Rattle.md_outline.specs.TablePlaces.{InDelimiter, InRow, MayBe, Row, TablePlace, behind_row, spot_by}
 use Rattle.md_outline.specs.TableState.{counted_word, with_cell, with_delimiter, with_row}
-use Rattle.md_outline.specs.declared.outline.Span.{Span}
+use Rattle.md_outline.specs.declared.outline.TextSpan.{TextSpan}
 use Rattle.md_outline.specs.declared.outline.lined.Form.TheVariants as form
 use Rattle.md_outline.specs.declared.outline.lined.Lined.{Lined}
 use Rattle.md_outline.specs.declared.outline.role.Purpose.TheVariants as purpose
@@ -120,7 +120,7 @@ abbrev pub NoRow : OutlineState → Reading → Type 0
 NoRow s r = Tabled (grid [] []) false (λ depth. entry depth (word.Table 0) ∷ []) s r
 
 -- What is known at each spot.
-abbrev pub AgreesSpot : Spot → OutlineState → Reading → Type 0
+abbrev pub AgreesSpot : TablePlace → OutlineState → Reading → Type 0
 AgreesSpot AtHead s r = NoRow s r × NoText s r
 AgreesSpot (InRow row) s r = Filled row s r × NoText s r
 AgreesSpot (AtCell row) s r = WithEmpty row s r × NoText s r
@@ -131,14 +131,14 @@ AgreesSpot InDelimiter s r = Filled HeadRow s r × ((q : Point) × TextFrom q s 
 AgreesSpot BehindRow s r = Rows s r × NoText s r
 
 -- and behind an event there
-abbrev pub AgreesBehind : Option Spot → OutlineState → Reading → Type 0
+abbrev pub AgreesBehind : Option TablePlace → OutlineState → Reading → Type 0
 AgreesBehind None s r = Agrees s r
 AgreesBehind (Some spot) s r = AgreesSpot spot s r
 
 -- It begins.
 
 pub table-begins : (bytes : List ℕ) (p : Point) (s : OutlineState) (r : Reading) → s.text ≡ None → Agrees s r →
-    AgreesSpot AtHead (state_enter bytes (role.Lined (word.Table 0)) p s) (read_enter bytes (Opens OfTable) p r)
+    AgreesSpot AtHead (state_enter bytes (role.Lined (word.Table 0)) p s) (read_enter bytes (LeafRole OfTable) p r)
 table-begins bytes p s r none is =
     let text : r.text ≡ None = begins-texts s r none is in
     let same : s.lines ≡ shown r.outer r.here =
@@ -431,7 +431,7 @@ gap-line P bytes p place is_told s r lined next is =
     × NoText (line_ended bytes p.index l s.text s) (at_ending bytes p r.text r))
     (sym lined)
     (subst
-    (λ (span : Option Span).
+    (λ (span : Option TextSpan).
     P (line_ended bytes p.index (Some head) span s) (at_ending bytes p r.text r)
     × NoText (line_ended bytes p.index (Some head) span s) (at_ending bytes p r.text r))
     (sym is.1.0) (by-ending (λ now. P s now × NoText s now) bytes p r.text r is (next, is.1)))
@@ -496,14 +496,14 @@ span-counted (Some lined) s = go lined.is_fenced
 pub span-cell : (s : OutlineState) → (cell_begun s).text ≡ s.text
 span-cell s = span-counted s.lined s
 
-pub agrees-spot : (bytes : List ℕ) (spot : Spot) (kind : Kind) (x : spelled.Role) (p : Point) (s : OutlineState)
+pub agrees-spot : (bytes : List ℕ) (spot : TablePlace) (kind : Kind) (x : spelled.Role) (p : Point) (s : OutlineState)
     (r : Reading) → MayBe spot kind x → AgreesSpot spot s r →
     AgreesBehind (spot_by spot kind x) (state_by bytes kind (shown_as x) p s) (read_by bytes kind x p r)
 agrees-spot bytes AtHead Enter IsRow p s r may is = (([], head-begins s r is.0), is.1)
 agrees-spot bytes (InRow row) Enter IsCell p s r may is =
     ((is.0.0, cell-begins row is.0.0 s r is.0.1), (span-cell s ∙ is.1.0, is.1.1))
 agrees-spot bytes (InRow row) Exit IsRow p s r may is = row-ends row s r is
-agrees-spot bytes (AtCell row) Enter (Tells AsCell) p s r may is = (
+agrees-spot bytes (AtCell row) Enter (TextRole AsCell) p s r may is = (
   empty-keeps row s r (Some (record { from = byte_at p; is_parted = false })) (columns_left p) (Some (begun p)) is.0,
   (p, from-here p s r),
 )
@@ -511,7 +511,7 @@ agrees-spot bytes (AtCell row) Exit IsCell p s r may is = ((is.0.0 ++ [] ∷ [],
 agrees-spot bytes (InCell row) Enter IsEnding p s r may is = is
 agrees-spot bytes (InCell row) Exit IsEnding p s r may is =
     text-ending (AgreesSpot (InCell row)) bytes is.1.0 p s r is.1.1 is
-agrees-spot bytes (InCell row) Exit (Tells AsCell) p s r may is = cell-ends bytes row is.1.0 p s r is.0 is.1.1
+agrees-spot bytes (InCell row) Exit (TextRole AsCell) p s r may is = cell-ends bytes row is.1.0 p s r is.0 is.1.1
 agrees-spot bytes (BehindCell row) Exit IsCell p s r may is = is
 agrees-spot bytes BehindHead Enter IsPrefix p s r may is =
     prefix-enter (Filled HeadRow) bytes p s r (filled-keeps HeadRow) is
@@ -519,18 +519,18 @@ agrees-spot bytes BehindHead Exit IsPrefix p s r may is =
     prefix-exit (Filled HeadRow) bytes p s r (filled-keeps HeadRow) is
 agrees-spot bytes BehindHead Enter IsEnding p s r may is = is
 agrees-spot bytes BehindHead Exit IsEnding p s r may is = head-line bytes p s r is
-agrees-spot bytes BehindHead Enter (Tells AsDelimiter) p s r may is = (
+agrees-spot bytes BehindHead Enter (TextRole AsDelimiter) p s r may is = (
   filled-keeps HeadRow s r (Some (record { from = byte_at p; is_parted = false })) (columns_left p) (Some (begun p))
       is.0,
   (p, from-here p s r),
 )
-agrees-spot bytes InDelimiter Exit (Tells AsDelimiter) p s r may is = delimiter-ends bytes is.1.0 p s r is.0 is.1.1
+agrees-spot bytes InDelimiter Exit (TextRole AsDelimiter) p s r may is = delimiter-ends bytes is.1.0 p s r is.0 is.1.1
 agrees-spot bytes BehindRow Enter IsPrefix p s r may is = prefix-enter Rows bytes p s r rows-keep is
 agrees-spot bytes BehindRow Exit IsPrefix p s r may is = prefix-exit Rows bytes p s r rows-keep is
 agrees-spot bytes BehindRow Enter IsEnding p s r may is = is
 agrees-spot bytes BehindRow Exit IsEnding p s r may is = rows-line bytes p s r is
 agrees-spot bytes BehindRow Enter IsRow p s r may is = (([], further-begins s r is.0), is.1)
-agrees-spot bytes BehindRow Exit (Opens OfTable) p s r may is = table-ends s r is.0 is.1
+agrees-spot bytes BehindRow Exit (LeafRole OfTable) p s r may is = table-ends s r is.0 is.1
 agrees-spot bytes _ Enter IsQuiet p s r may is = is
 agrees-spot bytes _ Exit IsQuiet p s r may is = is
 agrees-spot bytes _ _ _ p s r may is = absurd may

@@ -5,47 +5,47 @@ use Rattle.md_engine.specs.declared.event.Kind.TheVariants.{Enter, Exit}
 use Rattle.md_engine.specs.declared.event.Name.{Name}
 use Rattle.md_engine.specs.declared.event.Point.{Point}
 use Rattle.md_seam.specs.Events.Nested.{around}
-use Rattle.md_seam.specs.Events.Spelled.{AsCell, AsDelimiter, IsCell, IsEnding, IsPrefix, IsQuiet, IsRow, OfTable, Opens}
-use Rattle.md_seam.specs.Events.Spelled.{Role, Tells, role}
+use Rattle.md_seam.specs.Events.Spelled.{AsCell, AsDelimiter, IsCell, IsEnding, IsPrefix, IsQuiet, IsRow, OfTable, LeafRole}
+use Rattle.md_seam.specs.Events.Spelled.{Role, TextRole, role}
 use Rattle.md_seam.proofs.SpelledLemmas.{Between, Quiet, Roles}
 use Rattle.md_outline.specs.LinesStand.{InTable, Outside}
-use Rattle.md_outline.specs.TableSpots.{AtCell, AtHead, BehindCell, BehindHead, BehindRow, BodyRow, HeadRow, InCell}
-use Rattle.md_outline.specs.TableSpots.{InDelimiter, InRow, Row, Spot}
+use Rattle.md_outline.specs.TablePlaces.{AtCell, AtHead, BehindCell, BehindHead, BehindRow, BodyRow, HeadRow, InCell}
+use Rattle.md_outline.specs.TablePlaces.{InDelimiter, InRow, Row, TablePlace}
 use Rattle.md_outline.proofs.LinesPass.{Keeps, Passes, keeps-quiet, passes-around, passes-by, passes-quiet}
 
 -- events that go from a spot to a spot
-abbrev pub PassesIn : List ℕ → Spot → Spot → List Event → Type 0
+abbrev pub PassesIn : List ℕ → TablePlace → TablePlace → List Event → Type 0
 PassesIn bytes from to es = Passes bytes (InTable from) (InTable to) es
 
 -- All of it.
-pub passes-table : (bytes : List ℕ) (name : Name) (p q : Point) (es : List Event) → role name ≡ Opens OfTable →
+pub passes-table : (bytes : List ℕ) (name : Name) (p q : Point) (es : List Event) → role name ≡ LeafRole OfTable →
     PassesIn bytes AtHead BehindRow es → Passes bytes Outside Outside (around name p q es)
 passes-table bytes name p q es is h =
-    passes-around bytes Outside (InTable AtHead) (InTable BehindRow) Outside (Opens OfTable) name p q es is (tt, refl) h
+    passes-around bytes Outside (InTable AtHead) (InTable BehindRow) Outside (LeafRole OfTable) name p q es is (tt, refl) h
     (tt, refl)
 
 -- What the tree does not show may stand everywhere,
-pub passes-unshown : (bytes : List ℕ) (spot : Spot) (es : List Event) → Roles Quiet es → PassesIn bytes spot spot es
+pub passes-unshown : (bytes : List ℕ) (spot : TablePlace) (es : List Event) → Roles Quiet es → PassesIn bytes spot spot es
 passes-unshown bytes spot es h = passes-quiet bytes (InTable spot) es h
 
 -- and endings and prefixes between its rows.
-abbrev pub IsBetweenRows : Spot → Type 0
+abbrev pub IsBetweenRows : TablePlace → Type 0
 IsBetweenRows BehindHead = Unit {0}
 IsBetweenRows BehindRow = Unit {0}
 IsBetweenRows _ = ⊥
 
-pub passes-between_rows : (bytes : List ℕ) (spot : Spot) (es : List Event) → IsBetweenRows spot → Roles Between es →
+pub passes-between_rows : (bytes : List ℕ) (spot : TablePlace) (es : List Event) → IsBetweenRows spot → Roles Between es →
     PassesIn bytes spot spot es
 passes-between_rows bytes spot es between h = passes-by bytes Between (InTable spot) es one h
   where
-    prefix : (spot : Spot) → IsBetweenRows spot → Keeps bytes (InTable spot) IsPrefix
+    prefix : (spot : TablePlace) → IsBetweenRows spot → Keeps bytes (InTable spot) IsPrefix
     prefix BehindHead between Enter p = (tt, refl)
     prefix BehindHead between Exit p = (tt, refl)
     prefix BehindRow between Enter p = (tt, refl)
     prefix BehindRow between Exit p = (tt, refl)
     prefix _ between kind p = absurd between
 
-    ending : (spot : Spot) → IsBetweenRows spot → Keeps bytes (InTable spot) IsEnding
+    ending : (spot : TablePlace) → IsBetweenRows spot → Keeps bytes (InTable spot) IsEnding
     ending BehindHead between Enter p = (tt, refl)
     ending BehindHead between Exit p = (tt, refl)
     ending BehindRow between Enter p = (tt, refl)
@@ -66,11 +66,11 @@ passes-head bytes name p q es is h =
     name p q es is (tt, refl) h (tt, refl)
 
 -- the delimiter row,
-pub passes-delimiter : (bytes : List ℕ) (name : Name) (p q : Point) (es : List Event) → role name ≡ Tells AsDelimiter →
+pub passes-delimiter : (bytes : List ℕ) (name : Name) (p q : Point) (es : List Event) → role name ≡ TextRole AsDelimiter →
     Roles Quiet es → PassesIn bytes BehindHead BehindRow (around name p q es)
 passes-delimiter bytes name p q es is h =
     passes-around bytes (InTable BehindHead) (InTable InDelimiter) (InTable InDelimiter) (InTable BehindRow)
-    (Tells AsDelimiter) name p q es is (tt, refl) (passes-unshown bytes InDelimiter es h) (tt, refl)
+    (TextRole AsDelimiter) name p q es is (tt, refl) (passes-unshown bytes InDelimiter es h) (tt, refl)
 
 -- and a further row.
 pub passes-body_row : (bytes : List ℕ) (name : Name) (p q : Point) (es : List Event) → role name ≡ IsRow →
@@ -87,10 +87,10 @@ passes-cell bytes row name p q es is h =
     IsCell name p q es is (tt, refl) h (tt, refl)
 
 pub passes-cell_text : (bytes : List ℕ) (row : Row) (name : Name) (p q : Point) (es : List Event) →
-    role name ≡ Tells AsCell → Roles Quiet es → PassesIn bytes (AtCell row) (BehindCell row) (around name p q es)
+    role name ≡ TextRole AsCell → Roles Quiet es → PassesIn bytes (AtCell row) (BehindCell row) (around name p q es)
 passes-cell_text bytes row name p q es is h =
     passes-around bytes (InTable (AtCell row)) (InTable (InCell row)) (InTable (InCell row)) (InTable (BehindCell row))
-    (Tells AsCell) name p q es is (tt, refl) (passes-unshown bytes (InCell row) es h) (tt, refl)
+    (TextRole AsCell) name p q es is (tt, refl) (passes-unshown bytes (InCell row) es h) (tt, refl)
 
 -- or with none
 pub passes-empty_cell : (bytes : List ℕ) (row : Row) (name : Name) (p q : Point) (es : List Event) →

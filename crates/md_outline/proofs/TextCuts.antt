@@ -15,18 +15,18 @@ use Rattle.std.proofs.lemmas.List.Sums.{prefix_len_passes, prefix_len_stops, suf
 use Rattle.std.proofs.lemmas.Str.{IsCharBoundary-after_ascii, IsCharBoundary-before_ascii, IsCharBoundary-end}
 use Rattle.std.proofs.lemmas.Str.{IsCharBoundary-past_char, IsCharBoundary-start, IsUtf8-between, IsUtf8-drop}
 use Rattle.std.proofs.lemmas.Str.{IsUtf8-nil, IsUtf8-take}
-use Rattle.md_definition.specs.declared.outline.Word.{Word}
-use Rattle.md_definition.specs.Lines.{begins_with, ends_line, is_ending}
-use Rattle.md_definition.specs.Preamble.{has_mark}
-use Rattle.md_definition.specs.Outline.{Entry, entries, entry_with}
+use Rattle.md_meaning.specs.declared.outline.Word.{Word}
+use Rattle.md_meaning.specs.Lines.{begins_with, ends_line, is_ending}
+use Rattle.md_meaning.specs.Preamble.{has_mark}
+use Rattle.md_meaning.specs.Outline.{Entry, entries, entry_with}
 use Rattle.md_seam.specs.Events.Places.{last_line}
-use Rattle.md_definition.specs.Rest.{is_blank, is_white, trim_end, trim_start}
+use Rattle.md_meaning.specs.Rest.{is_blank, is_white, trim_end, trim_start}
 use Rattle.md_seam.specs.Events.Spelled.{without_last}
-use Rattle.md_definition.specs.Texts.{split_lines, trim_each, trim_further}
+use Rattle.md_meaning.specs.Texts.{split_lines, trim_each, trim_further}
 use Rattle.md_seam.proofs.PlacesLemmas.{Some_line, last-next, some-split}
 use Rattle.md_seam.proofs.PlainSteps.{range-none}
-use Rattle.md_definition.proofs.PreambleLemmas.{mark-bytes}
-use Rattle.md_definition.proofs.TextsLemmas.{split-byte}
+use Rattle.md_meaning.proofs.PreambleLemmas.{mark-bytes}
+use Rattle.md_meaning.proofs.TextsLemmas.{split-byte}
 use Rattle.md_outline.specs.Between.{is_between}
 use Rattle.md_outline.specs.TextLines.{after_ending, first_as, first_full_as, full_as, line_len, lines_as}
 

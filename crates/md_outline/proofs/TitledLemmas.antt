@@ -5,15 +5,15 @@ use Rattle.std.specs.Prelude.{Option, Some, None, option_map}
 use Rattle.std.proofs.lemmas.Bool.{and_parts}
 use Rattle.md_engine.specs.declared.event.Kind.TheVariants.{Enter, Exit}
 use Rattle.md_engine.specs.declared.event.Point.{Point}
-use Rattle.md_definition.specs.declared.outline.Word.TheVariants as word
-use Rattle.md_definition.specs.Outline.{Entry, block_entries, entries, entry}
-use Rattle.md_definition.specs.Rest.{is_blank}
-use Rattle.md_definition.specs.State.{then_block}
-use Rattle.md_definition.specs.Texts.{first_byte, split_lines, trim_each}
-use Rattle.md_definition.specs.Tree.{Block, Heading, Line}
+use Rattle.md_meaning.specs.declared.outline.Word.TheVariants as word
+use Rattle.md_meaning.specs.Outline.{Entry, block_entries, entries, entry}
+use Rattle.md_meaning.specs.Rest.{is_blank}
+use Rattle.md_meaning.specs.State.{then_block}
+use Rattle.md_meaning.specs.Texts.{first_byte, split_lines, trim_each}
+use Rattle.md_meaning.specs.Tree.{Block, Heading, Line}
 use Rattle.md_seam.specs.Events.Places.{last_line}
-use Rattle.md_seam.specs.Events.Spelled.{AsHeading, AsMarkers, HeadingSetextLeaf, HeadingSoFar, IsEnding, IsPrefix}
-use Rattle.md_seam.specs.Events.Spelled.{OfHeadingSetext, OpenLeaf, Opens, Reading, Tells, Text, after_prefix}
+use Rattle.md_seam.specs.Events.Spelled.{AsHeading, AsMarkers, HeadingSetextLeaf, HeadingSoFar, IsPrefix}
+use Rattle.md_seam.specs.Events.Spelled.{OfHeadingSetext, OpenLeaf, LeafRole, Reading, TextRole, Text, after_prefix}
 use Rattle.md_seam.specs.Events.Spelled.{at_ending, before_prefix, begun, byte_at, columns_left, finished, next_line}
 use Rattle.md_seam.specs.Events.Spelled.{no_heading, on_leaf, read_enter, text_to, underline_depth}
 use Rattle.md_seam.specs.Events.Spelled as spelled
@@ -23,7 +23,7 @@ use Rattle.md_outline.specs.Outlined.{begins_line, parts_by}
 use Rattle.md_outline.specs.OutlineSteps.{OutlineState, head_marked, is_titled, line_ended, parted_at, state_enter}
 use Rattle.md_outline.specs.OutlineSteps.{piece_shown, title_told, told, told_at, told_leaf}
 use Rattle.md_outline.specs.TextLines.{full_entries, text_entries}
-use Rattle.md_outline.specs.declared.outline.Span.{Span}
+use Rattle.md_outline.specs.declared.outline.TextSpan.{TextSpan}
 use Rattle.md_outline.specs.declared.outline.lined.Form.TheVariants as form
 use Rattle.md_outline.specs.declared.outline.lined.Lined.{Lined}
 use Rattle.md_outline.specs.declared.outline.role.Note.TheVariants as note
@@ -84,8 +84,8 @@ IsMarked s r =
 
 pub heading-begins : (bytes : List ℕ) (p : Point) (s : OutlineState) (r : Reading) → s.text ≡ None → Agrees s r →
     Headed 0 no_heading false (state_enter bytes (role.Lined (word.Heading 0)) p s)
-    (read_enter bytes (Opens OfHeadingSetext) p r)
-    × NoText (state_enter bytes (role.Lined (word.Heading 0)) p s) (read_enter bytes (Opens OfHeadingSetext) p r)
+    (read_enter bytes (LeafRole OfHeadingSetext) p r)
+    × NoText (state_enter bytes (role.Lined (word.Heading 0)) p s) (read_enter bytes (LeafRole OfHeadingSetext) p r)
 heading-begins bytes p s r none is =
     let text : r.text ≡ None = begins-texts s r none is in
     let same : s.lines ≡ shown r.outer r.here =
@@ -112,7 +112,7 @@ heading-begins bytes p s r none is =
 -- Its text.
 
 -- where it began, or goes on behind a prefix
-abbrev pub TitleIs : List Entry → ℕ → List Entry → Option Span → Option Text → Type 0
+abbrev pub TitleIs : List Entry → ℕ → List Entry → Option TextSpan → Option Text → Type 0
 TitleIs before depth lines (Some span) (Some text) =
     (text.from ≡ span.from) × Pieces before [] (depth + 1) lines span.is_parted text.front
 TitleIs before depth lines _ _ = ⊥
@@ -138,7 +138,7 @@ none-begun true = refl
 none-begun false = refl
 
 -- a prefix begins in it
-prefix-begins : (bytes : List ℕ) (p : Point) (s : OutlineState) (r : Reading) (span : Option Span)
+prefix-begins : (bytes : List ℕ) (p : Point) (s : OutlineState) (r : Reading) (span : Option TextSpan)
     (text : Option Text) → parts_by bytes Enter IsPrefix p span ≡ true → Titled no_heading false s r →
     TitleIs (head_lines s r) s.depth s.lines span text →
     InText (parted_at bytes p.index span s) (record r { text = option_map (before_prefix bytes p) text })
@@ -176,24 +176,24 @@ pub title-prefix : (bytes : List ℕ) (p : Point) (s : OutlineState) (r : Readin
 title-prefix bytes p s r k h = prefix-begins bytes p s r s.text r.text k h.0 h.1
 
 -- and ends
-title-from : (p : Point) (before : List Entry) (depth : ℕ) (lines : List Entry) (span : Option Span)
+title-from : (p : Point) (before : List Entry) (depth : ℕ) (lines : List Entry) (span : Option TextSpan)
     (text : Option Text) → TitleIs before depth lines span text →
-    TitleIs before depth lines (option_map (λ (t : Span). record t { from = byte_at p }) span)
+    TitleIs before depth lines (option_map (λ (t : TextSpan). record t { from = byte_at p }) span)
     (option_map (after_prefix p) text)
 title-from p before depth lines (Some span) (Some text) h = (refl, h.1)
 title-from p before depth lines _ _ h = absurd h
 
 pub title-on : (p : Point) (s : OutlineState) (r : Reading) → InText s r →
-    InText (record s { text = option_map (λ (t : Span). record t { from = byte_at p }) s.text })
+    InText (record s { text = option_map (λ (t : TextSpan). record t { from = byte_at p }) s.text })
     (record r { text = option_map (after_prefix p) r.text })
 title-on p s r h = (
-  titled-keeps no_heading false s r (option_map (λ (t : Span). record t { from = byte_at p }) s.text) s.spaces
+  titled-keeps no_heading false s r (option_map (λ (t : TextSpan). record t { from = byte_at p }) s.text) s.spaces
       (option_map (after_prefix p) r.text) h.0,
   title-from p (head_lines s r) s.depth s.lines s.text r.text h.1,
 )
 
 -- a line ending is a part of it
-line-stays : (bytes : List ℕ) (p : Point) (s : OutlineState) (r : Reading) (before : List Entry) (span : Option Span)
+line-stays : (bytes : List ℕ) (p : Point) (s : OutlineState) (r : Reading) (before : List Entry) (span : Option TextSpan)
     (text : Option Text) → TitleIs before s.depth s.lines span text → InText s r →
     InText (line_ended bytes p.index s.lined span s) (at_ending bytes p text r)
 line-stays bytes p s r before (Some span) (Some text) h is =
@@ -205,7 +205,7 @@ pub title-line : (bytes : List ℕ) (p : Point) (s : OutlineState) (r : Reading)
 title-line bytes p s r is = line-stays bytes p s r (head_lines s r) s.text r.text is.1 is
 
 -- it ends
-all-shown : (bytes : List ℕ) (p : Point) (s : OutlineState) (r : Reading) (span : Span) (text : Text) →
+all-shown : (bytes : List ℕ) (p : Point) (s : OutlineState) (r : Reading) (span : TextSpan) (text : Text) →
     begins_line span (slice_range bytes span.from p.index) ≡ true →
     TitleIs (head_lines s r) s.depth s.lines (Some span) (Some text) →
     s.lines ++ text_entries (s.depth + 1) (slice_range bytes span.from p.index)
@@ -227,8 +227,8 @@ all-shown bytes p s r span text k h =
     ++ block_entries s.depth (Heading 0 (trim_each (split_lines (text.front ++ slice_range bytes i p.index)))))
     (sym h.0)
 
-text-told : (bytes : List ℕ) (p : Point) (s : OutlineState) (r : Reading) (span : Option Span) (text : Option Text) →
-    parts_by bytes Exit (Tells AsHeading) p span ≡ true → Titled no_heading false s r →
+text-told : (bytes : List ℕ) (p : Point) (s : OutlineState) (r : Reading) (span : Option TextSpan) (text : Option Text) →
+    parts_by bytes Exit (TextRole AsHeading) p span ≡ true → Titled no_heading false s r →
     TitleIs (head_lines s r) s.depth s.lines span text →
     Unmarked (told_at bytes purpose.Title p.index span s) (spelled.told_at bytes AsHeading p text r)
     × NoText (told_at bytes purpose.Title p.index span s) (spelled.told_at bytes AsHeading p text r)
@@ -261,7 +261,7 @@ text-told bytes p s r (Some span) (Some text) k is h =
 text-told bytes p s r _ _ k is h = absurd h
 
 pub title-ends : (bytes : List ℕ) (p : Point) (s : OutlineState) (r : Reading) →
-    parts_by bytes Exit (Tells AsHeading) p s.text ≡ true → InText s r →
+    parts_by bytes Exit (TextRole AsHeading) p s.text ≡ true → InText s r →
     Unmarked (told_at bytes purpose.Title p.index s.text s) (spelled.told_at bytes AsHeading p r.text r)
     × NoText (told_at bytes purpose.Title p.index s.text s) (spelled.told_at bytes AsHeading p r.text r)
 title-ends bytes p s r k h = text-told bytes p s r s.text r.text k h.0 h.1
@@ -293,7 +293,7 @@ gap-line bytes p s r is =
     × NoText (line_ended bytes p.index l s.text s) (at_ending bytes p r.text r))
     (sym is.0.1.is.lined)
     (subst
-    (λ (span : Option Span).
+    (λ (span : Option TextSpan).
     Unmarked (line_ended bytes p.index (Some head) span s) (at_ending bytes p r.text r)
     × NoText (line_ended bytes p.index (Some head) span s) (at_ending bytes p r.text r))
     (sym is.1.0)

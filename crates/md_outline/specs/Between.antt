@@ -1,6 +1,6 @@
 -- Where a text may be cut so that its parts stay texts.
 use Rattle.std.specs.Prelude.{ℕ, ◌-◌, Bool, ◌||◌, ◌&&◌, ◌==◌, nat_lt, List, length, slice_index}
-use Rattle.md_definition.specs.Preamble.{has_mark}
+use Rattle.md_meaning.specs.Preamble.{has_mark}
 
 -- whether a place is an end of the text, stands beside a byte of ASCII, or behind a byte order mark
 abbrev pub is_between : List ℕ → ℕ → Bool

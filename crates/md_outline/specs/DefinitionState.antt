@@ -1,8 +1,8 @@
 -- What an outline shows of the parts of a definition: each begins with an empty line, which its text fills.
 use Rattle.std.specs.Prelude.{ℕ, Bool, true, false, if◌then◌else◌, List, [], ◌∷◌, ◌++◌, Option, Some, None}
-use Rattle.md_definition.specs.declared.outline.Word.{Word}
-use Rattle.md_definition.specs.declared.outline.Word.TheVariants as word
-use Rattle.md_definition.specs.Outline.{Entry, entry_with}
+use Rattle.md_meaning.specs.declared.outline.Word.{Word}
+use Rattle.md_meaning.specs.declared.outline.Word.TheVariants as word
+use Rattle.md_meaning.specs.Outline.{Entry, entry_with}
 use Rattle.md_outline.specs.LinedState.{without_end}
 use Rattle.md_outline.specs.TextLines.{first_as, first_full_as, full_as, lines_as}
 use Rattle.md_outline.specs.declared.outline.lined.Form.{Form}

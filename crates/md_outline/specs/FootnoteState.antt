@@ -1,9 +1,9 @@
 -- What an outline shows of a container that begins: the line of its word, and behind that of a footnote definition the
 -- line of its label, which is empty until its text fills it.
 use Rattle.std.specs.Prelude.{ℕ, ◌+◌, List, [], ◌∷◌, ◌++◌}
-use Rattle.md_definition.specs.declared.outline.Word.{Word}
-use Rattle.md_definition.specs.declared.outline.Word.TheVariants as word
-use Rattle.md_definition.specs.Outline.{Entry, entry, entry_with}
+use Rattle.md_meaning.specs.declared.outline.Word.{Word}
+use Rattle.md_meaning.specs.declared.outline.Word.TheVariants as word
+use Rattle.md_meaning.specs.Outline.{Entry, entry, entry_with}
 use Rattle.md_outline.specs.LinedState.{without_end}
 
 abbrev pub container_lines : ℕ → Word → List Entry

@@ -1,9 +1,9 @@
 -- What an outline knows of a heading that is open, as the tree has it, and what it shows of it.
 use Rattle.std.specs.Prelude.{ℕ, ◌+◌, List, [], ◌∷◌, length, Option, Some, None}
 use Rattle.std.specs.Borrow.{Bor}
-use Rattle.md_definition.specs.declared.outline.Word.TheVariants as word
-use Rattle.md_definition.specs.Outline.{Entry, entries, entry}
-use Rattle.md_definition.specs.Texts.{split_lines, trim_each}
+use Rattle.md_meaning.specs.declared.outline.Word.TheVariants as word
+use Rattle.md_meaning.specs.Outline.{Entry, entries, entry}
+use Rattle.md_meaning.specs.Texts.{split_lines, trim_each}
 use Rattle.md_seam.specs.Events.Spelled.{HeadingSoFar, first_told}
 use Rattle.md_outline.specs.HeadingDepths.{byte_depth}
 use Rattle.md_outline.specs.declared.outline.heading.Heading.{Heading}

@@ -10,6 +10,6 @@ pub mod Outlined
 pub mod OutlineSteps
 pub mod ParagraphState
 pub mod Roles
-pub mod TableSpots
+pub mod TablePlaces
 pub mod TableState
 pub mod TextLines

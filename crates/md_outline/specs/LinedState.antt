@@ -1,9 +1,9 @@
 -- What an outline shows of a leaf block of several lines that is open.
 use Rattle.std.specs.Prelude.{ℕ, ◌+◌, ◌-◌, Bool, true, false, List, [], ◌∷◌, length, take, set, get_or, Option}
 use Rattle.std.specs.Prelude.{Some, None, option_map}
-use Rattle.md_definition.specs.declared.outline.Word.{Word}
-use Rattle.md_definition.specs.declared.outline.Word.TheVariants as word
-use Rattle.md_definition.specs.Outline.{Entry, entry}
+use Rattle.md_meaning.specs.declared.outline.Word.{Word}
+use Rattle.md_meaning.specs.declared.outline.Word.TheVariants as word
+use Rattle.md_meaning.specs.Outline.{Entry, entry}
 use Rattle.md_seam.specs.Events.Spelled.{underline_depth}
 use Rattle.md_outline.specs.declared.outline.lined.Form.{Form}
 use Rattle.md_outline.specs.declared.outline.lined.Form.TheVariants as form

@@ -12,14 +12,14 @@ use Rattle.md_engine.specs.declared.event.Event.{Event}
 use Rattle.md_engine.specs.declared.event.Kind.{Kind}
 use Rattle.md_engine.specs.declared.event.Kind.TheVariants.{Enter, Exit}
 use Rattle.md_engine.specs.declared.event.Point.{Point}
-use Rattle.md_definition.specs.Lines.{is_ending}
-use Rattle.md_definition.specs.Texts.{first_byte}
+use Rattle.md_meaning.specs.Lines.{is_ending}
+use Rattle.md_meaning.specs.Texts.{first_byte}
 use Rattle.md_seam.specs.Events.Spelled.{AsCell, AsDelimiter, AsDestination, AsHeading, AsInfo, AsLabel, AsLine}
 use Rattle.md_seam.specs.Events.Spelled.{AsMarkers, AsMeta, AsTitle, IsCell, IsEnding, IsFence, IsPrefix, IsQuiet}
 use Rattle.md_seam.specs.Events.Spelled.{IsRow, IsTitle, LeafKind, OfCode, OfDefinition, OfFence, OfFrontmatter}
-use Rattle.md_seam.specs.Events.Spelled.{OfHeadingSetext, OfHtml, OfMath, OfTable, Opens, Purpose, Role, Tells}
+use Rattle.md_seam.specs.Events.Spelled.{OfHeadingSetext, OfHtml, OfMath, OfTable, LeafRole, Purpose, Role, TextRole}
 use Rattle.md_seam.specs.Events.Spelled.{byte_at, role}
-use Rattle.md_outline.specs.TableSpots.{AtHead, MayBe, Spot, spot_by}
+use Rattle.md_outline.specs.TablePlaces.{AtHead, MayBe, TablePlace, spot_by}
 
 -- The parts of a definition that may have several lines.
 pub data Part : Type 0 where
@@ -73,7 +73,7 @@ pub data Site : Type 0 where
   AtTitleText : Site
   BehindTitleText : Site
   -- in a table
-  InTable : Spot → Site
+  InTable : TablePlace → Site
 
 -- where a leaf block begins: indented code and HTML with a line
 abbrev pub begun_site : LeafKind → Site
@@ -101,44 +101,44 @@ part_site LabelPart = BehindPart DestinationLeft
 part_site TitlePart = BehindTitleText
 
 -- behind an event in a table
-abbrev pub table_site : Option Spot → Site
+abbrev pub table_site : Option TablePlace → Site
 table_site None = Outside
 table_site (Some spot) = InTable spot
 
 -- where one is behind an event
 abbrev pub site_by : List ℕ → Site → Kind → Role → Point → Site
-site_by bytes Outside Enter (Opens kind) p = begun_site kind
-site_by bytes Outside Enter (Tells AsHeading) p = InAtxText
-site_by bytes (AtMarkers kind) Enter (Tells AsMarkers) p = InMarkers kind p
-site_by bytes (InMarkers kind q) Exit (Tells AsMarkers) p = AtInfo kind
-site_by bytes (AtInfo kind) Enter (Tells purpose) p = InText kind purpose
+site_by bytes Outside Enter (LeafRole kind) p = begun_site kind
+site_by bytes Outside Enter (TextRole AsHeading) p = InAtxText
+site_by bytes (AtMarkers kind) Enter (TextRole AsMarkers) p = InMarkers kind p
+site_by bytes (InMarkers kind q) Exit (TextRole AsMarkers) p = AtInfo kind
+site_by bytes (AtInfo kind) Enter (TextRole purpose) p = InText kind purpose
 site_by bytes (AtInfo kind) Exit IsFence p = AtEnding kind
-site_by bytes (AtMeta kind) Enter (Tells purpose) p = InText kind purpose
+site_by bytes (AtMeta kind) Enter (TextRole purpose) p = InText kind purpose
 site_by bytes (AtMeta kind) Exit IsFence p = AtEnding kind
-site_by bytes (InText kind purpose) Exit (Tells x) p = text_site kind purpose
+site_by bytes (InText kind purpose) Exit (TextRole x) p = text_site kind purpose
 site_by bytes (AtEnding kind) Exit IsEnding p = ending_site bytes p kind (AtEnding kind)
-site_by bytes (AtEnding kind) Exit (Opens x) p = Outside
-site_by bytes (AtLine kind) Enter (Tells AsLine) p = InText kind AsLine
+site_by bytes (AtEnding kind) Exit (LeafRole x) p = Outside
+site_by bytes (AtLine kind) Enter (TextRole AsLine) p = InText kind AsLine
 site_by bytes (AtLine kind) Enter IsFence p = AtEnd kind
-site_by bytes (AtLine kind) Exit (Opens x) p = Outside
-site_by bytes (AtEnd kind) Enter (Tells AsMarkers) p = InEnd kind
-site_by bytes (AtEnd kind) Exit (Opens x) p = Outside
-site_by bytes (InEnd kind) Exit (Tells AsMarkers) p = AtEnd kind
-site_by bytes AtTitle Enter (Tells x) p = InTitle
-site_by bytes InTitle Exit (Tells x) p = BehindTitle
-site_by bytes BehindTitle Enter (Tells x) p = InUnderline
-site_by bytes InUnderline Exit (Tells x) p = BehindUnderline
-site_by bytes BehindUnderline Exit (Opens x) p = Outside
-site_by bytes InAtxText Exit (Tells x) p = Outside
-site_by bytes AtLabel Enter (Tells x) p = InPart LabelPart p
+site_by bytes (AtLine kind) Exit (LeafRole x) p = Outside
+site_by bytes (AtEnd kind) Enter (TextRole AsMarkers) p = InEnd kind
+site_by bytes (AtEnd kind) Exit (LeafRole x) p = Outside
+site_by bytes (InEnd kind) Exit (TextRole AsMarkers) p = AtEnd kind
+site_by bytes AtTitle Enter (TextRole x) p = InTitle
+site_by bytes InTitle Exit (TextRole x) p = BehindTitle
+site_by bytes BehindTitle Enter (TextRole x) p = InUnderline
+site_by bytes InUnderline Exit (TextRole x) p = BehindUnderline
+site_by bytes BehindUnderline Exit (LeafRole x) p = Outside
+site_by bytes InAtxText Exit (TextRole x) p = Outside
+site_by bytes AtLabel Enter (TextRole x) p = InPart LabelPart p
 site_by bytes (InPart part q) Enter IsPrefix p = InParted part
-site_by bytes (InPart part q) Exit (Tells x) p = part_site part
-site_by bytes (InParted part) Exit (Tells x) p = part_site part
-site_by bytes (BehindPart left) Enter (Tells x) p = InDestination
+site_by bytes (InPart part q) Exit (TextRole x) p = part_site part
+site_by bytes (InParted part) Exit (TextRole x) p = part_site part
+site_by bytes (BehindPart left) Enter (TextRole x) p = InDestination
 site_by bytes (BehindPart left) Enter IsTitle p = AtTitleText
-site_by bytes (BehindPart left) Exit (Opens x) p = Outside
-site_by bytes InDestination Exit (Tells x) p = BehindPart TitleLeft
-site_by bytes AtTitleText Enter (Tells x) p = InPart TitlePart p
+site_by bytes (BehindPart left) Exit (LeafRole x) p = Outside
+site_by bytes InDestination Exit (TextRole x) p = BehindPart TitleLeft
+site_by bytes AtTitleText Enter (TextRole x) p = InPart TitlePart p
 site_by bytes AtTitleText Exit IsTitle p = BehindPart NoneLeft
 site_by bytes BehindTitleText Exit IsTitle p = BehindPart NoneLeft
 site_by bytes (InTable spot) kind x p = table_site (spot_by spot kind x)
@@ -193,81 +193,81 @@ MayHaveTitle _ = Unit {0}
 
 -- what may stand there; no prefix stands in the first line of a text of a definition
 abbrev pub MayStand : List ℕ → Site → Kind → Role → Point → Type 0
-MayStand bytes Outside Enter (Opens x) p = Unit {0}
-MayStand bytes Outside Exit (Opens OfCode) p = ⊥
-MayStand bytes Outside Exit (Opens OfFence) p = ⊥
-MayStand bytes Outside Exit (Opens OfMath) p = ⊥
-MayStand bytes Outside Exit (Opens OfHtml) p = ⊥
-MayStand bytes Outside Exit (Opens OfHeadingSetext) p = ⊥
-MayStand bytes Outside Exit (Opens OfDefinition) p = ⊥
-MayStand bytes Outside Exit (Opens OfTable) p = ⊥
-MayStand bytes Outside Exit (Opens OfFrontmatter) p = ⊥
-MayStand bytes Outside Exit (Tells AsHeading) p = ⊥
+MayStand bytes Outside Enter (LeafRole x) p = Unit {0}
+MayStand bytes Outside Exit (LeafRole OfCode) p = ⊥
+MayStand bytes Outside Exit (LeafRole OfFence) p = ⊥
+MayStand bytes Outside Exit (LeafRole OfMath) p = ⊥
+MayStand bytes Outside Exit (LeafRole OfHtml) p = ⊥
+MayStand bytes Outside Exit (LeafRole OfHeadingSetext) p = ⊥
+MayStand bytes Outside Exit (LeafRole OfDefinition) p = ⊥
+MayStand bytes Outside Exit (LeafRole OfTable) p = ⊥
+MayStand bytes Outside Exit (LeafRole OfFrontmatter) p = ⊥
+MayStand bytes Outside Exit (TextRole AsHeading) p = ⊥
 MayStand bytes Outside kind IsFence p = ⊥
 MayStand bytes Outside kind IsTitle p = ⊥
 MayStand bytes Outside kind IsRow p = ⊥
 MayStand bytes Outside kind IsCell p = ⊥
-MayStand bytes Outside kind (Tells AsLine) p = ⊥
-MayStand bytes Outside kind (Tells AsInfo) p = ⊥
-MayStand bytes Outside kind (Tells AsMeta) p = ⊥
-MayStand bytes Outside kind (Tells AsLabel) p = ⊥
-MayStand bytes Outside kind (Tells AsDestination) p = ⊥
-MayStand bytes Outside kind (Tells AsTitle) p = ⊥
-MayStand bytes Outside kind (Tells AsCell) p = ⊥
-MayStand bytes Outside kind (Tells AsDelimiter) p = ⊥
+MayStand bytes Outside kind (TextRole AsLine) p = ⊥
+MayStand bytes Outside kind (TextRole AsInfo) p = ⊥
+MayStand bytes Outside kind (TextRole AsMeta) p = ⊥
+MayStand bytes Outside kind (TextRole AsLabel) p = ⊥
+MayStand bytes Outside kind (TextRole AsDestination) p = ⊥
+MayStand bytes Outside kind (TextRole AsTitle) p = ⊥
+MayStand bytes Outside kind (TextRole AsCell) p = ⊥
+MayStand bytes Outside kind (TextRole AsDelimiter) p = ⊥
 MayStand bytes Outside kind x p = Unit {0}
 MayStand bytes (InTable spot) kind x p = MayBe spot kind x
 MayStand bytes site kind IsQuiet p = Unit {0}
 MayStand bytes (AtMarkers kind) Enter IsFence p = Unit {0}
-MayStand bytes (AtMarkers kind) Enter (Tells AsMarkers) p = Unit {0}
-MayStand bytes (InMarkers kind q) Exit (Tells AsMarkers) p =
+MayStand bytes (AtMarkers kind) Enter (TextRole AsMarkers) p = Unit {0}
+MayStand bytes (InMarkers kind q) Exit (TextRole AsMarkers) p =
     (first_byte (slice_range bytes (byte_at q) p.index) == 0) ≡ false
-MayStand bytes (AtInfo kind) Enter (Tells AsInfo) p = HasInfo kind
-MayStand bytes (AtInfo kind) Enter (Tells AsMeta) p = HasMeta kind
+MayStand bytes (AtInfo kind) Enter (TextRole AsInfo) p = HasInfo kind
+MayStand bytes (AtInfo kind) Enter (TextRole AsMeta) p = HasMeta kind
 MayStand bytes (AtInfo kind) Exit IsFence p = Unit {0}
-MayStand bytes (AtMeta kind) Enter (Tells AsMeta) p = Unit {0}
+MayStand bytes (AtMeta kind) Enter (TextRole AsMeta) p = Unit {0}
 MayStand bytes (AtMeta kind) Exit IsFence p = Unit {0}
 MayStand bytes (InText kind purpose) x IsEnding p = Unit {0}
-MayStand bytes (InText kind purpose) Exit (Tells x) p = SameText purpose x
+MayStand bytes (InText kind purpose) Exit (TextRole x) p = SameText purpose x
 MayStand bytes (AtEnding kind) x IsPrefix p = Unit {0}
 MayStand bytes (AtEnding kind) x IsEnding p = Unit {0}
 MayStand bytes (AtEnding kind) Exit IsFence p = Unit {0}
-MayStand bytes (AtEnding kind) Exit (Opens x) p = HasLines x
+MayStand bytes (AtEnding kind) Exit (LeafRole x) p = HasLines x
 MayStand bytes (AtLine kind) x IsPrefix p = Unit {0}
 MayStand bytes (AtLine kind) x IsEnding p = Unit {0}
-MayStand bytes (AtLine kind) Enter (Tells AsLine) p = Unit {0}
+MayStand bytes (AtLine kind) Enter (TextRole AsLine) p = Unit {0}
 MayStand bytes (AtLine kind) Enter IsFence p = HasFences kind
-MayStand bytes (AtLine kind) Exit (Opens x) p = HasLines x
-MayStand bytes (AtEnd kind) Enter (Tells AsMarkers) p = Unit {0}
+MayStand bytes (AtLine kind) Exit (LeafRole x) p = HasLines x
+MayStand bytes (AtEnd kind) Enter (TextRole AsMarkers) p = Unit {0}
 MayStand bytes (AtEnd kind) Exit IsFence p = Unit {0}
-MayStand bytes (AtEnd kind) Exit (Opens x) p = HasLines x
-MayStand bytes (InEnd kind) Exit (Tells AsMarkers) p = Unit {0}
-MayStand bytes AtTitle Enter (Tells AsHeading) p = Unit {0}
+MayStand bytes (AtEnd kind) Exit (LeafRole x) p = HasLines x
+MayStand bytes (InEnd kind) Exit (TextRole AsMarkers) p = Unit {0}
+MayStand bytes AtTitle Enter (TextRole AsHeading) p = Unit {0}
 MayStand bytes InTitle x IsPrefix p = Unit {0}
 MayStand bytes InTitle x IsEnding p = Unit {0}
-MayStand bytes InTitle Exit (Tells AsHeading) p = Unit {0}
+MayStand bytes InTitle Exit (TextRole AsHeading) p = Unit {0}
 MayStand bytes BehindTitle x IsPrefix p = Unit {0}
 MayStand bytes BehindTitle x IsEnding p = Unit {0}
-MayStand bytes BehindTitle Enter (Tells AsMarkers) p = Unit {0}
-MayStand bytes InUnderline Exit (Tells AsMarkers) p = Unit {0}
-MayStand bytes BehindUnderline Exit (Opens OfHeadingSetext) p = Unit {0}
+MayStand bytes BehindTitle Enter (TextRole AsMarkers) p = Unit {0}
+MayStand bytes InUnderline Exit (TextRole AsMarkers) p = Unit {0}
+MayStand bytes BehindUnderline Exit (LeafRole OfHeadingSetext) p = Unit {0}
 MayStand bytes InAtxText x IsEnding p = Unit {0}
-MayStand bytes InAtxText Exit (Tells AsHeading) p = Unit {0}
-MayStand bytes AtLabel Enter (Tells AsLabel) p = Unit {0}
+MayStand bytes InAtxText Exit (TextRole AsHeading) p = Unit {0}
+MayStand bytes AtLabel Enter (TextRole AsLabel) p = Unit {0}
 MayStand bytes (InPart part q) Enter IsPrefix p = list_any is_ending (slice_range bytes (byte_at q) p.index) ≡ true
 MayStand bytes (InPart part q) x IsEnding p = Unit {0}
-MayStand bytes (InPart part q) Exit (Tells x) p = IsOfPart part x
+MayStand bytes (InPart part q) Exit (TextRole x) p = IsOfPart part x
 MayStand bytes (InParted part) x IsPrefix p = Unit {0}
 MayStand bytes (InParted part) x IsEnding p = Unit {0}
-MayStand bytes (InParted part) Exit (Tells x) p = IsOfPart part x
+MayStand bytes (InParted part) Exit (TextRole x) p = IsOfPart part x
 MayStand bytes (BehindPart left) x IsPrefix p = Unit {0}
 MayStand bytes (BehindPart left) x IsEnding p = Unit {0}
-MayStand bytes (BehindPart left) Enter (Tells AsDestination) p = MayHaveDestination left
+MayStand bytes (BehindPart left) Enter (TextRole AsDestination) p = MayHaveDestination left
 MayStand bytes (BehindPart left) Enter IsTitle p = MayHaveTitle left
-MayStand bytes (BehindPart left) Exit (Opens OfDefinition) p = Unit {0}
+MayStand bytes (BehindPart left) Exit (LeafRole OfDefinition) p = Unit {0}
 MayStand bytes InDestination x IsEnding p = Unit {0}
-MayStand bytes InDestination Exit (Tells AsDestination) p = Unit {0}
-MayStand bytes AtTitleText Enter (Tells AsTitle) p = Unit {0}
+MayStand bytes InDestination Exit (TextRole AsDestination) p = Unit {0}
+MayStand bytes AtTitleText Enter (TextRole AsTitle) p = Unit {0}
 MayStand bytes AtTitleText Exit IsTitle p = Unit {0}
 MayStand bytes BehindTitleText Exit IsTitle p = Unit {0}
 MayStand bytes site kind x p = ⊥

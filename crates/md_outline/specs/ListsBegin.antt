@@ -9,11 +9,11 @@ use Rattle.md_engine.specs.declared.event.Event.{Event}
 use Rattle.md_engine.specs.declared.event.Kind.{Kind}
 use Rattle.md_engine.specs.declared.event.Kind.TheVariants.{Enter, Exit}
 use Rattle.md_engine.specs.declared.event.Point.{Point}
-use Rattle.md_definition.specs.Containers.{is_bullet}
-use Rattle.md_definition.specs.Texts.{first_byte}
-use Rattle.md_seam.specs.Events.Spelled.{AsDigits, AsFootnoteLabel, AsItemMarker, FootnoteShape, Holds, IsEnding}
+use Rattle.md_meaning.specs.Containers.{is_bullet}
+use Rattle.md_meaning.specs.Texts.{first_byte}
+use Rattle.md_seam.specs.Events.Spelled.{AsDigits, AsFootnoteLabel, AsItemMarker, FootnoteShape, ContainerRole, IsEnding}
 use Rattle.md_seam.specs.Events.Spelled.{IsPrefix, IsQuiet, ItemShape, OrderedShape, Role, Shape}
-use Rattle.md_seam.specs.Events.Spelled.{Tells, UnorderedShape, byte_at, is_ordered, role}
+use Rattle.md_seam.specs.Events.Spelled.{TextRole, UnorderedShape, byte_at, is_ordered, role}
 
 -- whether a byte is the marker of items of such a list (CommonMark 5.2)
 abbrev pub marks : Shape → ℕ → Bool
@@ -37,34 +37,34 @@ pub data Stage : Type 0 where
 -- what may stand there: an item whose marker is not told yet, what stands in front of a marker, and one of such a list;
 -- and in front of the label of a footnote definition and in it no block begins or ends
 abbrev pub MayFollow : List ℕ → Stage → Kind → Role → Point → Type 0
-MayFollow bytes AllTold kind (Tells AsFootnoteLabel) p = ⊥
+MayFollow bytes AllTold kind (TextRole AsFootnoteLabel) p = ⊥
 MayFollow bytes AllTold kind x p = Unit {0}
-MayFollow bytes (AtItem shape) Enter (Holds (ItemShape marker digits)) p = marker ≡ 0
+MayFollow bytes (AtItem shape) Enter (ContainerRole (ItemShape marker digits)) p = marker ≡ 0
 MayFollow bytes (AtItem shape) _ _ p = ⊥
 MayFollow bytes (AtMarker shape) kind IsQuiet p = Unit {0}
-MayFollow bytes (AtMarker shape) kind (Tells AsDigits) p = Unit {0}
-MayFollow bytes (AtMarker shape) Enter (Tells AsItemMarker) p = Unit {0}
+MayFollow bytes (AtMarker shape) kind (TextRole AsDigits) p = Unit {0}
+MayFollow bytes (AtMarker shape) Enter (TextRole AsItemMarker) p = Unit {0}
 MayFollow bytes (AtMarker shape) _ _ p = ⊥
-MayFollow bytes (InMarker shape q) Exit (Tells AsItemMarker) p =
+MayFollow bytes (InMarker shape q) Exit (TextRole AsItemMarker) p =
     marks shape (first_byte (slice_range bytes (byte_at q) p.index)) ≡ true
 MayFollow bytes (InMarker shape q) _ _ p = ⊥
 MayFollow bytes AtLabel kind IsPrefix p = Unit {0}
 MayFollow bytes AtLabel kind IsEnding p = Unit {0}
 MayFollow bytes AtLabel kind IsQuiet p = Unit {0}
-MayFollow bytes AtLabel kind (Tells AsFootnoteLabel) p = Unit {0}
+MayFollow bytes AtLabel kind (TextRole AsFootnoteLabel) p = Unit {0}
 MayFollow bytes AtLabel _ _ p = ⊥
 
 -- what is to come behind an event
 abbrev pub stage_by : Stage → Kind → Role → Point → Stage
-stage_by AllTold Enter (Holds OrderedShape) p = AtItem OrderedShape
-stage_by AllTold Enter (Holds UnorderedShape) p = AtItem UnorderedShape
-stage_by AllTold Enter (Holds (FootnoteShape label)) p = AtLabel
+stage_by AllTold Enter (ContainerRole OrderedShape) p = AtItem OrderedShape
+stage_by AllTold Enter (ContainerRole UnorderedShape) p = AtItem UnorderedShape
+stage_by AllTold Enter (ContainerRole (FootnoteShape label)) p = AtLabel
 stage_by AllTold _ _ p = AllTold
 stage_by (AtItem shape) kind x p = AtMarker shape
-stage_by (AtMarker shape) Enter (Tells AsItemMarker) p = InMarker shape p
+stage_by (AtMarker shape) Enter (TextRole AsItemMarker) p = InMarker shape p
 stage_by (AtMarker shape) _ _ p = AtMarker shape
 stage_by (InMarker shape q) kind x p = AllTold
-stage_by AtLabel Exit (Tells AsFootnoteLabel) p = AllTold
+stage_by AtLabel Exit (TextRole AsFootnoteLabel) p = AllTold
 stage_by AtLabel kind x p = AtLabel
 
 -- whether lists and footnote definitions begin so from a stage on

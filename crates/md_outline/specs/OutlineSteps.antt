@@ -6,10 +6,10 @@ use Rattle.md_engine.specs.declared.event.Event.{Event}
 use Rattle.md_engine.specs.declared.event.Kind.{Kind}
 use Rattle.md_engine.specs.declared.event.Kind.TheVariants.{Enter, Exit}
 use Rattle.md_engine.specs.declared.event.Point.{Point}
-use Rattle.md_definition.specs.Outline.{Entry, entries_of, entry, entry_with}
-use Rattle.md_definition.specs.Texts.{first_byte}
-use Rattle.md_definition.specs.declared.outline.Word.{Word}
-use Rattle.md_definition.specs.declared.outline.Word.TheVariants as word
+use Rattle.md_meaning.specs.Outline.{Entry, entries_of, entry, entry_with}
+use Rattle.md_meaning.specs.Texts.{first_byte}
+use Rattle.md_meaning.specs.declared.outline.Word.{Word}
+use Rattle.md_meaning.specs.declared.outline.Word.TheVariants as word
 use Rattle.md_seam.specs.Events.Spelled.{OpenLeaf}
 use Rattle.md_seam.specs.Events.Spelled as spelled
 use Rattle.md_outline.specs.Between.{is_between}
@@ -22,7 +22,7 @@ use Rattle.md_outline.specs.Roles.{leaf_entries, leaf_of, noted, shown_as}
 use Rattle.md_outline.specs.TableState.{cell_told, counted_word, with_cell, with_delimiter, with_row}
 use Rattle.md_outline.specs.TextLines.{full_entries, text_entries}
 use Rattle.md_outline.specs.declared.outline.Reading.{Reading}
-use Rattle.md_outline.specs.declared.outline.Span.{Span}
+use Rattle.md_outline.specs.declared.outline.TextSpan.{TextSpan}
 use Rattle.md_outline.specs.declared.outline.lined.Lined.{Lined}
 use Rattle.md_outline.specs.declared.outline.role.Note.{Note}
 use Rattle.md_outline.specs.declared.outline.role.Note.TheVariants as note
@@ -36,7 +36,7 @@ use Rattle.md_outline.specs.declared.outline.role.Role.TheVariants as role
 pub record OutlineState : Type 0 where
   pub depth : ℕ
   pub leaf : Option OpenLeaf
-  pub text : Option Span
+  pub text : Option TextSpan
   -- the virtual spaces in front of it
   pub spaces : ℕ
   -- the leaf block of several lines that is open
@@ -106,7 +106,7 @@ fence_begun (Some lined) s =
     if lined.is_fenced then record s { lines = with_head closed_word lined.place (without_end s.lines) } else s
 
 -- a line ending opens a line of it if its lines are its own, the text goes on behind that, and no text is read
-abbrev pub line_ended : List ℕ → ℕ → Option Lined → Option Span → OutlineState → OutlineState
+abbrev pub line_ended : List ℕ → ℕ → Option Lined → Option TextSpan → OutlineState → OutlineState
 line_ended bytes end None text s = s
 line_ended bytes end (Some lined) (Some text) s = s
 line_ended bytes end (Some lined) None s =
@@ -158,7 +158,7 @@ told purpose.Marker is_shown text s = told_marker text s
 told purpose.Digits is_shown text s = s
 told purpose.FootnoteLabel is_shown text s = record s { lines = label_told s.depth text s.lines }
 
-abbrev pub told_at : List ℕ → Purpose → ℕ → Option Span → OutlineState → OutlineState
+abbrev pub told_at : List ℕ → Purpose → ℕ → Option TextSpan → OutlineState → OutlineState
 told_at bytes purpose end None s = s
 told_at bytes purpose end (Some text) s =
     told purpose text.is_parted (slice_range bytes text.from end) (record s { text = None })
@@ -170,7 +170,7 @@ piece_shown None is_begun is_parted depth text lines =
 piece_shown (Some w) is_begun is_parted depth text lines = part_parted w is_parted (depth + 1) text lines
 
 -- a prefix begins
-abbrev pub parted_at : List ℕ → ℕ → Option Span → OutlineState → OutlineState
+abbrev pub parted_at : List ℕ → ℕ → Option TextSpan → OutlineState → OutlineState
 parted_at bytes end None s = s
 parted_at bytes end (Some text) s = record s {
   text = Some (record text { is_parted = true });
@@ -213,7 +213,7 @@ state_exit bytes (role.Container word) p s = record s { depth = s.depth - 1 }
 state_exit bytes role.List p s = record s { depth = s.depth - 1 }
 state_exit bytes role.Prefix p s = record s {
   text = option_map
-      (λ (t : Span). record t { from = spelled.byte_at p }) s.text;
+      (λ (t : TextSpan). record t { from = spelled.byte_at p }) s.text;
 }
 state_exit bytes (role.Leaf leaf) p s = leaf_ended s.leaf s
 state_exit bytes (role.Lined w) p s = record s { lined = None }
@@ -234,18 +234,18 @@ state_after bytes s [] = s
 state_after bytes s (e ∷ es) = state_after bytes (state_by bytes e.kind (shown_as (spelled.role e.name)) e.point s) es
 
 -- the text that is read begins, or goes on, between characters
-abbrev pub BeginsBetween : List ℕ → Option Span → Type 0
+abbrev pub BeginsBetween : List ℕ → Option TextSpan → Type 0
 BeginsBetween bytes None = Unit {0}
 BeginsBetween bytes (Some text) = is_between bytes text.from ≡ true
 
 -- and it may be cut here: each part is UTF-8
-pub record IsCutAt (bytes : List ℕ) (text : Option Span) (end : ℕ) : Type 0 where
+pub record IsCutAt (bytes : List ℕ) (text : Option TextSpan) (end : ℕ) : Type 0 where
   pub utf8 : IsUtf8 bytes
   pub begins : BeginsBetween bytes text
   pub ends : is_between bytes end ≡ true
 
 -- where the tree reads the point of an event, it may
-abbrev pub IsCutBy : Role → List ℕ → Option Span → ℕ → Type 0
+abbrev pub IsCutBy : Role → List ℕ → Option TextSpan → ℕ → Type 0
 IsCutBy role.Ending bytes text end = Unit {0}
 IsCutBy role.Quiet bytes text end = Unit {0}
 IsCutBy _ bytes text end = IsCutAt bytes text end

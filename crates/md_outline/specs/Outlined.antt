@@ -7,20 +7,20 @@ use Rattle.md_engine.specs.declared.event.Event.{Event}
 use Rattle.md_engine.specs.declared.event.Kind.{Kind}
 use Rattle.md_engine.specs.declared.event.Kind.TheVariants.{Enter, Exit}
 use Rattle.md_engine.specs.declared.event.Point.{Point}
-use Rattle.md_definition.specs.declared.outline.OutlineLine.{OutlineLine}
-use Rattle.md_definition.specs.Lines.{begins_with}
+use Rattle.md_meaning.specs.declared.outline.OutlineLine.{OutlineLine}
+use Rattle.md_meaning.specs.Lines.{begins_with}
 use Rattle.md_seam.specs.Events.Nested.{Balanced}
-use Rattle.md_definition.specs.Outline.{entries_of, outline}
+use Rattle.md_meaning.specs.Outline.{entries_of, outline}
 use Rattle.md_seam.specs.Events.Places.{last_line}
-use Rattle.md_definition.specs.Rest.{is_blank}
-use Rattle.md_seam.specs.Events.Spelled.{IsEnding, IsPrefix, IsQuiet, Opens, Role, Tells, byte_at, role, spelled}
-use Rattle.md_definition.specs.Texts.{split_lines}
+use Rattle.md_meaning.specs.Rest.{is_blank}
+use Rattle.md_seam.specs.Events.Spelled.{IsEnding, IsPrefix, IsQuiet, LeafRole, Role, TextRole, byte_at, role, spelled}
+use Rattle.md_meaning.specs.Texts.{split_lines}
 use Rattle.md_outline.specs.Between.{is_between}
 use Rattle.md_outline.specs.HeadingDepths.{are_shallow}
 use Rattle.md_outline.specs.ListsBegin.{AllTold, ListsBegin}
 use Rattle.md_outline.specs.LinesStand.{LinesStand, Outside}
 use Rattle.md_outline.specs.Roles.{has_lines, is_seen, is_shown, is_told, is_unlisted, may_part, shown_as}
-use Rattle.md_outline.specs.declared.outline.Span.{Span}
+use Rattle.md_outline.specs.declared.outline.TextSpan.{TextSpan}
 
 -- whether an event is of such a block, or of what the tree does not show
 abbrev pub has_shown_name : Event → Bool
@@ -43,35 +43,35 @@ tells_between bytes e = not (is_told (role e.name)) || is_between bytes (byte_at
 -- has to lie in one piece.
 
 -- a text that is read, as other crates can name it
-abbrev pub TextSpan : Type 0
-TextSpan = Span
+abbrev pub OpenTextSpan : Type 0
+OpenTextSpan = TextSpan
 
 -- the text that is read behind an event: where it begins, or goes on behind the last prefix in it, and whether there is
 -- one
-abbrev pub span_enter : Role → Point → Option Span → Option Span
-span_enter (Tells purpose) p text = Some (record { from = byte_at p; is_parted = false })
-span_enter IsPrefix p text = option_map (λ (t : Span). record t { is_parted = true }) text
+abbrev pub span_enter : Role → Point → Option TextSpan → Option TextSpan
+span_enter (TextRole purpose) p text = Some (record { from = byte_at p; is_parted = false })
+span_enter IsPrefix p text = option_map (λ (t : TextSpan). record t { is_parted = true }) text
 span_enter _ p text = text
 
-abbrev pub span_exit : Role → Point → Option Span → Option Span
-span_exit (Tells purpose) p text = None
-span_exit IsPrefix p text = option_map (λ (t : Span). record t { from = byte_at p }) text
+abbrev pub span_exit : Role → Point → Option TextSpan → Option TextSpan
+span_exit (TextRole purpose) p text = None
+span_exit IsPrefix p text = option_map (λ (t : TextSpan). record t { from = byte_at p }) text
 span_exit _ p text = text
 
-abbrev pub span_by : Kind → Role → Point → Option Span → Option Span
+abbrev pub span_by : Kind → Role → Point → Option TextSpan → Option TextSpan
 span_by Enter x p text = span_enter x p text
 span_by Exit x p text = span_exit x p text
 
 -- the piece of a text that ends at a point
-abbrev pub piece_to : List ℕ → Point → Span → List ℕ
+abbrev pub piece_to : List ℕ → Point → TextSpan → List ℕ
 piece_to bytes p text = slice_range bytes text.from p.index
 
 -- whether a piece is the first, or begins with no line feed: one behind a carriage return would end the same line
-abbrev pub begins_line : Span → List ℕ → Bool
+abbrev pub begins_line : TextSpan → List ℕ → Bool
 begins_line text piece = not text.is_parted || not (begins_with 10 piece)
 
 -- whether no text is read that has a prefix in it
-abbrev pub is_unparted : Option Span → Bool
+abbrev pub is_unparted : Option TextSpan → Bool
 is_unparted None = true
 is_unparted (Some text) = not text.is_parted
 
@@ -79,28 +79,28 @@ is_unparted (Some text) = not text.is_parted
 -- it, and ends between characters; no text is parted but one that is a block, the text of a heading, or the label or
 -- title of a definition, and from its first prefix to its end nothing else begins or ends that the tree shows; and no
 -- leaf block of several lines begins in a text
-abbrev pub parts_enter : List ℕ → Role → Point → Span → Bool
+abbrev pub parts_enter : List ℕ → Role → Point → TextSpan → Bool
 parts_enter bytes IsPrefix p text =
     begins_line text (piece_to bytes p text) && is_blank (last_line (split_lines (piece_to bytes p text)))
 parts_enter bytes IsEnding p text = true
 parts_enter bytes IsQuiet p text = true
-parts_enter bytes (Opens kind) p text = not (has_lines kind) && not text.is_parted
+parts_enter bytes (LeafRole kind) p text = not (has_lines kind) && not text.is_parted
 parts_enter bytes _ p text = not text.is_parted
 
-abbrev pub parts_exit : List ℕ → Role → Point → Span → Bool
+abbrev pub parts_exit : List ℕ → Role → Point → TextSpan → Bool
 parts_exit bytes IsPrefix p text = is_between bytes (byte_at p)
-parts_exit bytes (Tells x) p text = if may_part x then begins_line text (piece_to bytes p text) else not text.is_parted
+parts_exit bytes (TextRole x) p text = if may_part x then begins_line text (piece_to bytes p text) else not text.is_parted
 parts_exit bytes IsEnding p text = true
 parts_exit bytes IsQuiet p text = true
 parts_exit bytes _ p text = not text.is_parted
 
-abbrev pub parts_by : List ℕ → Kind → Role → Point → Option Span → Bool
+abbrev pub parts_by : List ℕ → Kind → Role → Point → Option TextSpan → Bool
 parts_by bytes kind x p None = true
 parts_by bytes Enter x p (Some text) = parts_enter bytes x p text
 parts_by bytes Exit x p (Some text) = parts_exit bytes x p text
 
 -- whether all these events do, with this text read before them, and each text that is parted ends
-abbrev pub are_parted : List ℕ → Option Span → List Event → Bool
+abbrev pub are_parted : List ℕ → Option TextSpan → List Event → Bool
 are_parted bytes text [] = is_unparted text
 are_parted bytes text (e ∷ es) =
     parts_by bytes e.kind (role e.name) e.point text && are_parted bytes (span_by e.kind (role e.name) e.point text) es

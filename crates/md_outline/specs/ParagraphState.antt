@@ -1,7 +1,7 @@
 -- A text that is a block of its own, and what an outline shows of it in front of its lines.
 use Rattle.std.specs.Prelude.{ℕ, Bool, if◌then◌else◌, List, [], ◌∷◌}
-use Rattle.md_definition.specs.declared.outline.Word.TheVariants as word
-use Rattle.md_definition.specs.Outline.{Entry, entry}
+use Rattle.md_meaning.specs.declared.outline.Word.TheVariants as word
+use Rattle.md_meaning.specs.Outline.{Entry, entry}
 
 -- its begin, if it is not shown yet
 abbrev pub begin_entries : ℕ → Bool → List Entry

@@ -17,16 +17,16 @@
 --   whose lines are shown without virtual spaces.
 -- - A text that tells a leaf block something: the same, and `told_as` here, `Note` in code.
 use Rattle.std.specs.Prelude.{ℕ, Bool, true, false, List, None}
-use Rattle.md_definition.specs.declared.outline.Word.TheVariants as word
-use Rattle.md_definition.specs.Outline.{Entry, block_entries}
+use Rattle.md_meaning.specs.declared.outline.Word.TheVariants as word
+use Rattle.md_meaning.specs.Outline.{Entry, block_entries}
 use Rattle.md_seam.specs.Events.Spelled.{AsCell, AsDelimiter, AsDestination, AsDigits, AsFootnoteLabel, AsHeading}
 use Rattle.md_seam.specs.Events.Spelled.{AsInfo, AsItemMarker}
 use Rattle.md_seam.specs.Events.Spelled.{AsLabel, AsLine, AsMarkers, AsMeta, AsParagraph, AsTitle, BreakLeaf}
-use Rattle.md_seam.specs.Events.Spelled.{FootnoteShape, HeadingAtxLeaf, Holds, IsCell, IsEnding, IsFence, IsPrefix}
+use Rattle.md_seam.specs.Events.Spelled.{FootnoteShape, HeadingAtxLeaf, ContainerRole, IsCell, IsEnding, IsFence, IsPrefix}
 use Rattle.md_seam.specs.Events.Spelled.{IsQuiet, IsRow, IsTitle, ItemShape, LeafKind, OfBreak, OfCode, OfDefinition}
 use Rattle.md_seam.specs.Events.Spelled.{OfFence, OfFrontmatter, OfHeadingAtx, OfHeadingSetext, OfHtml, OfMath, OfTable}
-use Rattle.md_seam.specs.Events.Spelled.{OpenLeaf, Opens, OrderedShape, QuoteShape}
-use Rattle.md_seam.specs.Events.Spelled.{Tells, UnorderedShape, block_of}
+use Rattle.md_seam.specs.Events.Spelled.{OpenLeaf, LeafRole, OrderedShape, QuoteShape}
+use Rattle.md_seam.specs.Events.Spelled.{TextRole, UnorderedShape, block_of}
 use Rattle.md_seam.specs.Events.Spelled as spelled
 use Rattle.md_seam.specs.Events.Told.{OfItself, told_of}
 pub use Rattle.md_seam.specs.Events.Told.{is_told}
@@ -43,25 +43,25 @@ use Rattle.md_outline.specs.declared.outline.role.Role.TheVariants as role
 -- the roles of breaks, ATX headings without their texts, paragraphs, block quotes, items and footnote definitions, and
 -- of what the tree does not show
 abbrev pub is_plain : spelled.Role → Bool
-is_plain (Holds QuoteShape) = true
-is_plain (Holds (ItemShape marker digits)) = true
-is_plain (Holds (FootnoteShape label)) = true
+is_plain (ContainerRole QuoteShape) = true
+is_plain (ContainerRole (ItemShape marker digits)) = true
+is_plain (ContainerRole (FootnoteShape label)) = true
 is_plain IsPrefix = true
-is_plain (Opens OfBreak) = true
-is_plain (Opens OfHeadingAtx) = true
-is_plain (Tells AsParagraph) = true
-is_plain (Tells AsMarkers) = true
-is_plain (Tells AsDigits) = true
-is_plain (Tells AsItemMarker) = true
-is_plain (Tells AsFootnoteLabel) = true
+is_plain (LeafRole OfBreak) = true
+is_plain (LeafRole OfHeadingAtx) = true
+is_plain (TextRole AsParagraph) = true
+is_plain (TextRole AsMarkers) = true
+is_plain (TextRole AsDigits) = true
+is_plain (TextRole AsItemMarker) = true
+is_plain (TextRole AsFootnoteLabel) = true
 is_plain IsEnding = true
 is_plain IsQuiet = true
 is_plain _ = false
 
 -- the plain ones, and those of lists
 abbrev pub is_listed : spelled.Role → Bool
-is_listed (Holds OrderedShape) = true
-is_listed (Holds UnorderedShape) = true
+is_listed (ContainerRole OrderedShape) = true
+is_listed (ContainerRole UnorderedShape) = true
 is_listed x = is_plain x
 
 -- the leaf blocks of several lines that an outline shows
@@ -79,33 +79,33 @@ has_lines _ = false
 -- the plain ones, and those of such leaf blocks, their parts, and the texts of headings, definitions and tables: all
 -- that are shown, but those of lists
 abbrev pub is_unlisted : spelled.Role → Bool
-is_unlisted (Opens OfCode) = true
-is_unlisted (Opens OfFence) = true
-is_unlisted (Opens OfMath) = true
-is_unlisted (Opens OfHtml) = true
-is_unlisted (Opens OfHeadingSetext) = true
-is_unlisted (Opens OfDefinition) = true
-is_unlisted (Opens OfTable) = true
-is_unlisted (Opens OfFrontmatter) = true
+is_unlisted (LeafRole OfCode) = true
+is_unlisted (LeafRole OfFence) = true
+is_unlisted (LeafRole OfMath) = true
+is_unlisted (LeafRole OfHtml) = true
+is_unlisted (LeafRole OfHeadingSetext) = true
+is_unlisted (LeafRole OfDefinition) = true
+is_unlisted (LeafRole OfTable) = true
+is_unlisted (LeafRole OfFrontmatter) = true
 is_unlisted IsFence = true
 is_unlisted IsTitle = true
 is_unlisted IsRow = true
 is_unlisted IsCell = true
-is_unlisted (Tells AsHeading) = true
-is_unlisted (Tells AsLine) = true
-is_unlisted (Tells AsInfo) = true
-is_unlisted (Tells AsMeta) = true
-is_unlisted (Tells AsLabel) = true
-is_unlisted (Tells AsDestination) = true
-is_unlisted (Tells AsTitle) = true
-is_unlisted (Tells AsCell) = true
-is_unlisted (Tells AsDelimiter) = true
+is_unlisted (TextRole AsHeading) = true
+is_unlisted (TextRole AsLine) = true
+is_unlisted (TextRole AsInfo) = true
+is_unlisted (TextRole AsMeta) = true
+is_unlisted (TextRole AsLabel) = true
+is_unlisted (TextRole AsDestination) = true
+is_unlisted (TextRole AsTitle) = true
+is_unlisted (TextRole AsCell) = true
+is_unlisted (TextRole AsDelimiter) = true
 is_unlisted x = is_plain x
 
 -- all that an outline shows
 abbrev pub is_shown : spelled.Role → Bool
-is_shown (Holds OrderedShape) = true
-is_shown (Holds UnorderedShape) = true
+is_shown (ContainerRole OrderedShape) = true
+is_shown (ContainerRole UnorderedShape) = true
 is_shown x = is_unlisted x
 
 -- the texts that are blocks of their own
@@ -121,40 +121,40 @@ may_part purpose = is_block purpose
 
 -- what the events of a name mean to an outline
 abbrev pub shown_as : spelled.Role → Role
-shown_as (Holds QuoteShape) = role.Container word.Quote
-shown_as (Holds OrderedShape) = role.List
-shown_as (Holds UnorderedShape) = role.List
-shown_as (Holds (ItemShape marker digits)) = role.Container word.Item
-shown_as (Holds (FootnoteShape label)) = role.Container word.Footnote
+shown_as (ContainerRole QuoteShape) = role.Container word.Quote
+shown_as (ContainerRole OrderedShape) = role.List
+shown_as (ContainerRole UnorderedShape) = role.List
+shown_as (ContainerRole (ItemShape marker digits)) = role.Container word.Item
+shown_as (ContainerRole (FootnoteShape label)) = role.Container word.Footnote
 shown_as IsPrefix = role.Prefix
-shown_as (Opens OfBreak) = role.Leaf leaf.Break
-shown_as (Opens OfHeadingAtx) = role.Leaf (leaf.Heading (record { markers = None; text = None }))
-shown_as (Tells AsParagraph) = role.Text purpose.Block
-shown_as (Tells AsMarkers) = role.Text purpose.Markers
-shown_as (Tells AsHeading) = role.Text purpose.Title
-shown_as (Tells AsDigits) = role.Text purpose.Digits
-shown_as (Tells AsItemMarker) = role.Text purpose.Marker
-shown_as (Tells AsFootnoteLabel) = role.Text purpose.FootnoteLabel
-shown_as (Opens OfCode) = role.Lined word.Code
-shown_as (Opens OfFence) = role.Lined (word.Fence 0 false)
-shown_as (Opens OfMath) = role.Lined (word.Math false)
-shown_as (Opens OfHtml) = role.Lined word.Html
-shown_as (Opens OfHeadingSetext) = role.Lined (word.Heading 0)
-shown_as (Opens OfDefinition) = role.Lined word.Definition
-shown_as (Opens OfTable) = role.Lined (word.Table 0)
-shown_as (Opens OfFrontmatter) = role.Lined (word.Frontmatter 0)
+shown_as (LeafRole OfBreak) = role.Leaf leaf.Break
+shown_as (LeafRole OfHeadingAtx) = role.Leaf (leaf.Heading (record { markers = None; text = None }))
+shown_as (TextRole AsParagraph) = role.Text purpose.Block
+shown_as (TextRole AsMarkers) = role.Text purpose.Markers
+shown_as (TextRole AsHeading) = role.Text purpose.Title
+shown_as (TextRole AsDigits) = role.Text purpose.Digits
+shown_as (TextRole AsItemMarker) = role.Text purpose.Marker
+shown_as (TextRole AsFootnoteLabel) = role.Text purpose.FootnoteLabel
+shown_as (LeafRole OfCode) = role.Lined word.Code
+shown_as (LeafRole OfFence) = role.Lined (word.Fence 0 false)
+shown_as (LeafRole OfMath) = role.Lined (word.Math false)
+shown_as (LeafRole OfHtml) = role.Lined word.Html
+shown_as (LeafRole OfHeadingSetext) = role.Lined (word.Heading 0)
+shown_as (LeafRole OfDefinition) = role.Lined word.Definition
+shown_as (LeafRole OfTable) = role.Lined (word.Table 0)
+shown_as (LeafRole OfFrontmatter) = role.Lined (word.Frontmatter 0)
 shown_as IsFence = role.Fence
 shown_as IsTitle = role.Title
 shown_as IsRow = role.Row
 shown_as IsCell = role.Cell
-shown_as (Tells AsInfo) = role.Text (purpose.Part word.Info)
-shown_as (Tells AsMeta) = role.Text (purpose.Part word.Meta)
-shown_as (Tells AsLine) = role.Text purpose.Line
-shown_as (Tells AsLabel) = role.Text purpose.Label
-shown_as (Tells AsDestination) = role.Text purpose.Destination
-shown_as (Tells AsTitle) = role.Text purpose.DefinitionTitle
-shown_as (Tells AsCell) = role.Text purpose.Cell
-shown_as (Tells AsDelimiter) = role.Text purpose.Delimiter
+shown_as (TextRole AsInfo) = role.Text (purpose.Part word.Info)
+shown_as (TextRole AsMeta) = role.Text (purpose.Part word.Meta)
+shown_as (TextRole AsLine) = role.Text purpose.Line
+shown_as (TextRole AsLabel) = role.Text purpose.Label
+shown_as (TextRole AsDestination) = role.Text purpose.Destination
+shown_as (TextRole AsTitle) = role.Text purpose.DefinitionTitle
+shown_as (TextRole AsCell) = role.Text purpose.Cell
+shown_as (TextRole AsDelimiter) = role.Text purpose.Delimiter
 shown_as IsEnding = role.Ending
 shown_as _ = role.Quiet
 

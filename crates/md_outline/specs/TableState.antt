@@ -1,10 +1,10 @@
 -- What an outline shows of the rows of a table that stands at a depth: each cell begins with an empty line, which its
 -- text fills, and the line of the table counts the cells of its head.
 use Rattle.std.specs.Prelude.{ℕ, ◌+◌, List, [], ◌∷◌, ◌++◌}
-use Rattle.md_definition.specs.declared.outline.Word.{Word}
-use Rattle.md_definition.specs.declared.outline.Word.TheVariants as word
-use Rattle.md_definition.specs.Outline.{Entry, entry, entry_with}
-use Rattle.md_definition.specs.Rest.{trim}
+use Rattle.md_meaning.specs.declared.outline.Word.{Word}
+use Rattle.md_meaning.specs.declared.outline.Word.TheVariants as word
+use Rattle.md_meaning.specs.Outline.{Entry, entry, entry_with}
+use Rattle.md_meaning.specs.Rest.{trim}
 use Rattle.md_outline.specs.LinedState.{without_end}
 
 -- the word of a table that has one column more

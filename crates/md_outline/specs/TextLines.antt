@@ -1,12 +1,12 @@
 -- The lines of a text, as an outline shows them.
 use Rattle.std.specs.Prelude.{ℕ, ◌&&◌, ◌==◌, not, if◌then◌else◌, List, [], ◌∷◌, drop, take}
 use Rattle.std.specs.List.{prefix_len}
-use Rattle.md_definition.specs.declared.outline.Word.{Word}
-use Rattle.md_definition.specs.declared.outline.Word.TheVariants as word
-use Rattle.md_definition.specs.Lines.{begins_with, is_ending}
-use Rattle.md_definition.specs.Outline.{Entry, entries, entry_with}
+use Rattle.md_meaning.specs.declared.outline.Word.{Word}
+use Rattle.md_meaning.specs.declared.outline.Word.TheVariants as word
+use Rattle.md_meaning.specs.Lines.{begins_with, is_ending}
+use Rattle.md_meaning.specs.Outline.{Entry, entries, entry_with}
 use Rattle.md_seam.specs.Events.Spelled.{without_last}
-use Rattle.md_definition.specs.Texts.{split_lines, trim_each, trim_further}
+use Rattle.md_meaning.specs.Texts.{split_lines, trim_each, trim_further}
 
 -- how many bytes stand before the first line ending
 abbrev pub line_len : List ℕ → ℕ

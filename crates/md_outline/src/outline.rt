@@ -12,7 +12,7 @@ ghost use Rattle.md_outline.specs.OutlineSteps.{head_marked, is_titled, label_en
 ghost use Rattle.md_outline.specs.OutlineSteps.{line_ended, parted_at, state_by, state_enter, state_exit, state_of};
 ghost use Rattle.md_outline.specs.OutlineSteps.{title_told, told_at, told_leaf, told_marker};
 ghost use Rattle.md_outline.specs.Roles.{shown_as};
-ghost use Rattle.md_outline.specs.declared.outline.Span.{Span};
+ghost use Rattle.md_outline.specs.declared.outline.TextSpan.{TextSpan};
 
 mod definition;
 mod footnote;
@@ -32,15 +32,15 @@ use crate::outline::lines::{first_of, next, part, push, push_lines};
 use crate::outline::paragraph::{push_block, push_piece};
 use crate::outline::role::{Leaf, Note, Purpose, Role, push_leaf, role_of};
 use crate::outline::table::{count_column, fill_cell, push_cell, push_delimiter, push_row};
-pub use md_definition::outline::{OutlineLine, Word};
 use md_engine::event::{Event, Kind, Point};
 use md_engine::message::Message;
 use md_engine::parse_state::ParseState;
+pub use md_meaning::outline::{OutlineLine, Word};
 use std::alloc::Global;
 
 /// A text that is read.
 #[derive(Clone, Copy)]
-struct Span {
+struct TextSpan {
     /// Where it begins, or goes on behind the last container prefix in it.
     from: usize,
     /// Whether there is a prefix in it: what stands in front of that is shown.
@@ -54,7 +54,7 @@ struct Reading<'a> {
     /// How many containers are open.
     depth: usize,
     leaf: Option<Leaf<'a>>,
-    text: Option<Span>,
+    text: Option<TextSpan>,
     /// The virtual spaces in front of it.
     spaces: usize,
     /// The leaf block of several lines that is open.
@@ -131,7 +131,7 @@ impl<'a> Reading<'a> {
     }
 
     /// Whether the begin of its block is shown in front of a text.
-    fn is_begun(&self, span: Span) -> bool
+    fn is_begun(&self, span: TextSpan) -> bool
         ensures { result ≡ is_titled self.now.lined || span.is_parted }
     {
         self.is_titled() || span.is_parted
@@ -314,7 +314,7 @@ impl<'a> Reading<'a> {
             return Ok(());
         };
         let text = part(self.bytes, span.from, end);
-        self.text = Some(Span {
+        self.text = Some(TextSpan {
             from: span.from,
             is_parted: true,
         });
@@ -331,10 +331,10 @@ impl<'a> Reading<'a> {
     fn go_on(&mut self, place: usize)
         ensures bytes { self.new.bytes ≡ self.old.bytes }
         ensures read { state_of self.new ≡
-            record (state_of self.old) { text = option_map (λ (t : Span). record t { from = place }) self.old.text } }
+            record (state_of self.old) { text = option_map (λ (t : TextSpan). record t { from = place }) self.old.text } }
     {
-        if let Some(Span { is_parted, .. }) = self.text {
-            self.text = Some(Span {
+        if let Some(TextSpan { is_parted, .. }) = self.text {
+            self.text = Some(TextSpan {
                 from: place,
                 is_parted,
             });
@@ -374,7 +374,7 @@ impl<'a> Reading<'a> {
             Role::Cell => self.begin_cell()?,
             Role::Text(_) => {
                 self.spaces = spaces_at(point);
-                self.text = Some(Span {
+                self.text = Some(TextSpan {
                     from: byte_at(point)?,
                     is_parted: false,
                 });

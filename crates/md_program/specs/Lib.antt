@@ -2,4 +2,4 @@ pub mod Ends
 pub mod Listing
 pub mod Printed
 pub mod Sets
-pub use Rattle.md_definition.specs.Outline
+pub use Rattle.md_meaning.specs.Outline

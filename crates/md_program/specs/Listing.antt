@@ -1,6 +1,6 @@
 -- What the program prints of a text.
 use Rattle.std.specs.Prelude.{ℕ, List, map, string_bytes}
-use Rattle.md_definition.specs.Outline.{Entry, entries_of}
+use Rattle.md_meaning.specs.Outline.{Entry, entries_of}
 use Rattle.md_program.specs.declared.body.Outlined.{Outlined}
 
 -- the lines of an outline, and the labels of definitions and footnotes

@@ -3,12 +3,12 @@ use Rattle.std.specs.Prelude.{◌≡◌, ℕ, Bool, true, false, List, [], ◌�
 use Rattle.std.specs.List.{flat_map, repeat}
 use Rattle.std.specs.Fmt.{decimal}
 use Rattle.md_engine.specs.declared.configuration.ParseOptions.{ParseOptions}
-use Rattle.md_definition.specs.Outline.{Entry}
-use Rattle.md_definition.specs.declared.outline.Word.{Word}
-use Rattle.md_definition.specs.declared.outline.Word.TheVariants.{Frontmatter, Heading, Break, Code, Fence, Math, Html}
-use Rattle.md_definition.specs.declared.outline.Word.TheVariants.{Definition, Paragraph, Table, Row, Quote}
-use Rattle.md_definition.specs.declared.outline.Word.TheVariants.{List as ListOf, Item, Footnote, Line, Info, Meta}
-use Rattle.md_definition.specs.declared.outline.Word.TheVariants.{Label, Destination, Title, Delimiter, Cell}
+use Rattle.md_meaning.specs.Outline.{Entry}
+use Rattle.md_meaning.specs.declared.outline.Word.{Word}
+use Rattle.md_meaning.specs.declared.outline.Word.TheVariants.{Frontmatter, Heading, Break, Code, Fence, Math, Html}
+use Rattle.md_meaning.specs.declared.outline.Word.TheVariants.{Definition, Paragraph, Table, Row, Quote}
+use Rattle.md_meaning.specs.declared.outline.Word.TheVariants.{List as ListOf, Item, Footnote, Line, Info, Meta}
+use Rattle.md_meaning.specs.declared.outline.Word.TheVariants.{Label, Destination, Title, Delimiter, Cell}
 use Rattle.md_program.specs.Listing.{Listing}
 
 -- a line feed

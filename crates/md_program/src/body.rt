@@ -4,9 +4,9 @@ ghost use Rattle.md_engine.specs.declared.configuration.ParseOptions.{ParseOptio
 ghost use Rattle.md_program.specs.Listing.{Listing, listing_of};
 ghost use Rattle.md_program.specs.Sets.{IsWithoutMdx};
 
-use md_definition::outline::OutlineLine;
 use md_engine::configuration::ParseOptions;
 use md_engine::message::Message;
+use md_meaning::outline::OutlineLine;
 use std::alloc::Global;
 
 /// The most bytes that a text may have.

@@ -1,14 +1,14 @@
 // The printed form of an outline.
-ghost use Rattle.std.specs.Prelude.{◌≡◌, ◌++◌, OnOk, IfOk, Bool, List, ℕ, map, codes, string_bytes, encode_utf8};
+ghost use Rattle.std.specs.Prelude.{◌≡◌, ◌++◌, OnOk, IfOk, List, map, codes, string_bytes, encode_utf8};
 ghost use Rattle.std.specs.List.{flat_map, repeat};
 ghost use Rattle.md_program.specs.Listing.{listing_of};
-ghost use Rattle.md_definition.specs.Outline.{entry_of};
+ghost use Rattle.md_meaning.specs.Outline.{entry_of};
 ghost use Rattle.md_program.specs.Printed.{head, open_mark, printed, printed_labels, printed_line};
 
 use crate::body::Outlined;
 use crate::streams::ROOM;
-use md_definition::outline::{OutlineLine, Word};
 use md_engine::message::Message;
+use md_meaning::outline::{OutlineLine, Word};
 use std::alloc::{AllocError, Global};
 
 /// The whole output: the outline with two spaces a depth, an empty line, and the two lists of labels.

@@ -5,7 +5,7 @@ use Rattle.md_engine.specs.declared.configuration.ParseOptions.{ParseOptions}
 use Rattle.md_engine.specs.declared.event.Point.{Point}
 use Rattle.md_engine.specs.Meaning.{Cell}
 use Rattle.md_seam.specs.Ahead.{begins_white, from_ending, line_end, white_end, white_rest, white_size}
-use Rattle.md_definition.specs.Rest.{is_white}
+use Rattle.md_meaning.specs.Rest.{is_white}
 use Rattle.md_seam.specs.Spaces.{any_size, small_indent}
 
 -- whitespace ends no line

@@ -4,7 +4,7 @@ use Rattle.std.specs.Prelude.{Some, None}
 use Rattle.md_engine.specs.declared.event.Point.{Point}
 use Rattle.md_engine.specs.declared.event.Event.{Event}
 use Rattle.md_engine.specs.declared.event.Name.TheVariants as n
-use Rattle.md_definition.specs.Tree as t
+use Rattle.md_meaning.specs.Tree as t
 use Rattle.md_seam.proofs.BlocksLemmas.{read-leaf}
 use Rattle.md_seam.specs.Events.Nested.{around}
 use Rattle.md_seam.specs.Events.Spelled.{Reading, OfBreak, add_block, fresh, read}

@@ -7,7 +7,7 @@ use Rattle.md_engine.specs.declared.event.Kind.{Kind}
 use Rattle.md_engine.specs.declared.event.Kind.TheVariants.{Enter, Exit}
 use Rattle.md_engine.specs.declared.event.Name.{Name}
 use Rattle.md_engine.specs.declared.event.Point.{Point}
-use Rattle.md_seam.specs.Events.Endings.{Ends, IsLeaf, IsOther, OnLine, Spot, endings_stand_from, ends_rightly}
+use Rattle.md_seam.specs.Events.Endings.{Ends, IsLeaf, IsOther, OnLine, EndingPlace, endings_stand_from, ends_rightly}
 use Rattle.md_seam.specs.Events.Endings.{is_filled, line_start, on_line, spot_behind}
 use Rattle.md_seam.specs.Events.Nested.{around, exit}
 use Rattle.md_seam.proofs.PlacesLemmas.{all-append}
@@ -29,23 +29,23 @@ others-append xs ys h k = all-append (λ (e : Event). is_other (on_line e.name))
 -- Where events lead.
 
 -- in a leaf, on a line that is filled or not
-abbrev pub in_leaf : Bool → Spot
+abbrev pub in_leaf : Bool → EndingPlace
 in_leaf filled = record { in_leaf = true; after_leaf = filled }
 
 -- behind a leaf, on its last line
-abbrev pub behind_leaf : Spot
+abbrev pub behind_leaf : EndingPlace
 behind_leaf = record { in_leaf = false; after_leaf = true }
 
 -- events whose endings stand, and that lead from here to there
-abbrev pub Leads : Spot → Spot → List Event → Type 0
+abbrev pub Leads : EndingPlace → EndingPlace → List Event → Type 0
 Leads s t xs = (ys : List Event) → endings_stand_from s (xs ++ ys) ≡ endings_stand_from t ys
 
 -- one after the other
-pub leads-append : (s t u : Spot) (xs ys : List Event) → Leads s t xs → Leads t u ys → Leads s u (xs ++ ys)
+pub leads-append : (s t u : EndingPlace) (xs ys : List Event) → Leads s t xs → Leads t u ys → Leads s u (xs ++ ys)
 leads-append s t u xs ys h k = λ zs. ap (endings_stand_from s) (append_assoc xs ys zs) ∙ h (ys ++ zs) ∙ k zs
 
 -- other events lead nowhere, unless a leaf goes on over the begin of the line
-pub others-lead : (s : Spot) (xs : List Event) → is_filled s ≡ s.after_leaf → AreOthers xs → Leads s s xs
+pub others-lead : (s : EndingPlace) (xs : List Event) → is_filled s ≡ s.after_leaf → AreOthers xs → Leads s s xs
 others-lead s [] same h = λ ys. refl
 others-lead s (e ∷ xs) same h = λ ys.
     let both : (is_other (on_line e.name) ≡ true) ×

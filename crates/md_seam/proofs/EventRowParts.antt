@@ -1,5 +1,5 @@
 -- What a small text with its events is tried by, and how its events are written.
-use Rattle.std.proofs.Common.{◌≡◌, ℕ, List, [], ◌∷◌, refl}
+use Rattle.std.proofs.Common.{◌≡◌, ℕ, List, [], ◌∷◌}
 use Rattle.std.specs.Prelude.{false, Some, IsTrue}
 use Rattle.md_engine.specs.declared.event.Point.{Point}
 use Rattle.md_engine.specs.declared.event.Event.{Event}
@@ -7,7 +7,7 @@ use Rattle.md_engine.specs.declared.event.Kind.TheVariants.{Enter}
 use Rattle.md_engine.specs.declared.event.Content.{Content}
 use Rattle.md_engine.specs.declared.event.Content.TheVariants as c
 use Rattle.md_engine.specs.declared.event.Name.TheVariants as n
-use Rattle.md_definition.specs.Tree as t
+use Rattle.md_meaning.specs.Tree as t
 use Rattle.md_seam.specs.Events.Spelled.{spelled}
 use Rattle.md_seam.specs.Events.Places.{first_point, are_placed}
 use Rattle.md_seam.specs.Events.Nested.{exit, Nested}
@@ -15,7 +15,7 @@ use Rattle.md_seam.specs.Events.Inline.{Part, plain_events, plain_chunks, pieces
 use Rattle.md_seam.specs.Events.Endings.{endings_stand}
 use Rattle.md_seam.specs.Events.Grammar.{keeps_grammar, plain_text, unread_text}
 use Rattle.md_seam.specs.Events.Pieces.{pieces_stand}
-use Rattle.md_seam.specs.Events.Tiles.{Tiles, EachRead, parts, parts_stand, chunks_stand, end_point, filled}
+use Rattle.md_seam.specs.Events.Tiles.{EachRead, parts, parts_stand, chunks_stand, end_point, filled}
 
 -- a point by its line, its column and its byte
 abbrev pub at : ℕ → ℕ → ℕ → Point
@@ -73,25 +73,3 @@ pub record Row (bytes : List ℕ) (blocks : List Event) (tree : t.Blocks) : Type
   pub each : EachRead (λ part events. events ≡ plain_events bytes part) (parts blocks)
       (plain_lists bytes (parts blocks))
   pub empty : bytes ≡ [] → plain bytes blocks ≡ []
-
--- so they tile it
-row-tiles : {bytes : List ℕ} {blocks : List Event} {tree : t.Blocks} → Row bytes blocks tree →
-    Tiles (λ part events. events ≡ plain_events bytes part) bytes (plain bytes blocks)
-row-tiles {bytes} {blocks} row = record {
-  blocks = blocks;
-  block_list =
-      record {
-        nested = row.nested;
-        placed = row.placed;
-        lines = row.lines;
-        chunks = row.chunks;
-        grammar = row.grammar;
-        pieces_are = row.pieces_are;
-        endings = row.endings;
-      };
-  covers = row.covers;
-  lists = plain_lists bytes (parts blocks);
-  each = row.each;
-  read = refl;
-  empty = row.empty;
-}

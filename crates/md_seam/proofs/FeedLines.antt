@@ -19,11 +19,11 @@ use Rattle.md_engine.specs.TextFeed.{cells_from, text_feed}
 use Rattle.md_engine.specs.World.{Setting, after, line_begun}
 use Rattle.md_engine.proofs.TextFeed.{text-follows}
 use Rattle.md_seam.specs.Ahead.{begins_white, from_ending, line_cells, point_after}
-use Rattle.md_definition.specs.Lines.{is_ending, begins_with}
+use Rattle.md_meaning.specs.Lines.{is_ending, begins_with}
 use Rattle.md_seam.specs.Events.Places.{at_or_before, past_byte, past_text}
-use Rattle.md_definition.specs.Rest.{is_white}
+use Rattle.md_meaning.specs.Rest.{is_white}
 use Rattle.md_seam.proofs.PlacesLemmas.{at-next, drop-next}
-use Rattle.md_definition.proofs.TextsLemmas.{Both, Ending, EndsBefore, LineFeed, NoEnding, Return, ending_bytes}
+use Rattle.md_meaning.proofs.TextsLemmas.{Both, Ending, EndsBefore, LineFeed, NoEnding, Return, ending_bytes}
 
 -- What stands in a text.
 

@@ -9,7 +9,7 @@ use Rattle.md_engine.specs.declared.event.Kind.{Kind}
 use Rattle.md_engine.specs.declared.event.Kind.TheVariants.{Enter, Exit}
 use Rattle.md_engine.specs.declared.event.Name.{Name}
 use Rattle.md_engine.specs.declared.event.Name.TheVariants as n
-use Rattle.md_seam.specs.Events.Spelled.{Reading, Text, Purpose, Role, Tells, IsQuiet}
+use Rattle.md_seam.specs.Events.Spelled.{Reading, Text, Purpose, Role, TextRole, IsQuiet}
 use Rattle.md_seam.specs.Events.Spelled.{IsPrefix, role, begun, before_prefix, after_prefix, read_by, read, unread}
 use Rattle.md_seam.specs.Events.Spelled.{spelled}
 use Rattle.md_seam.specs.Events.Inline.{is_linked, is_inline}
@@ -36,7 +36,7 @@ part-told : (name : Name) → is_part name ≡ true → is_told (role name) ≡ 
 part-told n.Data h = cc
 part-told _ h = cc
 
-pub part-tells : (name : Name) → is_part name ≡ true → (purpose : Purpose) × (role name ≡ Tells purpose)
+pub part-tells : (name : Name) → is_part name ≡ true → (purpose : Purpose) × (role name ≡ TextRole purpose)
 part-tells name h = told-role (role name) (part-told name h)
 
 -- what stands inside a text part is quiet, or a container prefix
@@ -70,7 +70,7 @@ has-at (suc depth) r has = has
 part-has : (bytes : List ℕ) (name : Name) (p : Point) (r : Reading) → is_part name ≡ true →
     HasText (read_by bytes Enter (role name) p r)
 part-has bytes name p r h =
-    let tells : (purpose : Purpose) × (role name ≡ Tells purpose) = part-tells name h in
+    let tells : (purpose : Purpose) × (role name ≡ TextRole purpose) = part-tells name h in
     (begun p, ap (λ (x : Role). (read_by bytes Enter x p r).text) tells.1)
 
 enter-has : (bytes : List ℕ) (kind : Kind) (name : Name) (p : Point) (r : Reading) →

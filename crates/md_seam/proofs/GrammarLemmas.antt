@@ -3,7 +3,7 @@ use Rattle.std.proofs.Common.{◌≡◌, Bool, true, false, cond, List, [], ◌�
 use Rattle.md_engine.specs.declared.event.Event.{Event}
 use Rattle.md_engine.specs.declared.event.Name.{Name}
 use Rattle.md_engine.specs.declared.event.Point.{Point}
-use Rattle.md_seam.specs.Events.Grammar.{Expression, behind, blocks, inside, is_whole, keeps_grammar, left_behind}
+use Rattle.md_seam.specs.Events.Grammar.{Expression, behind, inside, left_behind}
 use Rattle.md_seam.specs.Events.Grammar.{left_of, may_end}
 use Rattle.md_seam.specs.Events.Inline.{pair_unless_empty}
 use Rattle.md_seam.specs.Events.Nested.{around, exit, pair}
@@ -81,9 +81,3 @@ leads-unless text x name p q e = go (same_place p q)
     go false = (true, leads-pair text x name p q e)
 
 -- A whole text.
-
--- blocks are a text,
-pub keeps-blocks : (text : Expression) (es : List Event) → is_whole (left_of text (blocks ∷ []) es) ≡ true →
-    keeps_grammar text es ≡ true
-unfolding keeps_grammar
-keeps-blocks text es h = rw h refl

@@ -17,7 +17,7 @@ use Rattle.md_seam.specs.Events.Nested.{is_exit}
 use Rattle.md_seam.specs.Events.Pieces.{begins_in_tab, ends_in_tab, is_piece_name, piece_rule, piece_stands, piece_text}
 use Rattle.md_seam.specs.Events.Pieces.{pieces_stand, stands_over}
 use Rattle.md_seam.specs.Events.Places.{at_or_before, first_point, same_place}
-use Rattle.md_definition.specs.Texts.{split_lines}
+use Rattle.md_meaning.specs.Texts.{split_lines}
 use Rattle.md_seam.specs.Events.Tiles.{chunks_stand, depth_behind, end_point, is_chunk, is_data, is_part}
 use Rattle.md_seam.specs.Events.Tiles.{stands_in_part}
 

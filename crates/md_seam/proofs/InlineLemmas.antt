@@ -13,7 +13,7 @@ use Rattle.md_engine.specs.declared.event.Event.{Event}
 use Rattle.md_engine.specs.declared.event.Name.{Name}
 use Rattle.md_engine.specs.declared.event.Name.TheVariants as n
 use Rattle.md_seam.specs.declared.inline.Chunk.{Chunk}
-use Rattle.md_definition.specs.Lines.{is_ending, without_ending}
+use Rattle.md_meaning.specs.Lines.{is_ending, without_ending}
 use Rattle.md_seam.specs.Events.Places.{first_point, is_placed, are_placed, same_place, at_or_before, past_byte}
 use Rattle.md_seam.specs.Events.Places.{past_text}
 use Rattle.md_seam.specs.Events.Nested.{exit, pair, Balanced, Forward, last_point}
@@ -22,7 +22,7 @@ use Rattle.md_seam.specs.Events.Inline.{pair_unless_empty, endings_of, plain_chu
 use Rattle.md_seam.specs.Events.Inline.{plain_events, is_inline, is_line_ending, line_endings, Fills, Framed, IsPart}
 use Rattle.md_seam.specs.Events.Inline.{KeepsFrame, cut_at, ends_whole}
 use Rattle.md_seam.specs.Substituted.{belongs}
-use Rattle.md_definition.proofs.TextsLemmas.{NoEnding}
+use Rattle.md_meaning.proofs.TextsLemmas.{NoEnding}
 use Rattle.md_seam.proofs.PlacesLemmas.{all-append, placed-facts, placed-from, placed-text}
 use Rattle.md_seam.proofs.CutLemmas.{cut-front, cut-last}
 use Rattle.md_seam.proofs.NestedLemmas.{balanced-none, balanced-append, at_or_before-refl, at_or_before-trans}

@@ -16,7 +16,7 @@ use Rattle.md_engine.specs.declared.event.Name.{Name}
 use Rattle.md_engine.specs.declared.event.Name.TheVariants as n
 use Rattle.md_engine.specs.declared.event.Point.{Point}
 use Rattle.md_seam.specs.declared.inline.Chunk.{Chunk}
-use Rattle.md_definition.specs.Texts.{split_lines}
+use Rattle.md_meaning.specs.Texts.{split_lines}
 use Rattle.md_seam.specs.Substituted.{Substituted, chunk_of, share, wanted}
 use Rattle.md_seam.specs.TextPart.{text_kind, text_readings, wants_text}
 use Rattle.md_seam.specs.Events.Nested.{Balanced, Fits, Forward, exit, is_exit, last_point, open_after, open_behind}

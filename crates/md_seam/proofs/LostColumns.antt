@@ -8,7 +8,7 @@ use Rattle.std.proofs.lemmas.List.Folds.{list_all-append}
 use Rattle.md_engine.specs.declared.event.Point.{Point}
 use Rattle.md_engine.specs.declared.tokenizer.Line.{Line}
 use Rattle.md_engine.specs.Meaning.{Cell}
-use Rattle.md_definition.specs.Rest.{Rest, indent, is_blank, is_white, lose, white_columns}
+use Rattle.md_meaning.specs.Rest.{Rest, indent, is_blank, is_white, lose, white_columns}
 use Rattle.md_seam.specs.Ahead.{begins_white, white_end, white_rest, white_size}
 use Rattle.md_seam.specs.Events.Places.{at_or_before, past_byte, same_place}
 use Rattle.md_seam.proofs.AheadLemmas.{none-end, none-rest, none-size}

@@ -4,15 +4,8 @@ use Rattle.std.proofs.Common.{length-drop}
 use lib.Seq.{paste}
 use Rattle.std.proofs.Math.Seq.{take-add}
 use Rattle.std.proofs.lemmas.List.{drop-drop, drop_at, length-take-le, take-append-drop}
-use Rattle.std.proofs.lemmas.List.Edits.{drop-paste, take-paste}
+use Rattle.std.proofs.lemmas.List.Edits.{drop-paste}
 use Rattle.md_engine.specs.declared.event.Event.{Event}
-
--- where they reach over the places that they leave
-pub moved : (events : List Event) (to from end : ℕ) → to ≤ from → from ≤ end → end ≤ length events →
-    take (to + (end - from)) (paste events to (drop from events) (end - from)) ≡
-    take to events ++ take (end - from) (drop from events)
-moved events to from end low le within =
-    take-paste events to (drop from events) (end - from) (omega arith) (simp length-drop (omega arith))
 
 pub behind-moved : (events : List Event) (to from end : ℕ) → to ≤ from → from ≤ end → end ≤ length events →
     drop end (paste events to (drop from events) (end - from)) ≡ drop end events

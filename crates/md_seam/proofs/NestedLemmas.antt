@@ -7,8 +7,8 @@ use Rattle.md_engine.specs.declared.event.Event.{Event}
 use Rattle.md_engine.specs.declared.event.Kind.{Kind}
 use Rattle.md_engine.specs.declared.event.Kind.TheVariants.{Enter, Exit}
 use Rattle.md_engine.specs.declared.event.Name.{Name}
-use Rattle.md_seam.specs.Events.Places.{first_point, at_or_before}
-use Rattle.md_seam.specs.Events.Nested.{open_behind, open_after, Fits, Matches, Forward, last_point, Balanced, Nested}
+use Rattle.md_seam.specs.Events.Places.{at_or_before}
+use Rattle.md_seam.specs.Events.Nested.{open_behind, open_after, Fits, Matches, Forward, last_point, Balanced}
 
 -- Open names.
 
@@ -109,25 +109,6 @@ balanced-around e f inside entered left named b =
 
 -- Balanced events may stand anywhere among others.
 
-pub matches-insert : (names : List Name) (xs inside ys : List Event) → Balanced inside → Matches names (xs ++ ys) →
-    Matches names (xs ++ (inside ++ ys))
-matches-insert names xs inside ys b m =
-    matches-append names xs (inside ++ ys) (matches-front names xs ys m)
-    (matches-before (open_after names xs) inside ys b (matches-rest names xs ys m))
-
-pub open_after-insert : (names : List Name) (xs inside ys : List Event) → Balanced inside →
-    open_after names (xs ++ (inside ++ ys)) ≡ open_after names (xs ++ ys)
-open_after-insert names xs inside ys b =
-    open_after-append names xs (inside ++ ys) ∙ open_after-before (open_after names xs) inside ys b
-    ∙ sym (open_after-append names xs ys)
-
-pub balanced-insert : (xs inside ys : List Event) → Balanced inside → Balanced (xs ++ ys) →
-    Balanced (xs ++ (inside ++ ys))
-balanced-insert xs inside ys b c = record {
-  matches = matches-insert [] xs inside ys b c.matches;
-  closed = open_after-insert [] xs inside ys b ∙ c.closed;
-}
-
 -- Points.
 
 pub last_point-append : (p : Point) (xs ys : List Event) → last_point p (xs ++ ys) ≡ last_point (last_point p xs) ys
@@ -138,14 +119,6 @@ pub forward-append : (p : Point) (xs ys : List Event) → Forward p xs → Forwa
     Forward p (xs ++ ys)
 forward-append p [] ys f g = g
 forward-append p (e ∷ xs) ys f g = (f.0, forward-append e.point xs ys f.1 g)
-
-pub forward-front : (p : Point) (xs ys : List Event) → Forward p (xs ++ ys) → Forward p xs
-forward-front p [] ys f = tt
-forward-front p (e ∷ xs) ys f = (f.0, forward-front e.point xs ys f.1)
-
-pub forward-rest : (p : Point) (xs ys : List Event) → Forward p (xs ++ ys) → Forward (last_point p xs) ys
-forward-rest p [] ys f = f
-forward-rest p (e ∷ xs) ys f = forward-rest e.point xs ys f.1
 
 pub at_or_before-refl : (p : Point) → IsTrue (at_or_before p p)
 at_or_before-refl p = grind (arith, common_steps)
@@ -164,22 +137,3 @@ forward-last p [] f = at_or_before-refl p
 forward-last p (e ∷ xs) f = at_or_before-trans p e.point (last_point e.point xs) f.0 (forward-last e.point xs f.1)
 
 -- Nested lists.
-
--- a nested list goes on with balanced events
-pub nested-append : (xs ys : List Event) → Nested xs → Balanced ys → Forward (last_point first_point xs) ys →
-    Nested (xs ++ ys)
-nested-append xs ys n b f = record {
-  balanced = balanced-append xs ys n.balanced b;
-  forward = forward-append first_point xs ys n.forward f;
-}
-
--- a nested list inside a nested list: its points lie between those around it
-pub nested-insert : (xs inside ys : List Event) → Nested (xs ++ ys) → Balanced inside →
-    Forward (last_point first_point xs) inside → Forward (last_point (last_point first_point xs) inside) ys →
-    Nested (xs ++ (inside ++ ys))
-nested-insert xs inside ys n b f g = record {
-  balanced = balanced-insert xs inside ys b n.balanced;
-  forward =
-      forward-append first_point xs (inside ++ ys) (forward-front first_point xs ys n.forward)
-      (forward-append (last_point first_point xs) inside ys f g);
-}

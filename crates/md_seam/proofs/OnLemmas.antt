@@ -3,33 +3,33 @@ use Rattle.std.proofs.Common.{◌≡◌, ℕ, zero, suc, Bool, true, false, cond
 use Rattle.std.proofs.Common.{length, Option, Some, None, refl, ◌∙◌}
 use Rattle.std.proofs.lemmas.Bool.{and_from, and_parts, or_right}
 use Rattle.md_engine.specs.declared.configuration.ParseOptions.{ParseOptions}
-use Rattle.md_definition.specs.Containers.{Labelled, Marker, Taken, continues, footnote_by, footnote_continues, item_by}
-use Rattle.md_definition.specs.Containers.{item_continues, opens, opens_footnote, opens_item, opens_quote, quote_taken}
-use Rattle.md_definition.specs.Definition.{Defined, cut_definitions}
-use Rattle.md_definition.specs.Grouped.{grouped, grouped_block, with_front, with_item}
-use Rattle.md_definition.specs.Html.{HtmlKind, html_ends}
-use Rattle.md_definition.specs.Leaves.{ParagraphContext, Came, Finished, NoText, Opened, Text, break_at, closes}
-use Rattle.md_definition.specs.Leaves.{code_at, code_goes_on, fence_at, fence_from, fence_goes_on, goes_on, heading_at}
-use Rattle.md_definition.specs.Leaves.{html_at, html_by, html_goes_on, html_line, is_fence_marker, starts, table_at}
-use Rattle.md_definition.specs.Leaves.{table_by, table_goes_on, underline_depth, underlined, underlined_by}
-use Rattle.md_definition.specs.Lines.{lines_of}
-use Rattle.md_definition.specs.Meaning.{tree}
+use Rattle.md_meaning.specs.Containers.{Labelled, Marker, Taken, continues, footnote_by, footnote_continues, item_by}
+use Rattle.md_meaning.specs.Containers.{item_continues, opens, opens_footnote, opens_item, opens_quote, quote_taken}
+use Rattle.md_meaning.specs.Definition.{Defined, cut_definitions}
+use Rattle.md_meaning.specs.Grouped.{grouped, grouped_block, with_front, with_item}
+use Rattle.md_meaning.specs.Html.{HtmlKind, html_ends}
+use Rattle.md_meaning.specs.Leaves.{ParagraphContext, LeafResult, Finished, NoText, Opened, Text, break_at, closes}
+use Rattle.md_meaning.specs.Leaves.{code_at, code_goes_on, fence_at, fence_from, fence_goes_on, goes_on, heading_at}
+use Rattle.md_meaning.specs.Leaves.{html_at, html_by, html_goes_on, html_line, is_fence_marker, starts, table_at}
+use Rattle.md_meaning.specs.Leaves.{table_by, table_goes_on, underline_depth, underlined, underlined_by}
+use Rattle.md_meaning.specs.Lines.{lines_of}
+use Rattle.md_meaning.specs.Meaning.{tree}
 use Rattle.md_seam.specs.Events.On.{are_on, is_on, is_setext_depth}
-use Rattle.md_definition.specs.Preamble.{Front, front_by, first_column, front_of, preamble_by, rests_at, without_mark}
-use Rattle.md_definition.specs.Rest.{Rest, is_blank, line_of, lose}
-use Rattle.md_definition.specs.State.{At, Container, InFootnote, InItem, InQuote, Kept, Leaf, NoLeaf, OpenCode}
-use Rattle.md_definition.specs.State.{OpenFence, OpenHtml, OpenParagraph, OpenTable, Opening, Path, Spot, Within}
-use Rattle.md_definition.specs.State.{at_spot, closed, container_block, cut, fence_block, shut, shut_paragraph, spot}
-use Rattle.md_definition.specs.State.{texts, then_block, then_definitions, then_leaf, then_paragraph}
-use Rattle.md_definition.specs.Step.{all_continued, all_continued_by, came, leaf_line_by, on_or_fresh, row_or_text}
-use Rattle.md_definition.specs.Step.{entered, fresh_by, fresh_line, is_concrete, is_open_text, stopped_by, leaf_line}
-use Rattle.md_definition.specs.Step.{lazy_by, opened, spot_of, step, steps, stopped, text_by, text_line}
-use Rattle.md_definition.specs.Step.{underline_or_text, with_lazy}
-use Rattle.md_definition.specs.Tree.{Block, Blocks, Definition, End, Fence, Footnote, Heading, Html, Item, Line, ListOf}
-use Rattle.md_definition.specs.Tree.{Math, More, Paragraph, Quote, Table}
-use Rattle.md_definition.proofs.ColumnLemmas.{opened_by, step_by}
-use Rattle.md_definition.proofs.FindsLemmas.{Finds, first-found, none-found, some-found, unless-found, when-found}
-use Rattle.md_definition.proofs.TreeLemmas.{tree_by}
+use Rattle.md_meaning.specs.Preamble.{Front, front_by, first_column, front_of, preamble_by, rests_at, without_mark}
+use Rattle.md_meaning.specs.Rest.{Rest, is_blank, line_of, lose}
+use Rattle.md_meaning.specs.State.{At, Container, InFootnote, InItem, InQuote, ParagraphLine, Leaf, NoLeaf, OpenCode}
+use Rattle.md_meaning.specs.State.{OpenFence, OpenHtml, OpenParagraph, OpenTable, Opening, Path, Innermost, Within}
+use Rattle.md_meaning.specs.State.{at_spot, closed, container_block, cut, fence_block, shut, shut_paragraph, spot}
+use Rattle.md_meaning.specs.State.{texts, then_block, then_definitions, then_leaf, then_paragraph}
+use Rattle.md_meaning.specs.Step.{all_continued, all_continued_by, came, leaf_line_by, on_or_fresh, row_or_text}
+use Rattle.md_meaning.specs.Step.{entered, fresh_by, fresh_line, is_concrete, is_open_text, stopped_by, leaf_line}
+use Rattle.md_meaning.specs.Step.{lazy_by, opened, spot_of, step, steps, stopped, text_by, text_line}
+use Rattle.md_meaning.specs.Step.{underline_or_text, with_lazy}
+use Rattle.md_meaning.specs.Tree.{Block, Blocks, Definition, End, Fence, Footnote, Heading, Html, Item, Line, ListOf}
+use Rattle.md_meaning.specs.Tree.{Math, More, Paragraph, Quote, Table}
+use Rattle.md_meaning.proofs.ColumnLemmas.{opened_by, step_by}
+use Rattle.md_meaning.proofs.FindsLemmas.{Finds, first-found, none-found, some-found, unless-found, when-found}
+use Rattle.md_meaning.proofs.TreeLemmas.{tree_by}
 
 -- Blocks.
 
@@ -117,7 +117,7 @@ then_leaf-on options bs (OpenHtml kind lines) h k = then-on options bs (Html lin
 then_leaf-on options bs (OpenTable delimiter rows) h k = then-on options bs (Table delimiter rows) h k
 
 -- what a leaf came to with a line: on, open or finished
-abbrev CameOn : ParseOptions → Came → Type 0
+abbrev CameOn : ParseOptions → LeafResult → Type 0
 CameOn options (Opened leaf) = is_leaf_on options leaf ≡ true
 CameOn options (Finished block) = is_on options block ≡ true
 
@@ -232,11 +232,11 @@ goes-on options (OpenTable delimiter rows) r h = table_goes-on options delimiter
 -- Spots.
 
 -- finished blocks and a leaf behind them
-abbrev SpotOn : ParseOptions → Spot → Type 0
+abbrev SpotOn : ParseOptions → Innermost → Type 0
 SpotOn options s = (are_on options s.here ≡ true) × (is_leaf_on options s.leaf ≡ true)
 
 -- what a leaf came to, behind blocks
-came-on : (options : ParseOptions) (bs : Blocks) (c : Came) → are_on options bs ≡ true → CameOn options c →
+came-on : (options : ParseOptions) (bs : Blocks) (c : LeafResult) → are_on options bs ≡ true → CameOn options c →
     SpotOn options (came bs c)
 came-on options bs (Opened leaf) h k = (h, k)
 came-on options bs (Finished block) h k = (then-on options bs block h k, refl)
@@ -247,7 +247,7 @@ fresh-on : (options : ParseOptions) (bs : Blocks) (r : Rest) → are_on options 
 unfolding fresh_line
 fresh-on options bs r h = by (is_blank r.bytes)
   where
-    found : (o : Option Came) → Finds o (CameOn options) → SpotOn options (fresh_by bs r o)
+    found : (o : Option LeafResult) → Finds o (CameOn options) → SpotOn options (fresh_by bs r o)
     found (Some c) on = came-on options bs c h (on c refl)
     found None on = (h, refl)
 
@@ -256,7 +256,7 @@ fresh-on options bs r h = by (is_blank r.bytes)
     by false = found (starts options NoText r) (starts-on options NoText r)
 
 -- the head of a table
-table_by-on : (options : ParseOptions) (bs : Blocks) (lines : List Kept) (delimiter : List ℕ) (columns : Option ℕ) →
+table_by-on : (options : ParseOptions) (bs : Blocks) (lines : List ParagraphLine) (delimiter : List ℕ) (columns : Option ℕ) →
     are_on options bs ≡ true → options.constructs.gfm_table ≡ true →
     Finds (table_by options bs lines delimiter columns) (SpotOn options)
 table_by-on options bs [] delimiter columns h k = none-found (SpotOn options)
@@ -264,7 +264,7 @@ table_by-on options bs (line ∷ before) delimiter None h k = none-found (SpotOn
 table_by-on options bs (line ∷ before) delimiter (Some columns) h k = search (when-found, some-found, shut_paragraph-on)
 
 -- a delimiter row makes a table, where tables are on
-table-on : (options : ParseOptions) (bs : Blocks) (lines : List Kept) (r : Rest) → are_on options bs ≡ true →
+table-on : (options : ParseOptions) (bs : Blocks) (lines : List ParagraphLine) (r : Rest) → are_on options bs ≡ true →
     Finds (table_at options bs lines r) (SpotOn options)
 unfolding table_at
 table-on options bs lines r h = search (when-found, table_by-on, first_of_two)
@@ -276,7 +276,7 @@ unfolding underline_depth
 underline-on options r = λ d e. grind (arith)
 
 -- an underlined paragraph
-underlined-on : (options : ParseOptions) (bs : Blocks) (lines : List Kept) (r : Rest) (depth : ℕ) →
+underlined-on : (options : ParseOptions) (bs : Blocks) (lines : List ParagraphLine) (r : Rest) (depth : ℕ) →
     are_on options bs ≡ true → (options.constructs.heading_setext && is_setext_depth depth) ≡ true →
     SpotOn options (underlined options bs lines r depth)
 unfolding underlined
@@ -294,7 +294,7 @@ underlined-on options bs lines r depth h k = go (cut options (texts lines)).1
     )
 
 -- a line where a paragraph is open
-text-on : (options : ParseOptions) (bs : Blocks) (lines : List Kept) (r : Rest) → are_on options bs ≡ true →
+text-on : (options : ParseOptions) (bs : Blocks) (lines : List ParagraphLine) (r : Rest) → are_on options bs ≡ true →
     SpotOn options (text_line options bs lines r)
 unfolding text_line
 text-on options bs lines r h = by (is_blank r.bytes)
@@ -302,11 +302,11 @@ text-on options bs lines r h = by (is_blank r.bytes)
     shut_on : are_on options (then_leaf options bs (OpenParagraph lines)) ≡ true
     shut_on = shut_paragraph-on options bs (texts lines) h
 
-    row : (o : Option Spot) → Finds o (SpotOn options) → SpotOn options (row_or_text bs lines r o)
+    row : (o : Option Innermost) → Finds o (SpotOn options) → SpotOn options (row_or_text bs lines r o)
     row (Some s) on = on s refl
     row None on = (h, refl)
 
-    leaf : (o : Option Came) → Finds o (CameOn options) → SpotOn options (text_by options bs lines r o)
+    leaf : (o : Option LeafResult) → Finds o (CameOn options) → SpotOn options (text_by options bs lines r o)
     leaf (Some c) on = came-on options (then_leaf options bs (OpenParagraph lines)) c shut_on (on c refl)
     leaf None on = row (table_at options bs lines r) (table-on options bs lines r h)
 
@@ -323,11 +323,11 @@ text-on options bs lines r h = by (is_blank r.bytes)
     by false = line (underline_depth options r) (underline-on options r)
 
 -- a line where no container opens
-leaf_line-on : (options : ParseOptions) (s : Spot) (r : Rest) → SpotOn options s →
+leaf_line-on : (options : ParseOptions) (s : Innermost) (r : Rest) → SpotOn options s →
     SpotOn options (leaf_line options s r)
 leaf_line-on options s r h = go s.leaf h.1
   where
-    other : (o : Option Came) → Finds o (CameOn options) → SpotOn options (on_or_fresh options s r o)
+    other : (o : Option LeafResult) → Finds o (CameOn options) → SpotOn options (on_or_fresh options s r o)
     other (Some c) on = came-on options s.here c h.0 (on c refl)
     other None on = fresh-on options (shut options s) r (then_leaf-on options s.here s.leaf h.0 h.1)
 
@@ -422,7 +422,7 @@ entered-on : (options : ParseOptions) (bs : Blocks) (t : Taken) → are_on optio
 entered-on options bs t h k = (h, k, opened-on options (length t.rest.bytes) t.rest)
 
 -- a line where all containers continued
-all_continued-on : (options : ParseOptions) (s : Spot) (r : Rest) → SpotOn options s →
+all_continued-on : (options : ParseOptions) (s : Innermost) (r : Rest) → SpotOn options s →
     PathOn options (all_continued options s r)
 unfolding all_continued
 all_continued-on options s r h = by (is_concrete s.leaf)
@@ -442,7 +442,7 @@ spot-on options (At s) h = h
 spot-on options (Within before container p) h = spot-on options p h.2
 
 -- another spot in its place
-at_spot-on : (options : ParseOptions) (p : Path) (s : Spot) → PathOn options p → SpotOn options s →
+at_spot-on : (options : ParseOptions) (p : Path) (s : Innermost) → PathOn options p → SpotOn options s →
     PathOn options (at_spot p s)
 at_spot-on options (At t) s h k = k
 at_spot-on options (Within before container p) s h k = (h.0, h.1, at_spot-on options p s h.2 k)

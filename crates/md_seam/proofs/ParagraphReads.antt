@@ -4,12 +4,12 @@ use Rattle.std.specs.Prelude.{None}
 use Rattle.md_engine.specs.declared.event.Point.{Point}
 use Rattle.md_engine.specs.declared.event.Event.{Event}
 use Rattle.md_engine.specs.declared.event.Name.TheVariants as n
-use Rattle.md_definition.specs.Tree as t
+use Rattle.md_meaning.specs.Tree as t
 use Rattle.md_seam.proofs.BlocksLemmas.{read-told}
-use Rattle.md_definition.specs.Texts.{trim_each}
+use Rattle.md_meaning.specs.Texts.{trim_each}
 use Rattle.md_seam.specs.Events.Nested.{around}
 use Rattle.md_seam.specs.Events.Spelled.{Reading, AsParagraph, add_block, begun, text_to, read}
-use Rattle.md_definition.proofs.TextsLemmas.{IsOfLines, split-lines}
+use Rattle.md_meaning.proofs.TextsLemmas.{IsOfLines, split-lines}
 use Rattle.md_seam.proofs.SpelledLemmas.{Roles, Between, text_after}
 
 -- A paragraph is read as the lines of its text, which is cut at its container prefixes.

@@ -9,7 +9,7 @@ use Rattle.md_engine.specs.declared.event.Kind.{Kind}
 use Rattle.md_engine.specs.declared.event.Kind.TheVariants.{Enter, Exit}
 use Rattle.md_engine.specs.declared.event.Name.{Name}
 use Rattle.md_engine.specs.declared.event.Name.TheVariants as n
-use Rattle.md_definition.specs.Texts.{split_lines}
+use Rattle.md_meaning.specs.Texts.{split_lines}
 use Rattle.md_seam.specs.declared.inline.PartKind.{PartKind}
 use Rattle.md_seam.specs.declared.inline.Chunk.{Chunk}
 use Rattle.md_seam.specs.Events.Pieces.{begins_in_tab, ends_in_tab, piece_stands, piece_text, pieces_stand, stands_over}

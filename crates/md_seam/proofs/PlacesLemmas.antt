@@ -8,12 +8,12 @@ use Rattle.std.proofs.lemmas.Bool.Decides.{nat_tests}
 use Rattle.md_engine.specs.declared.event.Point.{Point}
 use Rattle.md_engine.specs.declared.event.Event.{Event}
 use Rattle.md_engine.specs.Place.{is_pair}
-use Rattle.md_definition.specs.Lines.{is_ending, begins_with, ends_line}
-use Rattle.md_definition.specs.Rest.{tab_columns}
-use Rattle.md_definition.specs.Texts.{split_lines, first_byte}
+use Rattle.md_meaning.specs.Lines.{is_ending, begins_with, ends_line}
+use Rattle.md_meaning.specs.Rest.{tab_columns}
+use Rattle.md_meaning.specs.Texts.{split_lines, first_byte}
 use Rattle.md_seam.specs.Events.Places.{column_past, columns_from, last_line, columns_before, within_tab, is_placed}
 use Rattle.md_seam.specs.Events.Places.{past_byte, past_text, same_place, splits_pair}
-use Rattle.md_definition.proofs.TextsLemmas.{NoEnding, split-line}
+use Rattle.md_meaning.proofs.TextsLemmas.{NoEnding, split-line}
 
 -- The last line grows by a byte that is no ending.
 

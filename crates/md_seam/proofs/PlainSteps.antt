@@ -17,8 +17,8 @@ use Rattle.md_engine.specs.declared.event.Event.{Event}
 use Rattle.md_engine.specs.declared.event.Name.TheVariants as n
 use Rattle.md_engine.specs.World.{World, after, line_begun}
 use Rattle.md_engine.specs.Place.{IsPlaced, IsReached, begun_at, is_pair, next_point, walked}
-use Rattle.md_definition.specs.Lines.{is_ending, begins_with, ends_line, without_ending}
-use Rattle.md_definition.specs.Texts.{split_lines}
+use Rattle.md_meaning.specs.Lines.{is_ending, begins_with, ends_line, without_ending}
+use Rattle.md_meaning.specs.Texts.{split_lines}
 use Rattle.md_seam.specs.Events.Places.{column_past, past_byte, past_text, same_place}
 use Rattle.md_seam.specs.Events.Nested.{enter, exit, pair}
 use Rattle.md_seam.specs.declared.inline.Chunk.{Chunk}
@@ -29,8 +29,8 @@ use Rattle.md_seam.specs.Transition.{entered, exited}
 use Rattle.md_seam.proofs.InlineLemmas.{line-length, line-no_ending, past-index, past-vs, same-refl}
 use Rattle.md_seam.proofs.PlacesLemmas.{Some_line, apart-later, some-split}
 use Rattle.md_engine.proofs.Sound.{placed-next}
-use Rattle.md_definition.proofs.TextsLemmas.{NoEnding, Ending, LineFeed, Return, Both, ending_bytes, EndsBefore}
-use Rattle.md_definition.proofs.TextsLemmas.{split-next}
+use Rattle.md_meaning.proofs.TextsLemmas.{NoEnding, Ending, LineFeed, Return, Both, ending_bytes, EndsBefore}
+use Rattle.md_meaning.proofs.TextsLemmas.{split-next}
 
 -- Points that one comes to from the first.
 

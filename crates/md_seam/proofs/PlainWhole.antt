@@ -7,8 +7,8 @@ use Rattle.std.proofs.lemmas.List.{take-append-drop}
 use Rattle.md_engine.specs.declared.event.Event.{Event}
 use Rattle.md_engine.specs.declared.event.Name.TheVariants as n
 use Rattle.md_engine.specs.declared.event.Point.{Point}
-use Rattle.md_definition.specs.Lines.{is_ending, without_ending}
-use Rattle.md_definition.specs.Texts.{split_lines}
+use Rattle.md_meaning.specs.Lines.{is_ending, without_ending}
+use Rattle.md_meaning.specs.Texts.{split_lines}
 use Rattle.md_seam.specs.Events.Inline.{chunk_text, ends_whole, is_line, is_one_line, line_end, pair_unless_empty}
 use Rattle.md_seam.specs.Events.Inline.{plain_chunk, plain_chunks, together}
 use Rattle.md_seam.specs.Events.Nested.{pair}

@@ -14,14 +14,14 @@ use Rattle.std.proofs.lemmas.List.Elements.{All-head, All-tail}
 use Rattle.md_engine.specs.declared.event.Event.{Event}
 use Rattle.md_engine.specs.declared.event.Point.{Point}
 use Rattle.md_engine.specs.Place.{IsPlaced, IsReached, is_pair, next_point, stepped, walked}
-use Rattle.md_definition.specs.Lines.{ends_line, is_ending}
+use Rattle.md_meaning.specs.Lines.{ends_line, is_ending}
 use Rattle.md_seam.specs.Parts.{ArePlaced}
 use Rattle.md_seam.specs.Events.Places.{are_placed, columns_before, columns_from, is_placed, last_line, past_byte}
 use Rattle.md_seam.specs.Events.Places.{splits_pair}
-use Rattle.md_definition.specs.Rest.{tab_columns}
-use Rattle.md_definition.specs.Texts.{first_byte, split_lines}
+use Rattle.md_meaning.specs.Rest.{tab_columns}
+use Rattle.md_meaning.specs.Texts.{first_byte, split_lines}
 use Rattle.md_seam.proofs.PlacesLemmas.{Placed, Some_line, apart-behind, placed-byte, placed-from, some-split}
-use Rattle.md_definition.proofs.TextsLemmas.{Ending, Both, LineFeed, Return, ending_bytes}
+use Rattle.md_meaning.proofs.TextsLemmas.{Ending, Both, LineFeed, Return, ending_bytes}
 
 -- An ending at the end of a text.
 

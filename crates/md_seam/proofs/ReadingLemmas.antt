@@ -1,6 +1,6 @@
 -- Placed events.
-use Rattle.std.proofs.Common.{◌≡◌, ℕ, Bool, true, false, cond, List, [], ◌∷◌, ◌++◌, take, drop}
-use Rattle.std.proofs.lemmas.List.Elements.{All-append, All-drop, All-push, All-take}
+use Rattle.std.proofs.Common.{◌≡◌, ℕ, List, ◌++◌, take, drop}
+use Rattle.std.proofs.lemmas.List.Elements.{All-append, All-drop, All-take}
 use Rattle.md_engine.specs.declared.event.Event.{Event}
 use Rattle.md_engine.specs.Place.{IsPlaced}
 use Rattle.md_seam.specs.Parts.{ArePlaced}
@@ -13,9 +13,3 @@ placed-place bytes all new more from many is h k =
     (All-append (λ (e : Event). IsPlaced bytes e.point) all (take many (drop from more)) h
     (All-take (λ (e : Event). IsPlaced bytes e.point) _ _
     (All-drop (λ (e : Event). IsPlaced bytes e.point) _ more k)))
-
--- one more event, or none
-pub placed-push_if : (bytes : List ℕ) (all new : List Event) (e : Event) (b : Bool) → new ≡ cond b (all ++ e ∷ []) all →
-    ArePlaced bytes all → IsPlaced bytes e.point → ArePlaced bytes new
-placed-push_if bytes all new e true is h k = rw is (All-push (λ (x : Event). IsPlaced bytes x.point) all e h k)
-placed-push_if bytes all new e false is h k = rw is h

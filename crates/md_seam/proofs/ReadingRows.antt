@@ -7,7 +7,7 @@ use Rattle.md_engine.specs.declared.event.Name.{Name}
 use Rattle.md_engine.specs.declared.event.Name.TheVariants as n
 use Rattle.md_seam.specs.Events.Nested.{around, pair}
 use Rattle.md_seam.specs.Events.Spelled.{spelled}
-use Rattle.md_definition.specs.Tree as t
+use Rattle.md_meaning.specs.Tree as t
 
 -- a place on the first line
 abbrev place : ℕ → Point

@@ -8,14 +8,13 @@ use Rattle.md_engine.specs.declared.tokenizer.Line.{Line}
 use Rattle.md_engine.specs.Meaning.{Cell}
 use Rattle.md_seam.specs.Ahead.{begins_white, point_after, white_end, white_rest}
 use Rattle.md_seam.specs.Events.Places.{at_or_before, past_byte, past_text}
-use Rattle.md_definition.specs.Preamble.{rest_at}
-use Rattle.md_definition.specs.Rest.{Rest, behind, behind_indent, cut_tab, indent, is_white, lose, tab_columns}
-use Rattle.md_definition.specs.Rest.{white_columns, without_column}
+use Rattle.md_meaning.specs.Rest.{Rest, behind, behind_indent, cut_tab, indent, is_white, lose, tab_columns}
+use Rattle.md_meaning.specs.Rest.{white_columns, without_column}
 use Rattle.md_seam.proofs.FeedLines.{Stops, before-byte, before-column, behind_last, byte-one, cell, columns_more}
 use Rattle.md_seam.proofs.FeedLines.{next_column, past-next, point_after-append, spread, spread-end, stops-white}
 use Rattle.md_seam.proofs.FeedLines.{tab-end, tab_cells, tab_end, tab_end-last, tab_end-next, tab_end-stop}
 use Rattle.md_seam.proofs.NestedLemmas.{at_or_before-refl, at_or_before-trans}
-use Rattle.md_definition.proofs.TextsLemmas.{NoEnding, no_ending-drop}
+use Rattle.md_meaning.proofs.TextsLemmas.{NoEnding, no_ending-drop}
 use Rattle.md_seam.proofs.AheadLemmas.{none-end, none-rest}
 
 -- the columns that are left of a cut tab, and then the cells of the bytes
@@ -389,8 +388,3 @@ pub behind-no_ending : (n : ℕ) (r : Rest) → NoEnding r.bytes → NoEnding (b
 behind-no_ending n r h = no_ending-drop n r.bytes h
 
 -- The text.
-
--- a line begins with all of its bytes
-pub line-at : (text behind : List ℕ) (column : ℕ) (line : List ℕ) (p : Point) → drop p.index text ≡ line ++ behind →
-    p.vs ≡ 0 → p.column ≡ column + 1 → RestAt text behind (rest_at column line) p
-line-at text behind column line p e vs at = record { column = at; cut = vs; text_is = e }

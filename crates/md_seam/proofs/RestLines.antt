@@ -8,10 +8,10 @@ use Rattle.md_engine.specs.declared.configuration.ParseOptions.{ParseOptions}
 use Rattle.md_engine.specs.declared.event.Point.{Point}
 use Rattle.md_engine.specs.declared.tokenizer.Line.{Line}
 use Rattle.md_engine.specs.Meaning.{Cell}
-use Rattle.md_definition.specs.Bytes.{is_end}
-use Rattle.md_definition.specs.Rest.{Rest, behind_indent, cut_tab, has_small_indent, indent, is_blank, is_white, lose}
-use Rattle.md_definition.specs.Rest.{tab_columns, trim_start}
-use Rattle.md_definition.proofs.TextsLemmas.{NoEnding}
+use Rattle.md_meaning.specs.Bytes.{is_end}
+use Rattle.md_meaning.specs.Rest.{Rest, behind_indent, cut_tab, has_small_indent, indent, is_blank, is_white, lose}
+use Rattle.md_meaning.specs.Rest.{tab_columns, trim_start}
+use Rattle.md_meaning.proofs.TextsLemmas.{NoEnding}
 use Rattle.md_seam.specs.Ahead.{from_ending, line_bytes, line_cells, line_end, point_after}
 use Rattle.md_seam.specs.Events.Places.{past_byte}
 use Rattle.md_seam.specs.Spaces.{any_size, small_indent}

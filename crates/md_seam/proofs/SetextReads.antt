@@ -5,11 +5,11 @@ use Rattle.md_engine.specs.declared.event.Point.{Point}
 use Rattle.md_engine.specs.declared.event.Event.{Event}
 use Rattle.md_engine.specs.declared.event.Name.TheVariants as n
 use Rattle.md_seam.proofs.BlocksLemmas.{read-told}
-use Rattle.md_definition.specs.Texts.{trim_each}
+use Rattle.md_meaning.specs.Texts.{trim_each}
 use Rattle.md_seam.specs.Events.Nested.{around, pair}
 use Rattle.md_seam.specs.Events.Spelled.{AsHeading, HeadingSetextLeaf, HeadingSoFar, OfHeadingSetext, OpenLeaf, Reading}
 use Rattle.md_seam.specs.Events.Spelled.{Text, at_ending, begun, fresh, next_line, noted, on_leaf, read, text_to}
-use Rattle.md_definition.proofs.TextsLemmas.{IsOfLines, split-lines}
+use Rattle.md_meaning.proofs.TextsLemmas.{IsOfLines, split-lines}
 use Rattle.md_seam.proofs.SpelledLemmas.{Between, QuietOrPrefix, Roles, read-from, read-prefixes, text_after}
 
 -- Its text is read as the lines of that, which is cut at its container prefixes.

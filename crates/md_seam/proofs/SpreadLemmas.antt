@@ -9,11 +9,11 @@ use Rattle.md_engine.specs.declared.event.Point.{Point}
 use Rattle.md_engine.specs.Meaning.{Cell, Feed, line_of}
 use Rattle.md_engine.specs.Place.{is_ending, seen_at}
 use Rattle.md_engine.specs.Scheme.{cells_left}
-use Rattle.md_engine.specs.Spread.{EndsSpread, spreads}
+use Rattle.md_engine.specs.KnownRun.{EndsRun, is_of_run}
 use Rattle.md_engine.specs.World.{Setting, World, after}
 use Rattle.md_engine.proofs.Points.{cells-fall}
 use Rattle.md_engine.proofs.StepOf.{Sees}
-use Rattle.md_definition.specs.Rest.{is_white}
+use Rattle.md_meaning.specs.Rest.{is_white}
 use Rattle.md_seam.specs.Ahead.{line_bytes}
 use Rattle.md_seam.specs.Look.{as_seen, behind_code, first_behind, first_other, is_other, looks_behind, sees_other}
 use Rattle.md_seam.specs.Spaces.{sees_white}
@@ -22,7 +22,7 @@ use Rattle.md_seam.proofs.PlainSteps.{range-next, range-none}
 
 -- where a run ends stands the first other byte, as far as the text may be read
 pub first-other : (bytes : List ℕ) (marker d from limit n : ℕ) → limit ≤ length bytes → from + d ≡ n →
-    EndsSpread bytes marker from limit n →
+    EndsRun bytes marker from limit n →
     first_other marker (slice_range bytes from limit) ≡ cond (nat_lt n limit) (Some (slice_index bytes n)) None
 first-other bytes marker zero from limit n low at h = go (nat_lt n limit) refl
   where
@@ -34,7 +34,7 @@ first-other bytes marker zero from limit n low at h = go (nat_lt n limit) refl
     go false e = ap (first_other marker) (range-none bytes from limit (grind (arith, nat_tests, same)))
     go true e =
         let lt : n < limit = grind (arith, nat_tests) in
-        let other : spreads marker (slice_index bytes n) ≡ false = h.ends lt in
+        let other : is_of_run marker (slice_index bytes n) ≡ false = h.ends lt in
         ap (λ (i : ℕ). first_other marker (slice_range bytes i limit)) same
         ∙ ap (first_other marker) (range-next bytes n limit lt (omega (arith, lt, low)))
         ∙ ap
@@ -57,7 +57,7 @@ first-other bytes marker (suc d) from limit n low at h =
         ∙ ap (λ (x : Bool). cond x (Some (slice_index bytes n)) None) (sym past)
     go true e next =
         let lt : from < limit = grind (arith, nat_tests) in
-        let one : spreads marker (slice_index bytes from) ≡ true = h.each from (omega arith) (omega (arith, at)) in
+        let one : is_of_run marker (slice_index bytes from) ≡ true = h.each from (omega arith) (omega (arith, at)) in
         ap (first_other marker) (range-next bytes from limit lt (omega (arith, lt, low)))
         ∙ ap
         (λ (x : Bool).
@@ -66,7 +66,7 @@ first-other bytes marker (suc d) from limit n low at h =
 
 -- the same, of what a tokenizer sees
 pub other-seen : (w : World) (marker n : ℕ) (b : Bool) → w.setting.limit ≤ length w.setting.bytes →
-    EndsSpread w.setting.bytes marker w.point.index w.setting.limit n → n < w.setting.limit →
+    EndsRun w.setting.bytes marker w.point.index w.setting.limit n → n < w.setting.limit →
     b ≡ not (is_ending (slice_index w.setting.bytes n)) → b ≡ sees_other w marker
 unfolding sees_other
 other-seen w marker n b low h lt is =
@@ -77,7 +77,7 @@ other-seen w marker n b low h lt is =
     (sym (first-other w.setting.bytes marker (n - w.point.index) w.point.index w.setting.limit n low (omega (arith, behind)) h))
 
 pub other-unknown : (w : World) (marker n : ℕ) (b : Bool) → w.setting.limit ≤ length w.setting.bytes →
-    EndsSpread w.setting.bytes marker w.point.index w.setting.limit n → w.setting.limit ≤ n → b ≡ false →
+    EndsRun w.setting.bytes marker w.point.index w.setting.limit n → w.setting.limit ≤ n → b ≡ false →
     b ≡ sees_other w marker
 unfolding sees_other
 other-unknown w marker n b low h le is =
@@ -89,7 +89,7 @@ other-unknown w marker n b low h le is =
 
 -- A run with a space for its marker is whitespace alone.
 
-white-alone : (b : ℕ) → spreads 32 b ≡ is_white b
+white-alone : (b : ℕ) → is_of_run 32 b ≡ is_white b
 white-alone b = twice (nat_eq b 32) (nat_eq b 9)
   where
     twice : (x y : Bool) → x || (x || y) ≡ x || y
@@ -113,7 +113,7 @@ behind-white (b ∷ bytes) =
 
 -- where whitespace stands here, the first byte behind it stands where its run ends
 behind-first : (w : World) (n : ℕ) → w.setting.limit ≤ length w.setting.bytes →
-    EndsSpread w.setting.bytes 32 w.point.index w.setting.limit n → sees_white w.current ≡ true →
+    EndsRun w.setting.bytes 32 w.point.index w.setting.limit n → sees_white w.current ≡ true →
     seen_first (cond (nat_lt n w.setting.limit) (Some (slice_index w.setting.bytes n)) None) ≡ looks_behind w
 unfolding looks_behind
 behind-first w n low h white =
@@ -131,7 +131,7 @@ behind-first w n low h white =
     go (Some b) e = ap (λ (x : Bool). cond x found (Some b)) (sym e)
 
 pub behind-seen : (w : World) (n b : ℕ) → w.setting.limit ≤ length w.setting.bytes →
-    EndsSpread w.setting.bytes 32 w.point.index w.setting.limit n → sees_white w.current ≡ true →
+    EndsRun w.setting.bytes 32 w.point.index w.setting.limit n → sees_white w.current ≡ true →
     n < w.setting.limit → b ≡ as_seen (slice_index w.setting.bytes n) → Some b ≡ looks_behind w
 behind-seen w n b low h white lt is =
     let here : nat_lt n w.setting.limit ≡ true = grind (arith, nat_tests) in
@@ -140,7 +140,7 @@ behind-seen w n b low h white lt is =
     ∙ behind-first w n low h white
 
 pub behind-unknown : (w : World) (n : ℕ) → w.setting.limit ≤ length w.setting.bytes →
-    EndsSpread w.setting.bytes 32 w.point.index w.setting.limit n → sees_white w.current ≡ true →
+    EndsRun w.setting.bytes 32 w.point.index w.setting.limit n → sees_white w.current ≡ true →
     w.setting.limit ≤ n → None ≡ looks_behind w
 behind-unknown w n low h white le =
     let past : nat_lt n w.setting.limit ≡ false = grind (arith, nat_tests) in
@@ -155,7 +155,7 @@ are_spread marker bytes = list_all (λ (b : ℕ). nat_eq b marker || is_white b)
 
 -- the first cell of a line that does not end there
 line-next : (marker : ℕ) (c : Cell) (cs : List Cell) → nat_eq c.byte 10 ≡ false →
-    are_spread marker (line_bytes (c ∷ cs)) ≡ spreads marker c.byte && are_spread marker (line_bytes cs)
+    are_spread marker (line_bytes (c ∷ cs)) ≡ is_of_run marker c.byte && are_spread marker (line_bytes cs)
 line-next marker c cs e = rw e refl
 
 white-no_ending : (b : ℕ) → is_white b ≡ true → nat_eq b 10 ≡ false
@@ -164,7 +164,7 @@ white-no_ending b e = grind (arith, nat_tests)
 ending-no_line : (b : ℕ) → is_ending b ≡ false → nat_eq b 10 ≡ false
 ending-no_line b e = grind (arith, nat_tests)
 
-white-spreads : (marker b : ℕ) → is_white b ≡ true → spreads marker b ≡ true
+white-spreads : (marker b : ℕ) → is_white b ≡ true → is_of_run marker b ≡ true
 white-spreads marker b e = or-true (nat_eq b marker) (is_white b) e
   where
     or-true : (x y : Bool) → y ≡ true → x || y ≡ true
@@ -224,15 +224,15 @@ other-along feed x marker (suc n) p b f dark le e on =
     on-line lt k is =
         ap (λ (cells : List Cell). are_spread marker (line_bytes cells)) (f p lt)
         ∙ line-next marker cell (feed (after x p)) k
-        ∙ ap (λ (y : Bool). spreads marker cell.byte && y) is
-        ∙ and-false (spreads marker cell.byte)
+        ∙ ap (λ (y : Bool). is_of_run marker cell.byte && y) is
+        ∙ and-false (is_of_run marker cell.byte)
       where
         and-false : (y : Bool) → y && false ≡ false
         and-false true = refl
         and-false false = refl
 
     -- the other byte itself
-    ends : p.index < x.limit → nat_eq cell.byte 10 ≡ false → spreads marker cell.byte ≡ false →
+    ends : p.index < x.limit → nat_eq cell.byte 10 ≡ false → is_of_run marker cell.byte ≡ false →
         are_spread marker (line_bytes (feed p)) ≡ false
     ends lt k is =
         ap (λ (cells : List Cell). are_spread marker (line_bytes cells)) (f p lt)
@@ -259,7 +259,7 @@ other-along feed x marker (suc n) p b f dark le e on =
         let plain : is_ending byte ≡ false = ap is_ending same ∙ on in
         let at : IsDarkAt x p = dark-on x p k plain in
         ends lt (ap (λ (c : ℕ). nat_eq c 10) at.seen ∙ ending-no_line byte plain)
-        (ap (spreads marker) at.seen ∙ (rw (j, k) refl))
+        (ap (is_of_run marker) at.seen ∙ (rw (j, k) refl))
 
     go : (y z : Bool) → nat_lt p.index x.limit ≡ y → nat_lt p.index (length x.bytes) ≡ z → Next →
         are_spread marker (line_bytes (feed p)) ≡ false

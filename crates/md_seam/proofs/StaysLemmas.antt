@@ -11,10 +11,10 @@ use Rattle.md_engine.specs.Scheme.{Scheme, stands}
 use Rattle.md_engine.specs.Staying.{StaysOn, stayed}
 use Rattle.md_engine.specs.World.{World, looks}
 use Rattle.md_engine.proofs.ClassLemmas.{no-ending}
-use Rattle.md_definition.specs.Rest.{is_white}
+use Rattle.md_meaning.specs.Rest.{is_white}
 use Rattle.md_seam.specs.Stays.{TakesEach}
 use Rattle.md_seam.specs.Transition.{Transition}
-use Rattle.md_seam.proofs.SpacesGoods.{Does, does-stands}
+use Rattle.md_seam.proofs.SpacesTermination.{Does, does-stands}
 
 -- a state stays in a table where it only takes and counts, by what it does there
 pub stays-on : (T : Step) (S : Scheme) (n : StateName) (k : Stay) (t : World → Transition) →

@@ -3,8 +3,8 @@ use Rattle.std.proofs.Common.{◌≡◌, Bool, true, ◌&&◌, refl, sym, ◌∙
 use Rattle.std.proofs.lemmas.Bool.{and_from, and_parts}
 use Rattle.md_seam.specs.Events.Spelled.{ItemShape, Shape, block_around}
 use Rattle.md_seam.specs.Events.Throughout.{all_blocks, all_within}
-use Rattle.md_definition.specs.State.{then_block}
-use Rattle.md_definition.specs.Tree.{Block, Blocks, End, More}
+use Rattle.md_meaning.specs.State.{then_block}
+use Rattle.md_meaning.specs.Tree.{Block, Blocks, End, More}
 
 -- of the blocks in front of the last, and of the last
 pub all-then : (p : Block → Bool) (bs : Blocks) (b : Block) → all_blocks p (then_block bs b) ≡ true →

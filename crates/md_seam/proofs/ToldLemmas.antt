@@ -1,7 +1,7 @@
 -- How a text changes a half-read tree, by what it tells.
 use Rattle.std.proofs.Common.{◌≡◌, true, refl}
-use Rattle.md_definition.specs.Tree.{Line}
-use Rattle.md_seam.specs.Events.Spelled.{AsLine, Purpose, Reading, Role, Tells, add_block, named, noted, on_leaf}
+use Rattle.md_meaning.specs.Tree.{Line}
+use Rattle.md_seam.specs.Events.Spelled.{AsLine, Purpose, Reading, Role, TextRole, add_block, named, noted, on_leaf}
 use Rattle.md_seam.specs.Events.Spelled.{on_shape, told}
 use Rattle.md_seam.specs.Events.Told.{OfContainer, OfItself, OfLeaf, block_told, is_told, told_of}
 
@@ -24,6 +24,6 @@ told-noted AsLine e line r = refl
 told-noted _ e line r = cc
 
 -- what is read from a role that tells
-pub told-role : (x : Role) → is_told x ≡ true → (purpose : Purpose) × (x ≡ Tells purpose)
-told-role (Tells purpose) h = (purpose, refl)
+pub told-role : (x : Role) → is_told x ≡ true → (purpose : Purpose) × (x ≡ TextRole purpose)
+told-role (TextRole purpose) h = (purpose, refl)
 told-role _ h = absurd (cc)

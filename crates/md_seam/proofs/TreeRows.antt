@@ -2,21 +2,21 @@
 use Rattle.std.proofs.Common.{◌≡◌, true, refl}
 use Rattle.md_engine.specs.declared.configuration.ParseOptions.{ParseOptions}
 use Rattle.md_engine.specs.declared.configuration.TheConstants.ParseOptions as given
-use Rattle.md_definition.specs.Html.{begins_raw, begins_basic, after_value, after_assignment, after_attribute}
-use Rattle.md_definition.specs.Html.{ends_opening, begins_complete, kind_after, html_kind, html_ends, is_raw_name}
-use Rattle.md_definition.specs.Html.{is_basic_name}
-use Rattle.md_definition.specs.Enclosed.{enclosed, enclosed_lines}
-use Rattle.md_definition.specs.Definition.{label_at, balanced, destination_at, title_at, definition_at, cut_at_most}
-use Rattle.md_definition.specs.Definition.{cut_definitions}
-use Rattle.md_definition.specs.Table.{pieces, row_cells, delimiter_columns, is_head}
-use Rattle.md_definition.specs.State.{shut_paragraph}
-use Rattle.md_definition.specs.Preamble.{front_of}
-use Rattle.md_definition.specs.Containers.{quote_taken, item_continues, footnote_continues, opens_quote, opens_item}
-use Rattle.md_definition.specs.Containers.{opens_footnote}
-use Rattle.md_definition.specs.Leaves.{break_at, heading_at, code_at, code_goes_on, fence_at, fence_goes_on, html_at}
-use Rattle.md_definition.specs.Leaves.{html_goes_on, starts, table_goes_on, underline_depth, underlined, table_at}
-use Rattle.md_definition.specs.Step.{fresh_line, text_line, all_continued, stopped}
-use Rattle.md_definition.specs.Meaning.{tree}
+use Rattle.md_meaning.specs.Html.{begins_raw, begins_basic, after_value, after_assignment, after_attribute}
+use Rattle.md_meaning.specs.Html.{ends_opening, begins_complete, kind_after, html_kind, html_ends, is_raw_name}
+use Rattle.md_meaning.specs.Html.{is_basic_name}
+use Rattle.md_meaning.specs.Enclosed.{enclosed, enclosed_lines}
+use Rattle.md_meaning.specs.Definition.{label_at, balanced, destination_at, title_at, definition_at, cut_at_most}
+use Rattle.md_meaning.specs.Definition.{cut_definitions}
+use Rattle.md_meaning.specs.Table.{pieces, row_cells, delimiter_columns, is_head}
+use Rattle.md_meaning.specs.State.{shut_paragraph}
+use Rattle.md_meaning.specs.Preamble.{front_of}
+use Rattle.md_meaning.specs.Containers.{quote_taken, item_continues, footnote_continues, opens_quote, opens_item}
+use Rattle.md_meaning.specs.Containers.{opens_footnote}
+use Rattle.md_meaning.specs.Leaves.{break_at, heading_at, code_at, code_goes_on, fence_at, fence_goes_on, html_at}
+use Rattle.md_meaning.specs.Leaves.{html_goes_on, starts, table_goes_on, underline_depth, underlined, table_at}
+use Rattle.md_meaning.specs.Step.{fresh_line, text_line, all_continued, stopped}
+use Rattle.md_meaning.specs.Meaning.{tree}
 use Rattle.md_seam.proofs.EventRows.{empty_text, empty_tree, blank_text, blank_tree, mark_text, mark_tree}
 use Rattle.md_seam.proofs.EventRows.{paragraph_text, paragraph_tree, break_text, break_tree, heading_text, heading_tree}
 use Rattle.md_seam.proofs.EventRows.{empty_heading_text, empty_heading_tree, underlined_text, underlined_tree}

@@ -4,14 +4,11 @@ use Rattle.std.proofs.Common.{not, ◌&&◌, ◌||◌, List, [], ◌∷◌, leng
 use Rattle.std.specs.Prelude.{◌==◌, nat_lt, slice_index}
 use Rattle.std.proofs.lemmas.Bool.{and_parts, cases_lt, eqb-true, true≢false}
 use Rattle.std.proofs.lemmas.Bool.Decides.{nat_tests}
-use Rattle.std.proofs.lemmas.List.Elements.{All-cons, All-nil}
-use Rattle.md_engine.specs.declared.event.Event.{Event}
 use Rattle.md_engine.specs.declared.event.Point.{Point}
 use Rattle.md_engine.specs.Place.{IsPlaced, IsReached, is_ending, is_pair, next_point, stepped, walked}
 use Rattle.md_engine.proofs.Sound as Sound
-use Rattle.md_definition.specs.Texts.{first_byte, split_lines}
-use Rattle.md_seam.specs.Events.Places.{are_placed, columns_before, is_placed}
-use Rattle.md_seam.specs.Parts.{ArePlaced}
+use Rattle.md_meaning.specs.Texts.{first_byte, split_lines}
+use Rattle.md_seam.specs.Events.Places.{columns_before, is_placed}
 use Rattle.md_seam.proofs.PlacesLemmas.{Placed, at-next, placed-facts}
 use Rattle.md_seam.proofs.PlainSteps.{Before, before-next}
 use Rattle.md_seam.proofs.ReachedLemmas.{index-behind, placed-next, placed-walked, step-inside}
@@ -206,13 +203,3 @@ placed-point bytes sized p h = go (reached bytes p (placed-facts bytes p h)) (pl
     go (n, e) le =
         subst (IsPlaced bytes) (sym e)
         (walked-placed bytes sized n (subst (λ (q : Point). q.index ≤ length bytes) e le))
-
--- So one does to the points of events.
-pub points-placed : (bytes : List ℕ) (events : List Event) → length bytes < 2 ^ 61 → are_placed bytes events ≡ true →
-    ArePlaced bytes events
-points-placed bytes [] sized placed = All-nil (λ (e : Event). IsPlaced bytes e.point)
-points-placed bytes (e ∷ events) sized placed =
-    let both : (is_placed bytes e.point ≡ true) × (are_placed bytes events ≡ true) = and_parts
-    (is_placed bytes e.point) (are_placed bytes events) placed in
-    All-cons (λ (e : Event). IsPlaced bytes e.point) e events (placed-point bytes sized e.point both.0)
-    (points-placed bytes events sized both.1)

@@ -8,7 +8,7 @@ use Rattle.md_engine.specs.declared.state.space_or_tab.State.{State as WhiteStat
 use Rattle.md_engine.specs.declared.state.space_or_tab.State.TheVariants as its
 use Rattle.md_engine.specs.Meaning.{Accepts, Behaviour, Cell, Here, Outcome, Refuses}
 use Rattle.md_seam.specs.Events.Nested.{enter, exit}
-use Rattle.md_definition.specs.Rest.{is_white}
+use Rattle.md_meaning.specs.Rest.{is_white}
 use Rattle.md_seam.specs.Spaces.{asking, calmed}
 
 -- the cells of the line, without its ending

@@ -2,9 +2,9 @@
 use Rattle.std.specs.Prelude.{ℕ, Bool, true, false, not, if◌then◌else◌, List, [], ◌∷◌, Option, Some, None, slice_range}
 use Rattle.md_engine.specs.Meaning.{Cell}
 use Rattle.md_engine.specs.Place.{is_ending}
-use Rattle.md_engine.specs.Spread.{spreads}
+use Rattle.md_engine.specs.KnownRun.{is_of_run}
 use Rattle.md_engine.specs.World.{World}
-use Rattle.md_definition.specs.Rest.{is_white}
+use Rattle.md_meaning.specs.Rest.{is_white}
 
 -- the byte of the first cell, if there is one
 abbrev pub first_seen : List Cell → Option ℕ
@@ -43,7 +43,7 @@ may_with begins (Some b) = begins b
 -- the first byte that is neither a marker nor whitespace
 abbrev pub first_other : ℕ → List ℕ → Option ℕ
 first_other marker [] = None
-first_other marker (b ∷ bytes) = if spreads marker b then first_other marker bytes else Some b
+first_other marker (b ∷ bytes) = if is_of_run marker b then first_other marker bytes else Some b
 
 -- whether it is known, and does not end the line
 abbrev pub is_other : Option ℕ → Bool

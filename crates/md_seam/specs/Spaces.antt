@@ -12,8 +12,8 @@ use Rattle.md_engine.specs.declared.tokenizer.Scratch.{Scratch}
 use Rattle.md_engine.specs.declared.tokenizer.TheConstants.Scratch.{REST}
 use Rattle.md_engine.specs.declared.configuration.ParseOptions.{ParseOptions}
 use Rattle.md_engine.specs.World.{World}
-use Rattle.md_engine.specs.Scheme.{Spot, After, Rank, Scheme, Ends, EndsLater, cells_before, ranked}
-use Rattle.md_definition.specs.Rest.{is_white}
+use Rattle.md_engine.specs.Scheme.{Position, After, Rank, Scheme, Ends, EndsLater, cells_before, ranked}
+use Rattle.md_meaning.specs.Rest.{is_white}
 use Rattle.md_seam.specs.Transition.{Transition, entered, exited, taken, tried}
 
 -- whether a space or a column of a tab stands here
@@ -99,12 +99,12 @@ ends_line (Some b) = b == 10
 -- Readiness.
 
 -- whitespace leaves all but its own fields, and refuses only where some is asked for
-abbrev pub white_ready : StateName → Spot → After → Type 0
+abbrev pub white_ready : StateName → Position → After → Type 0
 white_ready n x K =
     (x.scratch.whitespace.size ≤ cells_before x.point) ×
     Ends (λ s. s ≡ calmed x.scratch) (λ s. (s ≡ calmed x.scratch) × (0 < x.scratch.whitespace.min)) x K
 
-abbrev pub white_rank : StateName → Spot → Rank
+abbrev pub white_rank : StateName → Position → Rank
 white_rank (n.SpaceOrTab its.Start) x = ranked 2 refl
 white_rank (n.SpaceOrTab its.Inside) x = ranked 1 refl
 white_rank _ x = ranked 0 refl
@@ -116,9 +116,9 @@ white_scheme = record { ready = white_ready; level = λ n. 0; rank = white_rank;
 abbrev pub IsRest : Scratch → Type 0
 IsRest s = s ≡ REST
 
-abbrev pub rest_ready : Spot → After → Type 0
+abbrev pub rest_ready : Position → After → Type 0
 rest_ready x K = IsRest x.scratch × Ends IsRest IsRest x K
 
 -- one that accepts only behind the point where it begins
-abbrev pub later_ready : Spot → After → Type 0
+abbrev pub later_ready : Position → After → Type 0
 later_ready x K = IsRest x.scratch × EndsLater IsRest IsRest x K

@@ -6,8 +6,8 @@ use Rattle.md_engine.specs.declared.event.Content.{Content}
 use Rattle.md_engine.specs.declared.event.Content.TheVariants as content
 use Rattle.md_engine.specs.declared.event.Event.{Event}
 use Rattle.md_engine.specs.declared.parse_state.ParseState.{ParseState}
-use Rattle.md_definition.specs.Label.{labels}
-use Rattle.md_definition.specs.Meaning.{tree}
+use Rattle.md_meaning.specs.Label.{labels}
+use Rattle.md_meaning.specs.Meaning.{tree}
 use Rattle.md_seam.specs.declared.inline.PartKind.{PartKind}
 use Rattle.md_seam.specs.declared.inline.PartKind.TheVariants as kind
 use Rattle.md_seam.specs.Substituted.{Readings}

@@ -6,7 +6,7 @@ ghost use Rattle.md_engine.specs.World.{world};
 ghost use Rattle.md_engine.specs.declared.event.Name.{Name};
 ghost use Rattle.md_seam.specs.Events.Inline.{ends_whole, is_line, pair_unless_empty, plain_chunk, plain_chunks};
 ghost use Rattle.md_seam.specs.Events.Inline.{together};
-ghost use Rattle.md_definition.specs.Lines.{is_ending, without_ending};
+ghost use Rattle.md_meaning.specs.Lines.{is_ending, without_ending};
 ghost use Rattle.md_seam.specs.Parts.{AreChunks, IsChunk};
 ghost use Rattle.md_seam.specs.Events.Nested.{pair};
 ghost use Rattle.md_seam.specs.Events.Places.{past_text};

@@ -210,7 +210,7 @@ pub fn after(tokenizer: &mut Tokenizer) -> State
 }
 
 /// What a state of whitespace only takes and counts.
-pub fn stays(state: WhiteState) -> Option<Stay>
+pub fn takes_at_once(state: WhiteState) -> Option<Stay>
     ensures { IfSome result (λ stay. TakesEach stay (StateName.SpaceOrTab state) (white_transition state)) }
 {
     match state {

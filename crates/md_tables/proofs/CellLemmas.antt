@@ -5,10 +5,10 @@ use Rattle.std.specs.Prelude.{if◌then◌else◌, not}
 use Rattle.std.proofs.lemmas.Bool.{and_parts}
 use Rattle.std.proofs.lemmas.List.{reverse-append}
 use Rattle.std.proofs.lemmas.List.Sums.{list_all-from_AllPass}
-use Rattle.md_definition.specs.Bytes.{after, after_optional, begins, is_end}
-use Rattle.md_definition.specs.Lines.{begins_with}
-use Rattle.md_definition.specs.Rest.{is_blank, is_white, trim, trim_end, trim_start}
-use Rattle.md_definition.specs.Table.{is_delimiter}
+use Rattle.md_meaning.specs.Bytes.{after, after_optional, begins, is_end}
+use Rattle.md_meaning.specs.Lines.{begins_with}
+use Rattle.md_meaning.specs.Rest.{is_blank, is_white, trim, trim_end, trim_start}
+use Rattle.md_meaning.specs.Table.{is_delimiter}
 use Rattle.md_leaves.proofs.TitleTexts.{front-stops, kept-ends, kept-whole, tail, tail-passes}
 use Rattle.md_seam.proofs.RestLines.{count-one, trim-white}
 use Rattle.md_tables.specs.Delimiter.{Aligns, Dash, Divides, Mark, Other, Stops, White, mark_of}

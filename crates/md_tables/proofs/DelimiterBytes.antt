@@ -8,9 +8,9 @@ use Rattle.md_engine.specs.declared.tokenizer.Line.{Line}
 use Rattle.md_engine.specs.declared.tokenizer.Scratch.{Scratch}
 use Rattle.md_engine.specs.declared.tokenizer.TheConstants.Scratch.{REST}
 use Rattle.md_engine.specs.Meaning.{Cell}
-use Rattle.md_definition.specs.Bytes.{begins}
-use Rattle.md_definition.specs.Rest.{is_white, trim, trim_end, trim_start}
-use Rattle.md_definition.specs.Table.{delimiter_columns}
+use Rattle.md_meaning.specs.Bytes.{begins}
+use Rattle.md_meaning.specs.Rest.{is_white, trim, trim_end, trim_start}
+use Rattle.md_meaning.specs.Table.{delimiter_columns}
 use Rattle.md_leaves.proofs.TitleTexts.{front-stops}
 use Rattle.md_seam.specs.Events.Places.{past_byte}
 use Rattle.md_seam.proofs.FeedLines.{bytes_of, cell, columns_more, next_column, spread, tab_cells}

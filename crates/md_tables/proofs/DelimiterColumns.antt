@@ -6,11 +6,11 @@ use Rattle.std.proofs.lemmas.Bool.{and_parts, eqb-true}
 use Rattle.std.proofs.lemmas.List.{length-map}
 use Rattle.std.proofs.lemmas.Bool.Decides.{nat_tests}
 use Rattle.md_engine.specs.declared.tokenizer.Scratch.{Scratch}
-use Rattle.md_definition.specs.Bytes.{after_optional, begins, is_end}
-use Rattle.md_definition.specs.Rest.{is_blank, is_white, trim, trim_end, trim_start}
-use Rattle.md_definition.specs.Table.{delimiter_columns, is_delimiter, pieces, row_cells}
+use Rattle.md_meaning.specs.Bytes.{after_optional, begins, is_end}
+use Rattle.md_meaning.specs.Rest.{is_blank, is_white, trim, trim_end, trim_start}
+use Rattle.md_meaning.specs.Table.{delimiter_columns, is_delimiter, pieces, row_cells}
 use Rattle.md_leaves.proofs.TitleTexts.{tail}
-use Rattle.md_parts.proofs.Pieces.{Parted, onto-parted, pieces-parted}
+use Rattle.md_link_definitions.proofs.Pieces.{Parted, onto-parted, pieces-parted}
 use Rattle.md_tables.specs.Delimiter.{Aligns, Dash, Divides, Mark, Other, Stops, White, mark_of}
 use Rattle.md_tables.specs.DelimiterRule.{Behind, Counts, Dashes, Fails, Front, Goes, Left, Marks, Move, Open, Place, counted}
 use Rattle.md_tables.specs.DelimiterRule.{fits, led, met, move}
@@ -18,7 +18,7 @@ use Rattle.md_tables.specs.GfmTableLine.{are_columns}
 use Rattle.md_tables.proofs.CellLemmas.{cell-is, dark-next, dark-rest, ends_cell, ends_dark, tail-blank, trimmed-begins}
 use Rattle.md_tables.proofs.CellLemmas.{trimmed-dark, trimmed-whole}
 use Rattle.md_tables.proofs.DelimiterLemmas.{told-as, white-mark}
-use Rattle.md_tables.proofs.RowSteps.{white-apart}
+use Rattle.md_tables.proofs.RowMeaning.{white-apart}
 use Rattle.md_tables.proofs.WhiteEnds.{blank-light}
 
 -- The pieces of a row.
@@ -60,7 +60,7 @@ own Behind = 0
 
 -- so many cells more, and whether a mark is met, make as many as the head has
 abbrev total : Scratch → ℕ → Bool → Bool
-total s n m = (s.seen || m) && nat_eq (s.size + n) s.size_b
+total s n m = (s.seen || m) && nat_eq (s.size + n) s.columns_wanted
 
 -- the first piece ends the cell of a place, the others are cells, and they are as many
 abbrev asked : Place → Scratch → List (List ℕ) → Bool → Bool
@@ -101,10 +101,10 @@ end-asked _ s InOpen e = cc
 end-asked _ s InLeft e = refl
 end-asked _ s InDashes e =
     let same : s.size ≡ s.size + 0 = omega arith in
-    ap₂ (λ (x : Bool) (n : ℕ). x && nat_eq n s.size_b) (sym (or-false s.seen)) same
+    ap₂ (λ (x : Bool) (n : ℕ). x && nat_eq n s.columns_wanted) (sym (or-false s.seen)) same
 end-asked _ s InBehind e =
     let same : s.size ≡ s.size + 0 = omega arith in
-    ap₂ (λ (x : Bool) (n : ℕ). x && nat_eq n s.size_b) (sym (or-false s.seen)) same
+    ap₂ (λ (x : Bool) (n : ℕ). x && nat_eq n s.columns_wanted) (sym (or-false s.seen)) same
 
 -- what is known of the bytes behind one
 abbrev IsAsked : List ℕ → Type 0
@@ -387,26 +387,26 @@ arranged false b false d = refl
 pub record Begins (s : Scratch) : Type 0 where
   pub size : s.size ≡ 0
   pub seen : s.seen ≡ false
-  pub some : 0 < s.size_b
+  pub some : 0 < s.columns_wanted
 
 -- the pieces of a row behind its first pipe, or of the whole row
 open-fits : (s : Scratch) (row u : List ℕ) (seen : Bool) → s.size ≡ 0 → s.seen ≡ seen → ends_dark u ≡ true →
     is_end u ≡ false → trim row ≡ row → after_optional 124 row ≡ u → seen || has_mark u ≡ has_mark row →
-    fits Open s u ≡ are_columns (delimiter_columns row) s.size_b
+    fits Open s u ≡ are_columns (delimiter_columns row) s.columns_wanted
 open-fits s row u seen size is dark some same front marks =
     let r = pieces-parted false u in
     let n : s.size + (1 + length r.others) ≡ suc (length r.others) = rw size (omega arith) in
     let m : s.seen || has_mark u ≡ has_mark row = ap (λ (x : Bool). x || has_mark u) is ∙ marks in
     row-asked Open s u InOpen dark some ∙ asked-at Open s (pieces false u) (has_mark u) r
     ∙ arranged (ends_cell Open r.first) (list_all (ends_cell Open) r.others) (s.seen || has_mark u)
-    (nat_eq (s.size + (1 + length r.others)) s.size_b)
+    (nat_eq (s.size + (1 + length r.others)) s.columns_wanted)
     ∙ ap₂
     (λ (x : Bool) (k : ℕ).
-    (x && (ends_cell Open r.first && list_all (ends_cell Open) r.others)) && nat_eq k s.size_b) m n
+    (x && (ends_cell Open r.first && list_all (ends_cell Open) r.others)) && nat_eq k s.columns_wanted) m n
     ∙ sym
-    (columns-of row u s.size_b same front
+    (columns-of row u s.columns_wanted same front
     ∙ ap
-    (λ (ps : List (List ℕ)). (has_mark row && list_all (ends_cell Open) ps) && nat_eq (length ps) s.size_b) r.is)
+    (λ (ps : List (List ℕ)). (has_mark row && list_all (ends_cell Open) ps) && nat_eq (length ps) s.columns_wanted) r.is)
 
 -- an empty row has no cell that is one of a delimiter row
 no-cell : (x : Bool) (n : ℕ) →
@@ -417,23 +417,23 @@ no-cell false n = refl
 
 -- a row of a single pipe has none
 pipe-alone : (s : Scratch) (b : ℕ) → Begins s → mark_of b ≡ Divides → trim (b ∷ []) ≡ b ∷ [] →
-    fits Front s (b ∷ []) ≡ are_columns (delimiter_columns (b ∷ [])) s.size_b
+    fits Front s (b ∷ []) ≡ are_columns (delimiter_columns (b ∷ [])) s.columns_wanted
 pipe-alone s b begin e same =
     let t = told-as b Divides e in
-    let none : nat_eq s.size s.size_b ≡ false = less s.size s.size_b begin.size begin.some in
-    let left : fits Front s (b ∷ []) ≡ nat_eq s.size s.size_b = rw e refl in
+    let none : nat_eq s.size s.columns_wanted ≡ false = less s.size s.columns_wanted begin.size begin.some in
+    let left : fits Front s (b ∷ []) ≡ nat_eq s.size s.columns_wanted = rw e refl in
     let front : after_optional 124 (b ∷ []) ≡ [] = rw t.pipe refl in
-    let right : are_columns (delimiter_columns (b ∷ [])) s.size_b ≡
-    (has_mark (b ∷ []) && list_all (ends_cell Open) (pieces false [])) && nat_eq (length (pieces false [])) s.size_b =
-    columns-of (b ∷ []) [] s.size_b same front in
-    left ∙ none ∙ sym (right ∙ no-cell (has_mark (b ∷ [])) s.size_b)
+    let right : are_columns (delimiter_columns (b ∷ [])) s.columns_wanted ≡
+    (has_mark (b ∷ []) && list_all (ends_cell Open) (pieces false [])) && nat_eq (length (pieces false [])) s.columns_wanted =
+    columns-of (b ∷ []) [] s.columns_wanted same front in
+    left ∙ none ∙ sym (right ∙ no-cell (has_mark (b ∷ [])) s.columns_wanted)
   where
     less : (m n : ℕ) → m ≡ 0 → 0 < n → nat_eq m n ≡ false
     less m n is some = grind (arith, nat_tests)
 
 -- a row without outer whitespace
 dark-fits : (s : Scratch) (row : List ℕ) → Begins s → begins is_white row ≡ false → ends_dark row ≡ true →
-    fits Front s row ≡ are_columns (delimiter_columns row) s.size_b
+    fits Front s row ≡ are_columns (delimiter_columns row) s.columns_wanted
 unfolding delimiter_columns
 dark-fits s [] begin dark ends = refl
 dark-fits s (b ∷ []) begin dark ends = by (mark_of b) refl
@@ -442,13 +442,13 @@ dark-fits s (b ∷ []) begin dark ends = by (mark_of b) refl
     same = trim-same (b ∷ []) dark ends
 
     whole : (x : Mark) → mark_of b ≡ x → nat_eq b 124 ≡ false → move Front x ≡ move Open x →
-        fits Front s (b ∷ []) ≡ are_columns (delimiter_columns (b ∷ [])) s.size_b
+        fits Front s (b ∷ []) ≡ are_columns (delimiter_columns (b ∷ [])) s.columns_wanted
     whole x e pipe to =
         let on : move Front (mark_of b) ≡ move Open (mark_of b) = rw e to in
         ap (λ (m : Move). led m s (λ q t. fits q t [])) on
         ∙ open-fits s (b ∷ []) (b ∷ []) false begin.size begin.seen ends refl same (rw pipe refl) refl
 
-    by : (x : Mark) → mark_of b ≡ x → fits Front s (b ∷ []) ≡ are_columns (delimiter_columns (b ∷ [])) s.size_b
+    by : (x : Mark) → mark_of b ≡ x → fits Front s (b ∷ []) ≡ are_columns (delimiter_columns (b ∷ [])) s.columns_wanted
     by Stops e = whole Stops e (told-as b Stops e).pipe refl
     by White e = let no : true ≡ false = sym (told-as b White e).white ∙ dark in cc
     by Divides e = pipe-alone s b begin e same
@@ -461,14 +461,14 @@ dark-fits s (b ∷ c ∷ bs) begin dark ends = by (mark_of b) refl
     same = trim-same (b ∷ c ∷ bs) dark ends
 
     whole : (x : Mark) → mark_of b ≡ x → nat_eq b 124 ≡ false → move Front x ≡ move Open x →
-        fits Front s (b ∷ c ∷ bs) ≡ are_columns (delimiter_columns (b ∷ c ∷ bs)) s.size_b
+        fits Front s (b ∷ c ∷ bs) ≡ are_columns (delimiter_columns (b ∷ c ∷ bs)) s.columns_wanted
     whole x e pipe to =
         let on : move Front (mark_of b) ≡ move Open (mark_of b) = rw e to in
         ap (λ (m : Move). led m s (λ q t. fits q t (c ∷ bs))) on
         ∙ open-fits s (b ∷ c ∷ bs) (b ∷ c ∷ bs) false begin.size begin.seen ends refl same (rw pipe refl) refl
 
     by : (x : Mark) → mark_of b ≡ x →
-        fits Front s (b ∷ c ∷ bs) ≡ are_columns (delimiter_columns (b ∷ c ∷ bs)) s.size_b
+        fits Front s (b ∷ c ∷ bs) ≡ are_columns (delimiter_columns (b ∷ c ∷ bs)) s.columns_wanted
     by Stops e = whole Stops e (told-as b Stops e).pipe refl
     by White e = let no : true ≡ false = sym (told-as b White e).white ∙ dark in cc
     by Divides e =
@@ -483,7 +483,7 @@ dark-fits s (b ∷ c ∷ bs) begin dark ends = by (mark_of b) refl
 -- A line behind its indent is a delimiter row by the states just if it is one by the line definition, with as many columns
 -- as are asked for.
 pub delimiter-fits : (s : Scratch) (bytes : List ℕ) → Begins s → begins is_white bytes ≡ false →
-    fits Front s bytes ≡ are_columns (delimiter_columns (trim bytes)) s.size_b
+    fits Front s bytes ≡ are_columns (delimiter_columns (trim bytes)) s.columns_wanted
 delimiter-fits s bytes begin dark =
     ap (fits Front s) (trimmed-whole bytes)
     ∙ fits-white Front s (trim_end bytes) (tail is_white bytes) (tail-blank bytes)

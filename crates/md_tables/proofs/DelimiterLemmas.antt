@@ -4,7 +4,7 @@ use Rattle.std.specs.Prelude.{⊤}
 use Rattle.std.proofs.lemmas.Bool.{eqb-true}
 use Rattle.md_engine.specs.declared.event.Name.TheVariants.{SpaceOrTab}
 use Rattle.md_engine.specs.Meaning.{Cell, Here, Outcome, Refuses}
-use Rattle.md_definition.specs.Rest.{is_white}
+use Rattle.md_meaning.specs.Rest.{is_white}
 use Rattle.md_leaves.proofs.LeafSteps.{TakesWhite}
 use Rattle.md_seam.specs.Ahead.{begins_white}
 use Rattle.md_seam.specs.Events.Nested.{enter, exit}
@@ -13,7 +13,7 @@ use Rattle.md_tables.specs.Delimiter.{Aligns, Dash, Divides, Mark, Stops, White,
 use Rattle.md_tables.specs.DelimiterRule.{Apart, Behind, Counts, Dashes, Fails, Goes, Marks, Move, Open}
 use Rattle.md_tables.specs.DelimiterRule.{Place, Run, Space, begun, behind_white, closes, counted, goes_on, in_row, met, move}
 use Rattle.md_tables.specs.DelimiterRule.{opens}
-use Rattle.md_tables.proofs.RowSteps.{white-apart}
+use Rattle.md_tables.proofs.RowMeaning.{white-apart}
 
 -- What a mark says of its byte.
 abbrev pub is_stop : Mark → Bool
@@ -184,15 +184,3 @@ pub white-refused : (place : Place) (cells : List Cell) (h : Here) → begins_wh
     behind_white place cells h ≡ Refuses (uncounted h.scratch) h.flags
 unfolding behind_white
 white-refused place cells h e = rw e refl
-
--- behind its dashes a cell has ended
-pub dashes-end : (cells : List Cell) (h : Here) → ((c : Cell) (cs : List Cell) → cells ≡ c ∷ cs →
-    nat_eq c.byte 10 ≡ false → move Dashes (mark_of c.byte) ≡ move Behind (mark_of c.byte)) →
-    in_row Apart Dashes cells h ≡ in_row Apart Behind cells h
-unfolding in_row
-dashes-end [] h same = refl
-dashes-end (c ∷ cs) h same = go (nat_eq c.byte 10) refl
-  where
-    go : (x : Bool) → nat_eq c.byte 10 ≡ x → in_row Apart Dashes (c ∷ cs) h ≡ in_row Apart Behind (c ∷ cs) h
-    go true e = rw e refl
-    go false e = rw (e, same c cs refl e) refl

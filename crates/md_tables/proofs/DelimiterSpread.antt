@@ -9,7 +9,7 @@ use Rattle.md_engine.specs.declared.event.Name.TheVariants.{SpaceOrTab}
 use Rattle.md_engine.specs.declared.event.Point.{Point}
 use Rattle.md_engine.specs.declared.tokenizer.Line.{Line}
 use Rattle.md_engine.specs.Meaning.{Cell}
-use Rattle.md_definition.specs.Rest.{is_white}
+use Rattle.md_meaning.specs.Rest.{is_white}
 use Rattle.md_seam.specs.Ahead.{begins_white, line_cells, white_end, white_rest}
 use Rattle.md_seam.specs.Events.Nested.{enter, pair}
 use Rattle.md_seam.specs.Events.Places.{past_byte}

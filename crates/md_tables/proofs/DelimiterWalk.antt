@@ -6,8 +6,8 @@ use Rattle.md_engine.specs.declared.event.Event.{Event}
 use Rattle.md_engine.specs.declared.event.Name.TheVariants as n
 use Rattle.md_engine.specs.declared.event.Point.{Point}
 use Rattle.md_engine.specs.declared.tokenizer.Scratch.{Scratch}
-use Rattle.md_definition.specs.Lines.{begins_with}
-use Rattle.md_definition.specs.Rest.{is_blank, is_white, trim_start}
+use Rattle.md_meaning.specs.Lines.{begins_with}
+use Rattle.md_meaning.specs.Rest.{is_blank, is_white, trim_start}
 use Rattle.md_seam.specs.Events.Nested.{enter, exit}
 use Rattle.md_seam.specs.Events.Places.{past_byte, past_text}
 use Rattle.md_seam.proofs.InlineLemmas.{past_text-append}
@@ -27,7 +27,7 @@ use Rattle.md_tables.proofs.DelimiterColumns.{colon-slash, dash-slash}
 use Rattle.md_tables.proofs.RowCellLemmas.{cells-none, cells-pipe, cells-plain}
 use Rattle.md_tables.proofs.RowCellLemmas.{cells-begin, first-behind, first-onto, first_cell}
 use Rattle.md_tables.proofs.RowCellLemmas.{white-blank, white-ends, white-first, white-more, white_left}
-use Rattle.md_tables.proofs.RowSteps.{white-apart}
+use Rattle.md_tables.proofs.RowMeaning.{white-apart}
 use Rattle.md_tables.proofs.WhiteEnds.{blank-first}
 use Rattle.md_tables.proofs.DelimiterRuns.{space-opens, space-on, space-ends, blank-runs}
 use Rattle.md_tables.proofs.DelimiterRuns.{piped, pipe-opens, value-pipe, value_left}

@@ -21,7 +21,7 @@ use Rattle.md_seam.specs.Spaces.{IsRest}
 use Rattle.md_tables.specs.HeadStates.{HeadStep, head_behaves, head_scheme, head_start}
 use Rattle.md_tables.specs.Heads.{cells_between, head_line, head_row}
 use Rattle.md_tables.specs.RowRule.{in_row}
-use Rattle.md_tables.proofs.HeadStates.{head_means, head_stands}
+use Rattle.md_tables.proofs.HeadStates.{head_table_means, head_stands}
 
 -- where it begins the head stands
 begins : (w : World) → IsRest w.scratch → w.frames ≡ [] → stands head_scheme w (Next head_start)
@@ -45,7 +45,7 @@ head-push : (s s' : State) (w w' : World) (limit : ℕ) → limit < 2 ^ 61 → s
     (comes_to head_behaves feed s w ≡ comes_to head_behaves feed s' w') × stands head_scheme w' (plain s'))
 head-push s s' w w' limit small at run =
     runs-mean HeadStep head_scheme head_behaves false (text_feed (reads_to w limit).setting) s (reads_to w limit)
-    (head_means (reads_to w limit).setting false) head_stands
+    (head_table_means (reads_to w limit).setting false) head_stands
     (text-follows (reads_to w limit).setting limit false small (omega arith) (λ e. cc)) at s' w' run
 
 -- a flush comes to where the tokenizer ends
@@ -57,7 +57,7 @@ head-flush R s w found new h rest small at is f =
     go f.end f.ends
     (sym is
     ∙ flush-means HeadStep R head_scheme head_behaves (text_feed w.setting) s w false found new
-    (head_means w.setting true) head_stands
+    (head_table_means w.setting true) head_stands
     (text-follows w.setting w.setting.limit true small (omega arith) (λ e. refl)) at f)
     ∙ ap here (sym f.resolved.0)
   where

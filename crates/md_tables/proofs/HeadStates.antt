@@ -19,9 +19,9 @@ use Rattle.md_engine.proofs.StepOf.{Sees, sees, steps-as}
 use Rattle.md_engine.proofs.Walks.{EachKeeps, Within}
 use Rattle.md_seam.specs.Ahead.{HasWhite}
 use Rattle.md_seam.specs.Stays.{TakesEach}
-use Rattle.md_seam.proofs.SpacesGoods.{Does, WhiteFits, does-fall, does-remain, does-setting, does-stands, white_does}
+use Rattle.md_seam.proofs.SpacesTermination.{Does, WhiteFits, does-fall, does-remain, does-setting, does-stands, white_terminates}
 use Rattle.md_seam.proofs.StaysLemmas.{stays-on}
-use Rattle.md_seam.proofs.WhiteSteps.{white_steps}
+use Rattle.md_seam.proofs.WhiteMeaning.{white_means}
 use Rattle.md_tables.specs.HeadStates.{HeadStep, head_behaves, head_owner, head_scheme, head_transition}
 use Rattle.md_tables.specs.Row.{name_at, row_scheme, row_transition}
 use Rattle.md_tables.specs.RowRule.{HasRow, row_behaves}
@@ -30,8 +30,8 @@ use Rattle.md_tables.specs.RowWords.RowStep.{OfRow, OfWhite}
 use Rattle.md_tables.specs.declared.row.Place.{Place}
 use Rattle.md_tables.specs.declared.row.Place.TheVariants as place
 use Rattle.md_tables.specs.declared.row.Row.TheVariants.{Head}
-use Rattle.md_tables.proofs.RowGoods.{RowFits, row_does}
-use Rattle.md_tables.proofs.RowSteps.{row_steps}
+use Rattle.md_tables.proofs.RowTermination.{RowFits, row_terminates}
+use Rattle.md_tables.proofs.RowMeaning.{row_means}
 
 -- The table has a head row, and whitespace.
 
@@ -48,15 +48,15 @@ row_fits = record { white = white_fits; each = at }
     at place.Escape = fits head_owner (name_at Head place.Escape)
     at place.CellBefore = fits head_owner (name_at Head place.CellBefore)
 
-pub head_does : (name : StateName) (w : World) → w.current ≡ looks w → stands head_scheme w (Next name) →
+pub head_terminates : (name : StateName) (w : World) → w.current ≡ looks w → stands head_scheme w (Next name) →
     Does head_scheme name w (head_transition name w)
-head_does (n.GfmTable its.HeadRowBefore) w c r = row_does head_scheme Head place.Start w row_fits c r
-head_does (n.GfmTable its.HeadRowBreak) w c r = row_does head_scheme Head place.Break w row_fits c r
-head_does (n.GfmTable its.HeadRowData) w c r = row_does head_scheme Head place.Data w row_fits c r
-head_does (n.GfmTable its.HeadRowEscape) w c r = row_does head_scheme Head place.Escape w row_fits c r
-head_does (n.GfmTable its.HeadRowCellBefore) w c r = row_does head_scheme Head place.CellBefore w row_fits c r
-head_does (n.SpaceOrTab state) w c r = white_does head_scheme state w white_fits c r
-head_does name w c r = absurd r
+head_terminates (n.GfmTable its.HeadRowBefore) w c r = row_terminates head_scheme Head place.Start w row_fits c r
+head_terminates (n.GfmTable its.HeadRowBreak) w c r = row_terminates head_scheme Head place.Break w row_fits c r
+head_terminates (n.GfmTable its.HeadRowData) w c r = row_terminates head_scheme Head place.Data w row_fits c r
+head_terminates (n.GfmTable its.HeadRowEscape) w c r = row_terminates head_scheme Head place.Escape w row_fits c r
+head_terminates (n.GfmTable its.HeadRowCellBefore) w c r = row_terminates head_scheme Head place.CellBefore w row_fits c r
+head_terminates (n.SpaceOrTab state) w c r = white_terminates head_scheme state w white_fits c r
+head_terminates name w c r = absurd r
 
 -- What is left at each state is what these say.
 
@@ -73,28 +73,28 @@ has_row = record { white = has_white; each = at }
     at place.Escape cells h = refl
     at place.CellBefore cells h = refl
 
-head_steps : (feed : Feed) (name : StateName) (w : World) → Sees feed w → stands head_scheme w (Next name) →
+head_means : (feed : Feed) (name : StateName) (w : World) → Sees feed w → stands head_scheme w (Next name) →
     Steps head_behaves feed (Next name) w (head_transition name w).to (head_transition name w).world
-head_steps feed (n.GfmTable its.HeadRowBefore) w s at = row_steps head_behaves feed Head place.Start w has_row s at.0
-head_steps feed (n.GfmTable its.HeadRowBreak) w s at = row_steps head_behaves feed Head place.Break w has_row s at.0
-head_steps feed (n.GfmTable its.HeadRowData) w s at = row_steps head_behaves feed Head place.Data w has_row s at.0
-head_steps feed (n.GfmTable its.HeadRowEscape) w s at = row_steps head_behaves feed Head place.Escape w has_row s at.0
-head_steps feed (n.GfmTable its.HeadRowCellBefore) w s at =
-    row_steps head_behaves feed Head place.CellBefore w has_row s at.0
-head_steps feed (n.SpaceOrTab state) w s at = white_steps head_behaves feed state w has_white s
-head_steps feed name w s at = absurd at
+head_means feed (n.GfmTable its.HeadRowBefore) w s at = row_means head_behaves feed Head place.Start w has_row s at.0
+head_means feed (n.GfmTable its.HeadRowBreak) w s at = row_means head_behaves feed Head place.Break w has_row s at.0
+head_means feed (n.GfmTable its.HeadRowData) w s at = row_means head_behaves feed Head place.Data w has_row s at.0
+head_means feed (n.GfmTable its.HeadRowEscape) w s at = row_means head_behaves feed Head place.Escape w has_row s at.0
+head_means feed (n.GfmTable its.HeadRowCellBefore) w s at =
+    row_means head_behaves feed Head place.CellBefore w has_row s at.0
+head_means feed (n.SpaceOrTab state) w s at = white_means head_behaves feed state w has_white s
+head_means feed name w s at = absurd at
 
 -- each state of the head takes one step of what it means
-pub head_means : (under : Setting) (is_end : Bool) → MeansAt HeadStep head_scheme under head_behaves is_end
-head_means under is_end feed name w to new f called step =
+pub head_table_means : (under : Setting) (is_end : Bool) → MeansAt HeadStep head_scheme under head_behaves is_end
+head_table_means under is_end feed name w to new f called step =
     steps-as head_behaves feed (Next name) _ to (reading w) _ new step.to_is step.new_is
-    (head_steps feed name (reading w) (sees feed w is_end f called.may) called.stands)
+    (head_means feed name (reading w) (sees feed w is_end f called.may) called.stands)
 
 -- and comes to where the table stands
 pub head_stands : StandsOn HeadStep head_scheme
 head_stands name w to new at step =
     does-stands head_scheme name (reading w) (head_transition name (reading w)) to new step.to_is step.new_is
-    (head_does name (reading w) refl at)
+    (head_terminates name (reading w) refl at)
 
 -- what only takes stays
 pub head-stays : (name : StateName) (o : Option Stay) → IfSome o (λ k. TakesEach k name (head_transition name)) →
@@ -102,7 +102,7 @@ pub head-stays : (name : StateName) (o : Option Stay) → IfSome o (λ k. TakesE
 head-stays name None h = tt
 head-stays name (Some k) h =
     stays-on HeadStep head_scheme name k (head_transition name)
-    (λ w to new e k. record { to_is = e; new_is = k }) (head_does name) h
+    (λ w to new e k. record { to_is = e; new_is = k }) (head_terminates name) h
 
 -- what a call of a row does a call of this table does
 pub row-heads : (name : StateName) (w : World) (to : State) (new : World) → RowStep Head name w to new →
@@ -123,7 +123,7 @@ row-heads name w to new (OfWhite state named to_is new_is) =
 -- what each call keeps
 pub head-keeps : EachKeeps HeadStep head_scheme
 head-keeps name w to new seen at step =
-    let does = head_does name w seen at in (
+    let does = head_terminates name w seen at in (
       does-stands head_scheme name w (head_transition name w) to new step.to_is step.new_is does,
       does-fall head_scheme name w (head_transition name w) to new step.to_is step.new_is does,
     )
@@ -134,7 +134,7 @@ pub head-called : (name : StateName) (w : World) (to : State) (new : World) → 
     new ≡ (head_transition name w).world →
     RunsHere HeadStep name w to new × SeesOn to w new
 head-called name w to new seen at within fine to_is new_is =
-    let does = head_does name w seen at in
+    let does = head_terminates name w seen at in
     let same : new.setting ≡ w.setting = does-setting head_scheme name w _ _ new_is does in (
       call-runs HeadStep name w to new (record { to_is = to_is; new_is = new_is }) fine same within,
       call-sees to w new (does-remain head_scheme name w _ to new to_is new_is does) same seen,

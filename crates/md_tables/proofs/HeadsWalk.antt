@@ -1,8 +1,8 @@
 -- The walk that puts heads in the places of their chunks.
 use Rattle.std.proofs.Common.{◌≡◌, ℕ, suc, ◌+◌, ◌<◌, ◌≤◌, Bool, true, false, cond, not, List, [], ◌∷◌, ◌++◌}
-use Rattle.std.proofs.Common.{take, drop, get_or, length, refl, sym, ◌∙◌, ap, subst, arith, append-nil, append_assoc}
+use Rattle.std.proofs.Common.{take, drop, get_or, length, refl, sym, ◌∙◌, ap, subst, arith, append_assoc}
 use Rattle.std.specs.List.{prefix_len}
-use Rattle.std.proofs.lemmas.List.{drop-drop, drop_all, drop_more, length-drop}
+use Rattle.std.proofs.lemmas.List.{drop-drop, drop_more, length-drop}
 use Rattle.std.proofs.lemmas.List.Elements.{All-append, All-drop, All-take}
 use Rattle.md_engine.specs.declared.configuration.ParseOptions.{ParseOptions}
 use Rattle.md_engine.specs.declared.event.Event.{Event}
@@ -109,10 +109,3 @@ walk-headed bytes options events given new all at d within head is so_far =
     (headed bytes options (drop (at + 2) events))
     ∙ ap (λ (l : List Event). given ++ l) (sym begins)
     ∙ ap (λ (l : List Event). given ++ headed bytes options l) (sym first) ∙ so_far)
-
--- at the end all is given
-pub walk-done : (bytes : List ℕ) (options : ParseOptions) (events given all : List Event) (at : ℕ) →
-    length events ≤ at → given ++ headed bytes options (drop at events) ≡ all → given ≡ all
-walk-done bytes options events given all at end so_far =
-    sym (append-nil given)
-    ∙ ap (λ (l : List Event). given ++ headed bytes options l) (sym (drop_all at events end)) ∙ so_far

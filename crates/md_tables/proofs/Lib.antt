@@ -1,12 +1,12 @@
 pub mod RowLemmas
-pub mod RowGoods
-pub mod RowSteps
+pub mod RowTermination
+pub mod RowMeaning
 pub mod RowWords
-pub mod DelimiterGoods
+pub mod DelimiterTermination
 pub mod DelimiterLemmas
-pub mod DelimiterSteps
-pub mod GfmTableGoods
-pub mod GfmTableSteps
+pub mod DelimiterMeaning
+pub mod GfmTableTermination
+pub mod GfmTableMeaning
 pub mod GfmTableWhole
 pub mod DelimiterBytes
 pub mod DelimiterSpread
@@ -17,7 +17,6 @@ pub mod TabledWalk
 pub mod CellsLemmas
 pub mod TabledLines
 pub mod RowNests
-pub mod TabledNests
 pub mod WhiteEnds
 pub mod RowCellLemmas
 pub mod RowRuns
@@ -29,8 +28,6 @@ pub mod HeadStates
 pub mod HeadRuns
 pub mod HeadsWalk
 pub mod HeadsLemmas
-pub mod RunsLemmas
-pub mod HeadPoints
 pub mod PipeWalk
 pub mod DelimiterRuns
 pub mod DelimiterWalk

@@ -16,7 +16,7 @@ use Rattle.md_tables.specs.declared.cells.RowKind.{RowKind}
 use Rattle.md_tables.specs.declared.cells.RowKind.TheVariants.{Delimiter, Text}
 use Rattle.md_tables.specs.declared.cells.Stage.{Stage}
 use Rattle.md_tables.specs.declared.cells.Stage.TheVariants as row
-use Rattle.md_tables.specs.declared.cells.Stage.TheVariants.{Behind, Front, Gap, Inner, Within}
+use Rattle.md_tables.specs.declared.cells.Stage.TheVariants.{Behind, Front, Inner, Within}
 use Rattle.md_tables.specs.declared.tables.Bound.TheVariants.{Other}
 use Rattle.md_tables.specs.declared.tables.Section.{Section}
 use Rattle.md_tables.specs.declared.tables.Section.TheVariants.{Between, Body, Head, Outside}

@@ -7,9 +7,9 @@ use Rattle.std.proofs.lemmas.Bool.{eqb-true}
 use Rattle.std.proofs.lemmas.List.{take-append-drop}
 use Rattle.std.proofs.lemmas.List.Sums.{list_all-from_AllPass}
 use Rattle.md_engine.specs.declared.event.Point.{Point}
-use Rattle.md_definition.specs.Bytes.{begins}
-use Rattle.md_definition.specs.Lines.{begins_with}
-use Rattle.md_definition.specs.Rest.{is_blank, is_white, trim, trim_start}
+use Rattle.md_meaning.specs.Bytes.{begins}
+use Rattle.md_meaning.specs.Lines.{begins_with}
+use Rattle.md_meaning.specs.Rest.{is_blank, is_white, trim, trim_start}
 use Rattle.md_leaves.proofs.TitleTexts.{front-passes}
 use Rattle.md_seam.specs.Events.Places.{past_text}
 use Rattle.md_seam.proofs.FeedLines.{drop-past, past_text-whole, slice-front}

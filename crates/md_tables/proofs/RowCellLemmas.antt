@@ -5,7 +5,7 @@ use Rattle.md_engine.specs.declared.event.Event.{Event}
 use Rattle.md_engine.specs.declared.event.Name.{Name}
 use Rattle.md_engine.specs.declared.event.Name.TheVariants as n
 use Rattle.md_engine.specs.declared.event.Point.{Point}
-use Rattle.md_definition.specs.Rest.{is_blank, is_white, trim, trim_end, trim_start}
+use Rattle.md_meaning.specs.Rest.{is_blank, is_white, trim, trim_end, trim_start}
 use Rattle.md_seam.specs.Events.Nested.{enter, enter_link, exit}
 use Rattle.md_seam.specs.Events.Places.{past_byte, past_text}
 use Rattle.md_seam.proofs.RestLines.{trim-white}
@@ -13,7 +13,7 @@ use Rattle.md_tables.specs.Row.{text_link}
 use Rattle.md_tables.specs.RowCells.{Cells, Divides, Ends, Shut, behind_pipe, cell_by, cell_inside, cells_by, cells_of}
 use Rattle.md_tables.specs.RowCells.{first_pipe}
 use Rattle.md_tables.specs.RowCells.{onto, past_pipe, pipe_part, text_part, unread_text, white_back, white_front, white_part}
-use Rattle.md_tables.proofs.RowSteps.{white-apart}
+use Rattle.md_tables.proofs.RowMeaning.{white-apart}
 use Rattle.md_tables.proofs.WhiteEnds.{blank-first, dark-first, end-blank, end-more, front-none, front-one, start-none}
 
 -- The bytes of a cell.

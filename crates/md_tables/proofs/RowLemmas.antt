@@ -5,7 +5,7 @@ use Rattle.md_engine.specs.declared.event.Name.TheVariants.{SpaceOrTab}
 use Rattle.md_engine.specs.declared.event.Event.{Event}
 use Rattle.md_engine.specs.declared.event.Point.{Point}
 use Rattle.md_engine.specs.Meaning.{Cell, Here}
-use Rattle.md_definition.specs.Rest.{is_white}
+use Rattle.md_meaning.specs.Rest.{is_white}
 use Rattle.md_leaves.proofs.LeafSteps.{TakesWhite}
 use Rattle.md_seam.specs.Ahead.{begins_white}
 use Rattle.md_seam.specs.Events.Nested.{enter, exit}

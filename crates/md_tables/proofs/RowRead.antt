@@ -6,10 +6,10 @@ use Rattle.md_engine.specs.declared.event.Event.{Event}
 use Rattle.md_engine.specs.declared.event.Name.{Name}
 use Rattle.md_engine.specs.declared.event.Name.TheVariants as n
 use Rattle.md_engine.specs.declared.event.Point.{Point}
-use Rattle.md_definition.specs.Bytes.{begins}
-use Rattle.md_definition.specs.Lines.{begins_with}
-use Rattle.md_definition.specs.Rest.{is_white, trim, trim_start}
-use Rattle.md_definition.specs.Table.{row_cells}
+use Rattle.md_meaning.specs.Bytes.{begins}
+use Rattle.md_meaning.specs.Lines.{begins_with}
+use Rattle.md_meaning.specs.Rest.{is_white, trim, trim_start}
+use Rattle.md_meaning.specs.Table.{row_cells}
 use Rattle.md_seam.specs.declared.inline.Chunk.{Chunk}
 use Rattle.md_seam.specs.Events.Inline.{line_end, pair_unless_empty, plain_chunk}
 use Rattle.md_seam.specs.Events.Nested.{around, exit, pair}

@@ -8,12 +8,10 @@ use Rattle.md_engine.specs.declared.event.Event.{Event}
 use Rattle.md_engine.specs.declared.event.Point.{Point}
 use Rattle.md_engine.specs.declared.tokenizer.Line.{Line}
 use Rattle.md_engine.specs.Meaning.{Cell}
-use Rattle.md_definition.specs.Rest.{is_white}
+use Rattle.md_meaning.specs.Rest.{is_white}
 use Rattle.md_seam.specs.Events.Places.{past_byte}
 use Rattle.md_seam.proofs.FeedLines.{behind_last, byte_cells, cell, columns_more, next_column, spread, tab_cells, tab_end}
 use Rattle.md_seam.proofs.FeedLines.{tab_end-last, tab_end-next, tab_end-stop}
-use Rattle.md_tables.specs.DelimiterCells.{delimiter_runs}
-use Rattle.md_tables.specs.DelimiterRule as delimiter
 use Rattle.md_tables.specs.RowCells.{row_runs}
 use Rattle.md_tables.specs.RowRule as row
 
@@ -127,58 +125,4 @@ pub row-spread : (run : row.Run) (line : Line) (bytes : List ℕ) (p : Point) �
     row.runs run (spread line bytes p) p ≡ row_runs run bytes p
 row-spread = bytes-run row.Run row.White row_turns row.runs row_runs row-are
 
--- A column of whitespace is told alike by a tab and by a space, as the first column of a tab that is cut.
-pub row-column : (run : row.Run) (at : Point) (line : Line) (cs : List Cell) (p : Point) →
-    row.runs run (cell 32 at line ∷ cs) p ≡ row.runs run (cell 9 at line ∷ cs) p
-row-column row.Apart at line cs p = refl
-row-column row.White at line cs p = refl
-row-column row.Pipe at line cs p = refl
-row-column row.Text at line cs p = refl
-row-column row.Escaped at line cs p = refl
-
 -- A delimiter row.
-
-delimiter_turns : delimiter.Run → Point → List Event → List Event
-delimiter_turns run p es = cond (delimiter.goes_on run 9) es (delimiter.closes run p ++ delimiter.opens delimiter.Space p ++ es)
-
-delimiter-are : AreSpread delimiter.Run delimiter.Space delimiter_turns delimiter.runs delimiter_runs
-unfolding delimiter_turns
-delimiter-are = record {
-  none = λ run p. refl;
-  byte = λ run b line cs bs p more.
-      ap₂
-      (λ (xs zs : List Event).
-      cond (delimiter.goes_on run b) xs (delimiter.closes run p ++ delimiter.opens (delimiter.begun b) p ++ zs))
-      (more run) (more (delimiter.begun b));
-  column = column;
-  tab = tab;
-  more = λ byte at line cs q e. rw e refl;
-}
-  where
-    column : (run : delimiter.Run) (at : Point) (line : Line) (cs : List Cell) (p : Point) →
-        delimiter.runs run (cell 9 at line ∷ cs) p ≡ delimiter_turns run p (delimiter.runs delimiter.Space cs at)
-    column delimiter.Apart at line cs p = refl
-    column delimiter.Space at line cs p = refl
-    column delimiter.Pipe at line cs p = refl
-    column delimiter.Colon at line cs p = refl
-    column delimiter.Filler at line cs p = refl
-
-    tab : (run : delimiter.Run) (bs : List ℕ) (p : Point) →
-        delimiter_runs run (9 ∷ bs) p ≡ delimiter_turns run p (delimiter_runs delimiter.Space bs (past_byte 9 p))
-    tab delimiter.Apart bs p = refl
-    tab delimiter.Space bs p = refl
-    tab delimiter.Pipe bs p = refl
-    tab delimiter.Colon bs p = refl
-    tab delimiter.Filler bs p = refl
-
-pub delimiter-spread : (run : delimiter.Run) (line : Line) (bytes : List ℕ) (p : Point) → 1 ≤ p.column →
-    delimiter.runs run (spread line bytes p) p ≡ delimiter_runs run bytes p
-delimiter-spread = bytes-run delimiter.Run delimiter.Space delimiter_turns delimiter.runs delimiter_runs delimiter-are
-
-pub delimiter-column : (run : delimiter.Run) (at : Point) (line : Line) (cs : List Cell) (p : Point) →
-    delimiter.runs run (cell 32 at line ∷ cs) p ≡ delimiter.runs run (cell 9 at line ∷ cs) p
-delimiter-column delimiter.Apart at line cs p = refl
-delimiter-column delimiter.Space at line cs p = refl
-delimiter-column delimiter.Pipe at line cs p = refl
-delimiter-column delimiter.Colon at line cs p = refl
-delimiter-column delimiter.Filler at line cs p = refl

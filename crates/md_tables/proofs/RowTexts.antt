@@ -2,13 +2,13 @@
 use Rattle.std.proofs.Common.{◌≡◌, ℕ, Bool, true, false, cond, nat_eq, List, [], ◌∷◌, ◌++◌, map, refl, sym, ◌∙◌, ap}
 use Rattle.std.specs.List.{onto_first}
 use Rattle.std.proofs.lemmas.Bool.{and_parts, eqb-true}
-use Rattle.md_definition.specs.Bytes.{after_optional, is_end}
-use Rattle.md_definition.specs.Rest.{is_blank, is_white, trim, trim_end, trim_start}
-use Rattle.md_definition.specs.Table.{pieces, row_cells}
+use Rattle.md_meaning.specs.Bytes.{after_optional, is_end}
+use Rattle.md_meaning.specs.Rest.{is_blank, is_white, trim, trim_end, trim_start}
+use Rattle.md_meaning.specs.Table.{pieces, row_cells}
 use Rattle.md_seam.proofs.RestLines.{trim-white}
 use Rattle.md_tables.specs.RowCells.{Cells, Divides, Ends, Shut, behind_pipe, cells_of, line_cells, onto, white_back}
 use Rattle.md_tables.proofs.CellLemmas.{dark-next, ends_dark, trimmed-dark}
-use Rattle.md_tables.proofs.RowSteps.{white-apart}
+use Rattle.md_tables.proofs.RowMeaning.{white-apart}
 use Rattle.md_tables.proofs.WhiteEnds.{back-blank, blank-both, blank-light, end-behind, end-blank, end-whole, start-none}
 
 -- what each cell holds

@@ -6,9 +6,9 @@ use Rattle.std.proofs.lemmas.Bool.{eqb-true}
 use Rattle.md_engine.specs.declared.event.Event.{Event}
 use Rattle.md_engine.specs.declared.event.Name.TheVariants as n
 use Rattle.md_engine.specs.declared.event.Point.{Point}
-use Rattle.md_definition.specs.Bytes.{begins}
-use Rattle.md_definition.specs.Lines.{begins_with}
-use Rattle.md_definition.specs.Rest.{is_blank, is_white, trim_start}
+use Rattle.md_meaning.specs.Bytes.{begins}
+use Rattle.md_meaning.specs.Lines.{begins_with}
+use Rattle.md_meaning.specs.Rest.{is_blank, is_white, trim_start}
 use Rattle.md_seam.specs.Events.Nested.{enter, enter_link, exit}
 use Rattle.md_seam.specs.Events.Places.{past_byte, past_text}
 use Rattle.md_seam.proofs.RestLines.{trim-white}

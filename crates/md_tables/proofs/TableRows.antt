@@ -4,8 +4,8 @@ use Rattle.md_engine.specs.declared.event.Event.{Event}
 use Rattle.md_engine.specs.declared.event.Name.TheVariants as n
 use Rattle.md_engine.specs.declared.event.Point.{Point}
 use Rattle.md_engine.specs.declared.tokenizer.Scratch.{Scratch}
-use Rattle.md_definition.specs.Ascii.{backslash}
-use Rattle.md_definition.specs.Rest.{is_blank, trim_start}
+use Rattle.md_meaning.specs.Ascii.{backslash}
+use Rattle.md_meaning.specs.Rest.{is_blank, trim_start}
 use Rattle.md_seam.specs.Events.Nested.{around, enter, exit}
 use Rattle.md_seam.specs.Events.Places.{past_byte, past_text}
 use Rattle.md_tables.specs.Cells.{celled}

@@ -3,9 +3,9 @@ use Rattle.std.proofs.Common.{◌≡◌, ℕ, Bool, true, false, ◌&&◌, List,
 use Rattle.std.proofs.Common.{refl, sym, ◌∙◌, ap, append_assoc}
 use Rattle.std.proofs.lemmas.Bool.{and_parts}
 use Rattle.std.proofs.lemmas.List.{drop_at}
-use Rattle.md_definition.specs.Bytes.{is_end}
-use Rattle.md_definition.specs.Rest.{is_blank, is_white, trim_end, trim_start}
-use Rattle.md_definition.specs.Texts.{first_byte}
+use Rattle.md_meaning.specs.Bytes.{is_end}
+use Rattle.md_meaning.specs.Rest.{is_blank, is_white, trim_end, trim_start}
+use Rattle.md_meaning.specs.Texts.{first_byte}
 use Rattle.md_leaves.proofs.TitleTexts.{tail}
 use Rattle.md_seam.proofs.RestLines.{count-one}
 use Rattle.md_tables.specs.RowCells.{white_back, white_front}

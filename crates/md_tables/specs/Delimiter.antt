@@ -10,17 +10,17 @@ use Rattle.md_engine.specs.declared.state.gfm_table.State.TheVariants as its
 use Rattle.md_engine.specs.declared.state.State.TheVariants.{Ok, Nok, Next, Retry}
 use Rattle.md_engine.specs.declared.tokenizer.Scratch.{Scratch}
 use Rattle.md_engine.specs.declared.tokenizer.held_leaf.HeldLeaf.TheVariants as held_leaf
-use Rattle.md_engine.specs.Scheme.{After, Ends, Rank, Scheme, Spot, cells_before, ranked}
+use Rattle.md_engine.specs.Scheme.{After, Ends, Rank, Scheme, Position, cells_before, ranked}
 use Rattle.md_engine.specs.World.{World}
-use Rattle.md_definition.specs.Ascii.{colon, hyphen, line_feed, pipe}
-use Rattle.md_definition.specs.Rest.{is_white}
+use Rattle.md_meaning.specs.Ascii.{colon, hyphen, line_feed, pipe}
+use Rattle.md_meaning.specs.Rest.{is_white}
 use Rattle.md_leaves.specs.Further.{further_link}
 use Rattle.md_seam.specs.Spaces.{IsRest, any_size, sees_white, small_indent, white_then}
 use Rattle.md_seam.specs.Transition.{Transition, entered, entered_link, exited, taken}
 
 -- without what it keeps
 abbrev pub uncounted : Scratch → Scratch
-uncounted s = record s { size = 0; size_b = 0; seen = false }
+uncounted s = record s { size = 0; columns_wanted = 0; seen = false }
 
 -- What stands in a delimiter row.
 pub data Mark : Type 0 where
@@ -128,7 +128,7 @@ ends_code w true = record {
 ends_code w false = refused w
 
 abbrev pub is_counted : Scratch → Bool
-is_counted s = s.seen && (s.size == s.size_b)
+is_counted s = s.seen && (s.size == s.columns_wanted)
 
 abbrev pub cell_after_code : World → Mark → Transition
 cell_after_code w Stops = ends_code w (is_counted w.scratch)
@@ -177,7 +177,7 @@ delimiter_transition its.HeadDelimiterCellAfter w = cell_after_transition w
 delimiter_transition _ w = refused w
 
 -- Each cell that was counted lies before the point.
-pub record IsCounting (x : Spot) : Type 0 where
+pub record IsCounting (x : Position) : Type 0 where
   pub size : x.scratch.size ≤ cells_before x.point
   pub rest : IsRest (uncounted x.scratch)
 
@@ -185,10 +185,10 @@ abbrev pub DelimiterNeeds : StateName → World → Type 0
 DelimiterNeeds (n.GfmTable its.HeadDelimiterLeftAlignmentAfter) w = w.scratch.size ≤ cells_before w.point
 DelimiterNeeds _ w = Unit {0}
 
-abbrev pub delimiter_ready : StateName → Spot → After → Type 0
+abbrev pub delimiter_ready : StateName → Position → After → Type 0
 delimiter_ready name x K = IsCounting x × Ends IsRest IsRest x K
 
-abbrev pub delimiter_rank : StateName → Spot → Rank
+abbrev pub delimiter_rank : StateName → Position → Rank
 delimiter_rank (n.GfmTable its.HeadDelimiterStart) x = ranked 5 refl
 delimiter_rank (n.GfmTable its.HeadDelimiterBefore) x = ranked 3 refl
 delimiter_rank (n.GfmTable its.HeadDelimiterCellBefore) x = ranked 4 refl

@@ -11,8 +11,8 @@ use Rattle.md_engine.specs.declared.state.gfm_table.State.TheVariants as its
 use Rattle.md_engine.specs.declared.tokenizer.Scratch.{Scratch}
 use Rattle.md_engine.specs.declared.tokenizer.held_leaf.HeldLeaf.TheVariants as held_leaf
 use Rattle.md_engine.specs.Meaning.{Accepts, Behaviour, Cell, Here, Outcome, Refuses}
-use Rattle.md_definition.specs.Ascii.{colon, hyphen, pipe}
-use Rattle.md_definition.specs.Rest.{is_white}
+use Rattle.md_meaning.specs.Ascii.{colon, hyphen, pipe}
+use Rattle.md_meaning.specs.Rest.{is_white}
 use Rattle.md_leaves.specs.Further.{further_link}
 use Rattle.md_seam.specs.Ahead.{HasWhite, begins_white, from_ending, line_bytes, line_cells, line_end, white_end}
 use Rattle.md_seam.specs.Ahead.{white_rest}

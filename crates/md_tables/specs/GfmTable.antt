@@ -17,8 +17,8 @@ use Rattle.md_engine.specs.declared.tokenizer.held_leaf.OpenText.{OpenText}
 use Rattle.md_engine.specs.Run.{reading}
 use Rattle.md_engine.specs.Scheme.{Scheme, nowhere, of_owners, ranked}
 use Rattle.md_engine.specs.World.{World}
-use Rattle.md_definition.specs.Ascii.{colon, hyphen, pipe}
-use Rattle.md_definition.specs.Rest.{is_small}
+use Rattle.md_meaning.specs.Ascii.{colon, hyphen, pipe}
+use Rattle.md_meaning.specs.Rest.{is_small}
 use Rattle.md_seam.specs.Spaces.{rest_ready}
 use Rattle.md_seam.specs.Transition.{Transition}
 use Rattle.md_tables.specs.Delimiter.{DelimiterNeeds, delimiter_scheme, delimiter_transition}
@@ -38,7 +38,7 @@ may_begin _ b = false
 
 -- so many cells are asked of the delimiter row
 abbrev pub asking_columns : ℕ → Scratch → Scratch
-asking_columns columns s = record s { size_b = columns }
+asking_columns columns s = record s { columns_wanted = columns }
 
 -- where the last line of a text may be a head, its delimiter row begins
 abbrev pub head_code : World → OpenText → Bool → Transition

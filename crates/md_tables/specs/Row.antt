@@ -8,10 +8,10 @@ use Rattle.md_engine.specs.declared.state.Name.TheVariants as n
 use Rattle.md_engine.specs.declared.state.gfm_table.State.{State as TableState}
 use Rattle.md_engine.specs.declared.state.gfm_table.State.TheVariants as its
 use Rattle.md_engine.specs.declared.state.State.TheVariants.{Ok, Nok, Next, Retry}
-use Rattle.md_engine.specs.Scheme.{After, Rank, Scheme, Spot, ranked, seen}
+use Rattle.md_engine.specs.Scheme.{After, Rank, Scheme, Position, ranked, seen}
 use Rattle.md_engine.specs.World.{World}
-use Rattle.md_definition.specs.Ascii.{backslash, line_feed, pipe}
-use Rattle.md_definition.specs.Rest.{is_white}
+use Rattle.md_meaning.specs.Ascii.{backslash, line_feed, pipe}
+use Rattle.md_meaning.specs.Rest.{is_white}
 use Rattle.md_leaves.specs.Further.{further_link}
 use Rattle.md_seam.specs.Spaces.{any_size, rest_ready, sees_white, white_then}
 use Rattle.md_seam.specs.Transition.{Transition, entered, entered_link, exited, taken}
@@ -149,16 +149,16 @@ row_transition r place.CellBefore w = cell_before_transition r w
 
 -- Readiness.
 
-abbrev pub row_ready : StateName → Spot → After → Type 0
+abbrev pub row_ready : StateName → Position → After → Type 0
 row_ready name x K = rest_ready x K
 
-abbrev pub break_rank : Spot → Rank
+abbrev pub break_rank : Position → Rank
 break_rank x = if is_text (piece (seen x)) then ranked 2 refl else ranked 0 refl
 
-abbrev pub data_rank : Spot → Rank
+abbrev pub data_rank : Position → Rank
 data_rank x = if is_text (piece (seen x)) then ranked 1 refl else ranked 2 refl
 
-abbrev pub row_rank : StateName → Spot → Rank
+abbrev pub row_rank : StateName → Position → Rank
 row_rank (n.GfmTable its.HeadRowBreak) x = break_rank x
 row_rank (n.GfmTable its.BodyRowBreak) x = break_rank x
 row_rank (n.GfmTable its.HeadRowData) x = data_rank x

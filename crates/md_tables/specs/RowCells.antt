@@ -9,10 +9,10 @@ use Rattle.md_engine.specs.declared.event.Event.{Event}
 use Rattle.md_engine.specs.declared.event.Name.{Name}
 use Rattle.md_engine.specs.declared.event.Name.TheVariants as n
 use Rattle.md_engine.specs.declared.event.Point.{Point}
-use Rattle.md_definition.specs.Ascii.{backslash, pipe}
-use Rattle.md_definition.specs.Bytes.{after_optional}
-use Rattle.md_definition.specs.Lines.{begins_with}
-use Rattle.md_definition.specs.Rest.{is_blank, is_white, trim, trim_end, trim_start}
+use Rattle.md_meaning.specs.Ascii.{backslash, pipe}
+use Rattle.md_meaning.specs.Bytes.{after_optional}
+use Rattle.md_meaning.specs.Lines.{begins_with}
+use Rattle.md_meaning.specs.Rest.{is_blank, is_white, trim, trim_end, trim_start}
 use Rattle.md_seam.specs.declared.inline.PartKind.TheVariants as kind
 use Rattle.md_seam.specs.Events.Inline.{plain_events}
 use Rattle.md_seam.specs.Events.Nested.{around, enter_link, exit, pair}

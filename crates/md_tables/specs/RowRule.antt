@@ -6,8 +6,8 @@ use Rattle.md_engine.specs.declared.event.Name.TheVariants.{Data, GfmTable, GfmT
 use Rattle.md_engine.specs.declared.event.Name.TheVariants.{SpaceOrTab}
 use Rattle.md_engine.specs.declared.event.Point.{Point}
 use Rattle.md_engine.specs.Meaning.{Accepts, Behaviour, Cell, Here, Outcome, Refuses}
-use Rattle.md_definition.specs.Ascii.{backslash, pipe}
-use Rattle.md_definition.specs.Rest.{is_white}
+use Rattle.md_meaning.specs.Ascii.{backslash, pipe}
+use Rattle.md_meaning.specs.Rest.{is_white}
 use Rattle.md_leaves.specs.Further.{further_link}
 use Rattle.md_seam.specs.Ahead.{HasWhite, begins_white, from_ending, line_cells, line_end}
 use Rattle.md_seam.specs.Events.Nested.{enter, exit}

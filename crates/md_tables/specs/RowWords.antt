@@ -9,7 +9,7 @@ use Rattle.md_engine.specs.declared.state.State.TheVariants.{Error, Next}
 use Rattle.md_engine.specs.Going.{SeesOn}
 use Rattle.md_engine.specs.Run.{RunsHere, Step, reading}
 use Rattle.md_engine.specs.World.{World, looks}
-use Rattle.md_definition.specs.Ascii.{backslash}
+use Rattle.md_meaning.specs.Ascii.{backslash}
 use Rattle.md_seam.specs.OneSpace.{IsOneSpace, spaced}
 use Rattle.md_seam.specs.Spaces.{sees_white, white_transition}
 use Rattle.md_seam.specs.Transition.{entered, exited, taken}

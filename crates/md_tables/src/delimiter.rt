@@ -3,7 +3,7 @@
 //     delimiter_row ::= small_indent [ '|' ] delimiter *( '|' delimiter ) [ '|' ] *space_or_tab
 //     delimiter     ::= *space_or_tab [ ':' ] 1*'-' [ ':' ] *space_or_tab
 //
-// A row has a colon or a pipe, and as many cells as the head: how many that is, is in the scratch (`size_b`) when it
+// A row has a colon or a pipe, and as many cells as the head: how many that is, is in the scratch (`columns_wanted`) when it
 // begins. It is a `GfmTable` of its own around `GfmTableDelimiterRow`, and in that `GfmTableCellDivider`, `SpaceOrTab`,
 // `GfmTableDelimiterMarker` and `GfmTableDelimiterFiller`; it is linked to the line before, which is the head. Behind it
 // a table is open. Resolvers join the lines of one, and make cells of these.
@@ -36,7 +36,7 @@ fn uncounted(scratch: Scratch) -> Scratch
 {
     Scratch {
         size: 0,
-        size_b: 0,
+        columns_wanted: 0,
         seen: false,
         ..scratch
     }
@@ -258,7 +258,7 @@ pub fn cell_after(tokenizer: &mut Tokenizer) -> State
 {
     let scratch = tokenizer.scratch;
     match tokenizer.current {
-        None | Some(b'\n') if scratch.seen && scratch.size == scratch.size_b => {
+        None | Some(b'\n') if scratch.seen && scratch.size == scratch.columns_wanted => {
             or_error!(tokenizer.exit(Name::GfmTableDelimiterRow));
             or_error!(tokenizer.exit(Name::GfmTable));
             tokenizer.scratch = uncounted(scratch);
@@ -275,7 +275,7 @@ pub fn cell_after(tokenizer: &mut Tokenizer) -> State
 }
 
 /// What a state of a delimiter row only takes.
-pub fn stays(state: TableState) -> Option<Stay>
+pub fn takes_at_once(state: TableState) -> Option<Stay>
     ensures { IfSome result (λ stay. TakesEach stay (StateName.GfmTable state) (delimiter_transition state)) }
 {
     match state {

@@ -24,7 +24,7 @@ use md_engine::state::gfm_table::State as TableState;
 use md_engine::state::{Name as StateName, State};
 use md_engine::stay::Stay;
 use md_engine::tokenizer::{HeldLeaf, OpenText, Tokenizer};
-use plain_grammars::columns::is_small;
+use md_grammars::columns::is_small;
 
 /// Whether the last line of this text may be the head of a table.
 fn may_head(options: &ParseOptions, text: OpenText) -> bool
@@ -65,7 +65,7 @@ pub fn start(tokenizer: &mut Tokenizer) -> State
     match tokenizer.flags.leaf {
         HeldLeaf::Text(text) => {
             if may_head(tokenizer.options, text) {
-                tokenizer.scratch.size_b = text.columns;
+                tokenizer.scratch.columns_wanted = text.columns;
                 State::Retry(StateName::GfmTable(TableState::HeadDelimiterStart))
             } else {
                 State::Nok
@@ -77,13 +77,13 @@ pub fn start(tokenizer: &mut Tokenizer) -> State
 }
 
 /// What a state of a table only takes.
-pub fn stays(state: TableState) -> Option<Stay>
+pub fn takes_at_once(state: TableState) -> Option<Stay>
     ensures { IfSome result (λ stay. TakesEach stay (StateName.GfmTable state) (table_transition state)) }
 {
     match state {
-        TableState::HeadRowData => row::stays(Row::Head, Place::Data),
-        TableState::BodyRowData => row::stays(Row::Body, Place::Data),
-        TableState::HeadDelimiterFiller => delimiter::stays(state),
+        TableState::HeadRowData => row::takes_at_once(Row::Head, Place::Data),
+        TableState::BodyRowData => row::takes_at_once(Row::Body, Place::Data),
+        TableState::HeadDelimiterFiller => delimiter::takes_at_once(state),
         _ => None,
     }
 }

@@ -65,7 +65,7 @@ fn row_stays(state: TableState) -> Option<Stay>
         (λ stay. TakesEach stay (StateName.GfmTable state) (head_transition (StateName.GfmTable state))) }
 {
     match state {
-        TableState::HeadRowData => row::stays(Row::Head, Place::Data),
+        TableState::HeadRowData => row::takes_at_once(Row::Head, Place::Data),
         _ => None,
     }
 }
@@ -87,10 +87,10 @@ impl Table for HeadTable {
         call_state(tokenizer, name)
     }
 
-    fn stays(name: StateName) -> Option<Stay> {
+    fn takes_at_once(name: StateName) -> Option<Stay> {
         match name {
             StateName::GfmTable(state) => row_stays(state),
-            StateName::SpaceOrTab(state) => space_or_tab::stays(state),
+            StateName::SpaceOrTab(state) => space_or_tab::takes_at_once(state),
             _ => None,
         }
     }

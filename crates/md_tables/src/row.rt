@@ -250,7 +250,7 @@ pub fn cell_before(tokenizer: &mut Tokenizer, row: Row) -> State
 }
 
 /// What a state of a row only takes.
-pub fn stays(row: Row, place: Place) -> Option<Stay>
+pub fn takes_at_once(row: Row, place: Place) -> Option<Stay>
     ensures { IfSome result
         (λ stay. TakesEach stay (StateName.GfmTable (state_at row place)) (row_transition row place)) }
 {

@@ -13,7 +13,7 @@ ghost use Rattle.md_engine.specs.Staying.{SeesSome};
 ghost use Rattle.md_engine.specs.World.{looks, world};
 ghost use Rattle.md_engine.specs.declared.state.State.{State};
 ghost use Rattle.md_engine.specs.declared.stay.Stay.{Stay};
-ghost use Rattle.md_definition.specs.Ascii.{pipe};
+ghost use Rattle.md_meaning.specs.Ascii.{pipe};
 ghost use Rattle.md_seam.specs.Spaces.{sees_white};
 ghost use Rattle.md_seam.specs.Transition.{IsAt, NeedsNothing};
 ghost use Rattle.md_tables.specs.Row.{begun, behind_part, is_escaped, is_text, name_at, piece};

@@ -10,7 +10,7 @@
 // The walk looks at each event as it passes it, and in a row at up to four behind it. Outside of tables the events up
 // to the next table are copied at once, and where no table stands nothing is.
 
-ghost use Rattle.std.specs.Prelude.{◌≡◌, ℕ, ◌≤◌, ◌<◌, ◌++◌, ◌∷◌, [], IfOk, List, None, OnOk, drop, false, length, true};
+ghost use Rattle.std.specs.Prelude.{◌≡◌, ℕ, ◌≤◌, ◌<◌, ◌++◌, [], IfOk, List, None, OnOk, drop, false, length, true};
 ghost use Rattle.std.specs.List.{prefix_len};
 ghost use Rattle.std.specs.Option.{option_map};
 ghost use Rattle.md_engine.specs.Found.{found_in};

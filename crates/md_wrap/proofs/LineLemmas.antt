@@ -1,8 +1,8 @@
 -- The first line of a text, which ends with the ending that comes first, and a prefix before each line in turn.
 use Rattle.std.proofs.Common.{◌≡◌, ◌≢◌, ℕ, suc, zero, ◌+◌, ◌-◌, ◌<◌, Bool, true, false, cond, ◌&&◌, ◌||◌, ◌==◌, not}
-use Rattle.std.proofs.Common.{List, [], ◌∷◌, ◌++◌, length, map, take, drop, get_or, refl, sym, ◌∙◌, ap, subst}
-use Rattle.std.proofs.Common.{append_assoc, append-nil, arith}
-use Rattle.std.specs.List.{concat, onto_first}
+use Rattle.std.proofs.Common.{List, [], ◌∷◌, length, take, drop, get_or, refl, sym, ◌∙◌, ap, subst}
+use Rattle.std.proofs.Common.{arith}
+use Rattle.std.specs.List.{onto_first}
 use Rattle.std.specs.Str.{IsCharBoundary, IsUtf8}
 use Rattle.std.proofs.lemmas.Bool.{and_parts, eqb-true, true≢false}
 use Rattle.std.proofs.lemmas.Bool.Decides.{nat_tests}
@@ -10,9 +10,8 @@ use Rattle.std.proofs.lemmas.List.{get_or-drop, length-drop, take_all}
 use Rattle.std.proofs.lemmas.Str.{IsCharBoundary-after_ascii, IsCharBoundary-before_ascii, IsCharBoundary-end}
 use Rattle.std.proofs.lemmas.Str.{IsCharBoundary-from_rest, IsUtf8-drop}
 use Rattle.memchr.specs.Find.{Nowhere, Passes, is_byte2}
-use Rattle.md_definition.specs.Lines.{begins_with, full_lines_of, is_ending}
-use Rattle.md_definition.specs.Wrapped.{prefixed}
-use Rattle.md_definition.proofs.PrefixedLines.{ends_line-no, prefixed-all}
+use Rattle.md_meaning.specs.Lines.{begins_with, full_lines_of, is_ending}
+use Rattle.md_meaning.proofs.PrefixedLines.{ends_line-no}
 use Rattle.md_wrap.specs.Endings.{ending_len}
 
 -- The first line.
@@ -119,21 +118,3 @@ line-boundary text at u lt here =
     (ending-boundary (drop at text) behind low)
 
 -- One line more has its prefix.
-
-regroup : (a b c d : List ℕ) → ((a ++ b) ++ c) ++ d ≡ a ++ ((b ++ c) ++ d)
-regroup a b c d = simp append_assoc
-
-pub prefixed-next : (before prefix further left line behind : List ℕ) →
-    full_lines_of left ≡ line ∷ full_lines_of behind →
-    ((before ++ prefix) ++ line) ++ concat (prefixed further further (full_lines_of behind)) ≡
-    before ++ concat (prefixed prefix further (full_lines_of left))
-prefixed-next before prefix further left line behind is =
-    ap (λ (ls : List (List ℕ)). ((before ++ prefix) ++ line) ++ concat ls) (prefixed-all further (full_lines_of behind))
-    ∙ regroup before prefix line (concat (map (λ l. further ++ l) (full_lines_of behind)))
-    ∙ ap (λ (ls : List (List ℕ)). before ++ concat (prefixed prefix further ls)) (sym is)
-
--- none is left
-pub prefixed-end : (before prefix further left : List ℕ) → (length left == 0) ≡ true →
-    before ++ concat (prefixed prefix further (full_lines_of left)) ≡ before
-prefixed-end before prefix further [] h = append-nil before
-prefixed-end before prefix further (b ∷ bytes) h = absurd (omega (arith, eqb-true (length (b ∷ bytes)) 0 h))

@@ -1,7 +1,7 @@
 -- Line endings (CommonMark 2.1), and how long they are.
 use Rattle.std.specs.Prelude.{ℕ, ◌&&◌, ◌==◌, if◌then◌else◌, List, [], ◌∷◌}
-use Rattle.md_definition.specs.Ascii.{carriage_return, line_feed}
-use Rattle.md_definition.specs.Lines.{begins_with}
+use Rattle.md_meaning.specs.Ascii.{carriage_return, line_feed}
+use Rattle.md_meaning.specs.Lines.{begins_with}
 
 -- how many bytes the line ending has that stands first: two for CR LF, one for LF or CR
 abbrev pub ending_len : List ℕ → ℕ

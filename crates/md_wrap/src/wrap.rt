@@ -10,8 +10,8 @@
 ghost use Rattle.std.specs.Prelude.{◌≡◌, ◌≢◌, ◌<◌, ◌≤◌, [], ◌∷◌, drop, length, take, string_bytes, IfOk, OnOk, ◌++◌};
 ghost use Rattle.std.specs.List.{concat};
 ghost use Rattle.std.specs.Str.{IsCharBoundary};
-ghost use Rattle.md_definition.specs.Lines.{full_lines_of};
-ghost use Rattle.md_definition.specs.Wrapped.{IsItemOf, IsQuoteOf, IsSmall, prefixed};
+ghost use Rattle.md_meaning.specs.Lines.{full_lines_of};
+ghost use Rattle.md_meaning.specs.Wrapped.{IsItemOf, IsQuoteOf, IsSmall, prefixed};
 ghost use Rattle.md_wrap.specs.Endings.{ending_len};
 
 use md_engine::configuration::ParseOptions;

@@ -5,10 +5,10 @@ ghost use Rattle.parse_cost.specs.Cost.{PrintsCost, printed_number, printed_numb
 use blocks_body::Blocks;
 use markdown_blocks::outline::outline;
 use markdown_blocks::parser::parse;
-use md_definition::outline::OutlineLine;
 use md_engine::configuration::ParseOptions;
 use md_engine::event::Event;
 use md_engine::message::Message;
+use md_meaning::outline::OutlineLine;
 use md_program::body::Body;
 use md_program::print::push_counted;
 use md_program::printing::Printing;

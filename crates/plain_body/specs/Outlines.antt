@@ -2,10 +2,10 @@
 use Rattle.std.specs.Prelude.{◌≡◌, ℕ, List}
 use Rattle.md_engine.specs.declared.configuration.ParseOptions.{ParseOptions}
 use Rattle.md_program.specs.Listing.{Listing}
-use Rattle.md_definition.specs.Label.{labels}
-use Rattle.md_definition.specs.Meaning.{tree}
-use Rattle.md_definition.specs.Outline.{outline}
-use Rattle.md_definition.specs.Tree.{Blocks}
+use Rattle.md_meaning.specs.Label.{labels}
+use Rattle.md_meaning.specs.Meaning.{tree}
+use Rattle.md_meaning.specs.Outline.{outline}
+use Rattle.md_meaning.specs.Tree.{Blocks}
 
 -- the listing of a tree: its outline, and its labels in source order, repeats kept
 pub record Lists (blocks : Blocks) (listing : Listing) : Type 0 where

@@ -4,15 +4,15 @@
 ghost use Rattle.std.specs.Prelude.{IfOk};
 ghost use Rattle.md_program.specs.Listing.{listing_of};
 ghost use Rattle.plain_body.specs.Outlines.{Lists, Outlines};
-ghost use Rattle.plain_grammars.specs.WholeTrees.{tree_meaning};
+ghost use Rattle.md_grammars.specs.WholeTrees.{tree_meaning};
 
 use md_engine::configuration::ParseOptions;
 use md_engine::message::Message;
-use md_plain::meaning::tree;
-use md_plain::outline_lines::outline;
+use md_grammars::label::labels_of;
+use md_grammars::tree::Tree;
 use md_program::body::{Body, Outlined};
-use plain_grammars::label::labels_of;
-use plain_grammars::tree::Tree;
+use reference_tree::meaning::tree;
+use reference_tree::outline_lines::outline;
 use std::alloc::Global;
 
 /// The outline of a tree, and its labels.

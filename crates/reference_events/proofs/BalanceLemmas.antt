@@ -7,9 +7,9 @@ use Rattle.md_engine.specs.declared.event.Event.{Event}
 use Rattle.md_engine.specs.declared.event.Name.{Name}
 use Rattle.md_engine.specs.declared.event.Name.TheVariants as n
 use Rattle.md_engine.specs.declared.event.Point.{Point}
-use Rattle.md_definition.specs.Ascii.{backslash, left_bracket, right_bracket}
-use Rattle.md_definition.specs.Enclosed.{Closed, Open, Broken, Enclosed, enclosed, with_byte}
-use Rattle.md_definition.specs.Lines.{is_ending}
+use Rattle.md_meaning.specs.Ascii.{backslash, left_bracket, right_bracket}
+use Rattle.md_meaning.specs.Enclosed.{Closed, Open, Broken, Enclosed, enclosed, with_byte}
+use Rattle.md_meaning.specs.Lines.{is_ending}
 use Rattle.md_seam.specs.Events.Inline.{pair_unless_empty}
 use Rattle.md_seam.specs.Events.Nested.{Matches, exit, open_after}
 use Rattle.md_seam.specs.Events.Places.{past_byte}

@@ -12,9 +12,9 @@ use Rattle.md_engine.specs.declared.event.Kind.TheVariants.{Enter, Exit}
 use Rattle.md_engine.specs.declared.event.Name.{Name}
 use Rattle.md_engine.specs.declared.event.Name.TheVariants as n
 use Rattle.md_engine.specs.declared.event.Point.{Point}
-use Rattle.md_definition.specs.Lines.{is_ending, without_ending}
-use Rattle.md_definition.specs.Texts.{split_lines}
-use Rattle.md_definition.proofs.TextsLemmas.{NoEnding, split-line}
+use Rattle.md_meaning.specs.Lines.{is_ending, without_ending}
+use Rattle.md_meaning.specs.Texts.{split_lines}
+use Rattle.md_meaning.proofs.TextsLemmas.{NoEnding, split-line}
 use Rattle.md_seam.specs.declared.inline.Chunk.{Chunk}
 use Rattle.md_seam.specs.Events.Inline.{Covers, chunk_text, ends_whole, is_inline, is_line, is_one_line, line_end}
 use Rattle.md_seam.specs.Events.Inline.{line_endings, pair_unless_empty, pieces}
@@ -44,9 +44,6 @@ pub record Whole (bytes : List ℕ) (chunk : Chunk) : Type 0 where
 abbrev pub read_chunk : List ℕ → Chunk → List Role → List Event
 read_chunk bytes chunk roles =
     chunk_events chunk (chunk_text bytes chunk) (take (length (chunk_text bytes chunk)) roles)
-
-index-before : (p q : Point) → IsTrue (at_or_before p q) → p.index ≤ q.index
-index-before p q h = grind (arith, nat_tests)
 
 -- Both ends of a label, or neither.
 label-all : (test : Event → Bool) (p : Point) → test (exit n.LabelText p) ≡ true → (x : Bool) →

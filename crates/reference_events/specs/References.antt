@@ -6,11 +6,11 @@ use Rattle.std.specs.Str.{bytes_eq}
 use Rattle.md_engine.specs.declared.event.Event.{Event}
 use Rattle.md_engine.specs.declared.event.Name.TheVariants as n
 use Rattle.md_engine.specs.declared.event.Point.{Point}
-use Rattle.md_definition.specs.Ascii.{backslash, left_bracket, right_bracket, space}
-use Rattle.md_definition.specs.Enclosed.{Closed, Open, Broken, enclosed, Enclosed}
-use Rattle.md_definition.specs.Label.{normal_form}
-use Rattle.md_definition.specs.Lines.{is_ending, without_ending}
-use Rattle.md_definition.specs.Rest.{is_white}
+use Rattle.md_meaning.specs.Ascii.{backslash, left_bracket, right_bracket, space}
+use Rattle.md_meaning.specs.Enclosed.{Closed, Open, Broken, enclosed, Enclosed}
+use Rattle.md_meaning.specs.Label.{normal_form}
+use Rattle.md_meaning.specs.Lines.{is_ending, without_ending}
+use Rattle.md_meaning.specs.Rest.{is_white}
 use Rattle.md_seam.specs.declared.inline.Chunk.{Chunk}
 use Rattle.md_seam.specs.declared.inline.PartKind.{PartKind}
 use Rattle.md_seam.specs.declared.inline.PartKind.TheVariants as kind

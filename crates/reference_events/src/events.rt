@@ -1,7 +1,7 @@
 // The events of a text part whose bytes have roles.
 
 ghost use Rattle.std.specs.Prelude.{◌≡◌, ℕ, ◌+◌, ◌∷◌, ◌++◌, IfOk, OnOk, [], length};
-ghost use Rattle.md_definition.specs.Lines.{without_ending};
+ghost use Rattle.md_meaning.specs.Lines.{without_ending};
 ghost use Rattle.md_seam.specs.Events.Inline.{pair_unless_empty};
 ghost use Rattle.md_seam.specs.Events.Places.{past_byte, past_text};
 ghost use Rattle.md_seam.specs.Events.Nested.{pair};
@@ -11,8 +11,8 @@ ghost use Rattle.reference_events.specs.Room.{HasRoom};
 use crate::roles::Role;
 use md_engine::event::{Event, Kind, Name, Point};
 use md_engine::message::Message;
+use md_grammars::memory::push;
 use md_seam::inline::Chunk;
-use plain_grammars::memory::push;
 
 /// The point behind a byte of a line.
 fn past_byte(byte: u8, point: Point) -> Point

@@ -2,14 +2,14 @@
 
 ghost use Rattle.std.specs.Prelude.{◌≡◌, IfOk, count_by, map, not, string_bytes};
 ghost use Rattle.std.specs.List.{list_all};
-ghost use Rattle.md_definition.specs.Lines.{is_ending};
+ghost use Rattle.md_meaning.specs.Lines.{is_ending};
 ghost use Rattle.md_seam.specs.TextPart.{document_of};
 ghost use Rattle.reference_events.specs.References as spec;
 
 use md_engine::message::Message;
 use md_engine::parse_state::ParseState;
-use plain_grammars::definition::{Enclosed, up_to_mark};
-use plain_grammars::label::normal_form;
+use md_grammars::definition::{Enclosed, up_to_mark};
+use md_grammars::label::normal_form;
 use std::alloc::Global;
 
 /// How many bytes a label has at most, endings of lines left out.

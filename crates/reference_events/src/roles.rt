@@ -7,7 +7,7 @@ ghost use Rattle.reference_events.specs.References as spec;
 use crate::label::label_len;
 use md_engine::message::Message;
 use md_engine::parse_state::ParseState;
-use plain_grammars::memory::push;
+use md_grammars::memory::push;
 use std::alloc::Global;
 
 /// What a byte is.

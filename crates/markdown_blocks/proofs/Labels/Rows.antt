@@ -9,59 +9,68 @@ use Rattle.md_engine.specs.declared.event.Point.{Point}
 use Rattle.md_content.specs.ContentReads.{wants_content}
 use Rattle.md_content.specs.Labels.{is_label, labels_in}
 use Rattle.md_content.proofs.LabelsLemmas.{has_no_label, labels-skip}
-use Rattle.md_definition.specs.Leaves.{Came}
-use Rattle.md_definition.specs.State.{Container, NoLeaf, shut, texts}
-use Rattle.md_definition.specs.Tree.{Block, End}
-use Rattle.md_parts.specs.DefinitionRule.{DefinitionParts}
+use Rattle.md_meaning.specs.Leaves.{LeafResult}
+use Rattle.md_meaning.specs.State.{Container, NoLeaf, shut, texts}
+use Rattle.md_meaning.specs.Tree.{Block, End}
+use Rattle.md_link_definitions.specs.DefinitionRule.{DefinitionParts}
 use Rattle.md_seam.specs.Events.Nested.{exit, pair}
-use Rattle.md_seam.specs.Events.Spelled.{Around, Reading, add_block, read, role, spelled, unread}
+use Rattle.md_seam.specs.Events.Spelled.{OpenContainer, Reading, add_block, read, role, spelled, unread}
 use Rattle.md_seam.proofs.PlacesLemmas.{all-append}
 use Rattle.md_seam.proofs.SpelledLemmas.{Between, read-between, read-from, roles-append}
-use Rattle.markdown_blocks.specs.BlockList.{lines_unread, text_unread, turned_unread}
-use Rattle.markdown_blocks.specs.Fed.{close_containers}
-use Rattle.markdown_blocks.specs.LineFlags.{ending_name}
-use Rattle.markdown_blocks.specs.Registry.{further_of, leaf, text_leaf}
-use Rattle.markdown_blocks.specs.Rows.{front_done}
-use Rattle.markdown_blocks.specs.Rows.{BlankRow, Group, Headed, LeafRow, Lines, Row, RowKind, Single, Span, TextRow}
-use Rattle.markdown_blocks.specs.Rows.{Turned}
-use Rattle.markdown_blocks.specs.Rows.{defined_done, group_events, is_blank_by, leaf_done, leaf_events, span_done}
-use Rattle.markdown_blocks.specs.Rows.{defined_unread, ending_of, groups_events, last_row, lines_done}
-use Rattle.markdown_blocks.specs.Rows.{headed_done, heading_done, row_events, rows_events, tail_events}
-use Rattle.markdown_blocks.specs.Rows.{text_done, turned_done}
-use Rattle.markdown_blocks.specs.Unread.{headed_lines, unread_group, unread_groups, unread_lines}
-use Rattle.markdown_blocks.proofs.ContentFacts.{content-alone, no_content-label}
-use Rattle.markdown_blocks.proofs.Defined.Facts.{defined-facts}
-use Rattle.markdown_blocks.proofs.Defined.Form.{form_block, form_done}
-use Rattle.markdown_blocks.proofs.Defined.Is.{IsDefined}
-use Rattle.markdown_blocks.proofs.FrontFacts.{LinePrefix}
-use Rattle.markdown_blocks.proofs.FrontNames.{HasFront}
-use Rattle.markdown_blocks.proofs.GroupFacts.{span-block}
-use Rattle.markdown_blocks.proofs.GroupLemmas.{AreGroups, AreLines, headed-quiet, spans-quiet, under-quiet}
-use Rattle.markdown_blocks.proofs.GroupsAre.{AreSpan, Begins, IsHead, IsLeft, IsSingle, IsUnder, behind-first}
-use Rattle.markdown_blocks.proofs.GroupsAre.{line-further, line-of, span-begins}
-use Rattle.markdown_blocks.proofs.HeadedTable.{IsHeaded, headed-facts, headed-is, headed_block}
-use Rattle.markdown_blocks.proofs.JoinedLemmas.{EachNoContent, HasNoContent, ending-other, has_front-no_content}
-use Rattle.markdown_blocks.proofs.JoinedLemmas.{tail-no_content}
-use Rattle.markdown_blocks.proofs.Labels.Groups.{form-label, front-none}
-use Rattle.markdown_blocks.proofs.Labels.Leaves.{line-unlabelled, lines-unlabelled, shut-unlabelled}
-use Rattle.markdown_blocks.proofs.Labels.Reading.{labels-added, labels-closed, labels-enters, labels-shown, read_labels}
-use Rattle.markdown_blocks.proofs.Labels.Reading.{outer_labels, shown_labels}
-use Rattle.markdown_blocks.proofs.Labels.Trees.{defined_by, defined_in}
-use Rattle.markdown_blocks.proofs.LeafFacts.{shown}
-use Rattle.markdown_blocks.proofs.Registry.{span-laws}
-use Rattle.markdown_blocks.proofs.RowLeaf.{block_of, row-facts}
-use Rattle.markdown_blocks.proofs.SpanLaws.{come_behind}
-use Rattle.markdown_blocks.proofs.SpelledGroups.{read-fronts, read-tail}
-use Rattle.markdown_blocks.proofs.SpelledParagraphs.{fronts-between}
-use Rattle.markdown_blocks.proofs.SpelledPaths.{close_containers-between, enters}
-use Rattle.markdown_blocks.proofs.Text.Cut.{IsCutText, between}
-use Rattle.markdown_blocks.proofs.Text.Cut.IsCutText.{Defines, Follows, Remains}
-use Rattle.markdown_blocks.proofs.Text.Cuts.{cut-is}
-use Rattle.markdown_blocks.proofs.Text.Facts.{kept-of, text-facts}
-use Rattle.markdown_blocks.proofs.Text.Stands.{done-is}
-use Rattle.markdown_blocks.proofs.Turned.Cut as headings
-use Rattle.markdown_blocks.proofs.Turned.Cut.{IsCutHeading, heading-cut, left-remains}
-use Rattle.markdown_blocks.proofs.Turned.Facts.{turned-block, turned-facts}
+use Rattle.md_rows.specs.BlockList.{lines_unread, text_unread, turned_unread}
+use Rattle.md_frame.specs.Closed.{close_containers}
+use Rattle.md_frame.specs.EndingName.{ending_name}
+use Rattle.md_frame.specs.TextLines.{text_leaf}
+use Rattle.md_registry.specs.Registry.{further_of, leaf}
+use Rattle.md_rows.specs.Rows.{front_done}
+use Rattle.md_frame.specs.Row.{BlankRow, LeafRow, Row, RowKind, TextRow}
+use Rattle.md_rows.specs.Rows.{Group, Headed, Lines, Single, LeafLines}
+use Rattle.md_rows.specs.Rows.{Turned}
+use Rattle.md_frame.specs.Row.{is_blank_by, span_done}
+use Rattle.md_rows.specs.Rows.{defined_done, group_events, leaf_done, leaf_events}
+use Rattle.md_frame.specs.Row.{defined_unread, ending_of, last_row}
+use Rattle.md_rows.specs.Rows.{groups_events, lines_done}
+use Rattle.md_frame.specs.Row.{headed_done, heading_done}
+use Rattle.md_rows.specs.Rows.{row_events, rows_events, tail_events}
+use Rattle.md_rows.specs.Rows.{text_done, turned_done}
+use Rattle.md_rows.specs.Unread.{headed_lines, unread_group, unread_groups}
+use Rattle.md_rows.specs.BlockList.{unread_lines}
+use Rattle.md_frame.proofs.ContentFacts.{content-alone, no_content-label}
+use Rattle.md_content_rooms.proofs.Defined.Facts.{defined-facts}
+use Rattle.md_content_rooms.proofs.Defined.Form.{form_block, form_done}
+use Rattle.md_content_rooms.proofs.Defined.Is.{IsDefined}
+use Rattle.md_frame.proofs.FrontFacts.{LinePrefix}
+use Rattle.md_frame.proofs.FrontNames.{HasFront}
+use Rattle.md_rows.proofs.GroupFacts.{span-block}
+use Rattle.md_rows.proofs.GroupLines.{AreGroups, AreLines}
+use Rattle.md_rows.proofs.GroupLemmas.{headed-quiet, spans-quiet, under-quiet}
+use Rattle.md_rows.proofs.GroupLines.{AreSpan, Begins, IsHead, IsLeft, IsSingle, IsUnder, behind-first}
+use Rattle.md_rows.proofs.GroupLines.{line-further, line-of, span-begins}
+use Rattle.md_rows.proofs.HeadedTable.{IsHeaded, headed-facts, headed-is, headed_block}
+use Rattle.md_rows.proofs.JoinedLemmas.{EachNoContent, HasNoContent, ending-other, has_front-no_content}
+use Rattle.md_rows.proofs.JoinedLemmas.{tail-no_content}
+use Rattle.md_content_rooms.proofs.Labels.Groups.{form-label, front-none}
+use Rattle.md_rows.proofs.Labels.Leaves.{line-unlabelled, lines-unlabelled, shut-unlabelled}
+use Rattle.md_content_rooms.proofs.Labels.Reading.{labels-added, labels-closed, labels-enters, labels-shown, read_labels}
+use Rattle.md_content_rooms.proofs.Labels.Reading.{outer_labels, shown_labels}
+use Rattle.md_content_rooms.proofs.Labels.Trees.{defined_by, defined_in}
+use Rattle.md_frame.proofs.LeafFacts.{shown}
+use Rattle.md_registry.proofs.SpanLeaves.{span-laws}
+use Rattle.md_rows.proofs.RowLeaf.{block_of, row-facts}
+use Rattle.md_frame.proofs.SpanLaws.{come_behind}
+use Rattle.markdown_blocks.proofs.SpelledLines.{read-fronts, read-tail}
+use Rattle.md_frame.proofs.ParagraphLines.{fronts-between}
+use Rattle.md_frame.proofs.Enters.{enters}
+use Rattle.markdown_blocks.proofs.SpelledPaths.{close_containers-between}
+use Rattle.md_rows.proofs.Text.Cut.{IsCutText, between}
+use Rattle.md_rows.proofs.Text.Cut.IsCutText.{Defines, Follows, Remains}
+use Rattle.md_rows.proofs.Text.Cuts.{cut-is}
+use Rattle.md_rows.proofs.GroupLines.{kept-of}
+use Rattle.md_rows.proofs.Text.Facts.{text-facts}
+use Rattle.md_rows.proofs.Text.Stands.{done-is}
+use Rattle.md_rows.proofs.Turned.Cut as headings
+use Rattle.md_rows.proofs.Turned.Cut.{IsCutHeading, heading-cut, left-remains}
+use Rattle.md_rows.proofs.Turned.Facts.{turned-block, turned-facts}
 
 -- Events in which these labels stand, and those once their texts are read: read between blocks, they show blocks with
 -- these labels.
@@ -143,7 +152,7 @@ leaf-labelled : (bytes : List ℕ) (us ds : List Event) (block : Option Block) �
 leaf-labelled bytes us ds block none quiet reads =
     none-labelled bytes us ds none (leaf-quiet bytes ds block quiet reads)
 
--- Around leaves.
+-- OpenContainer leaves.
 
 enters-between : (cs : List Container) (r : Reading) → r.text ≡ None → r.leaf ≡ None →
     (text : (enters cs r).text ≡ None) × ((enters cs r).leaf ≡ None)
@@ -168,10 +177,10 @@ front-labelled bytes row front =
 
 tail-quiet : (bytes : List ℕ) (blank : Bool) (row : Row) → Quiet bytes (tail_events (ending_name blank) row)
 tail-quiet bytes blank row = λ r text shut.
-    let is : read bytes r (tail_events (ending_name blank) row) ≡ close_containers (length row.leaves) r =
+    let is : read bytes r (tail_events (ending_name blank) row) ≡ close_containers (length row.closed_after) r =
     read-tail bytes (ending_name blank) row r (role-between blank) text shut in
-    let kept = close_containers-between (length row.leaves) r text shut in (
-      ap read_labels is ∙ labels-closed (length row.leaves) r,
+    let kept = close_containers-between (length row.closed_after) r text shut in (
+      ap read_labels is ∙ labels-closed (length row.closed_after) r,
       ap (λ (x : Reading). x.text) is ∙ kept.0,
       ap (λ (x : Reading). x.leaf) is ∙ kept.1,
     )
@@ -289,7 +298,7 @@ span-quiet options bytes row rows are begins =
     let line = line-of options bytes row is in
     let behind = behind-first options bytes row rows are in
     let block : Block = span-block options bytes row rows are in
-    let c : Came = come_behind options bytes (leaf (further_of is.name)) row rows behind
+    let c : LeafResult = come_behind options bytes (leaf (further_of is.name)) row rows behind
     ((leaf is.name).comes options NoLeaf line.rest) in
     sym (append-nil (defined_by block))
     ∙ ap defined_in
@@ -299,7 +308,7 @@ span-quiet options bytes row rows are begins =
 
 span-labelled : (options : ParseOptions) (bytes : List ℕ) (row : Row) (rows : List Row) →
     AreSpan options bytes row rows → EachNoContent (row ∷ rows) → Begins row →
-    Labelled bytes (unread_group options bytes (Span row rows)) (group_events options bytes (Span row rows))
+    Labelled bytes (unread_group options bytes (LeafLines row rows)) (group_events options bytes (LeafLines row rows))
 span-labelled options bytes row rows are quiet begins =
     let is = span-begins options bytes row rows are in
     let last : Row = last_row row rows in
@@ -407,8 +416,8 @@ groups-labelled options bytes (Headed row next rows ∷ gs) are =
     (group_events options bytes (Headed row next rows)) (unread_groups options bytes gs)
     (groups_events options bytes gs) (headed-labelled options bytes row next rows are.0 are.1 are.3 are.5)
     (groups-labelled options bytes gs are.4)
-groups-labelled options bytes (Span row rows ∷ gs) are =
-    labelled-append bytes (unread_group options bytes (Span row rows)) (group_events options bytes (Span row rows))
+groups-labelled options bytes (LeafLines row rows ∷ gs) are =
+    labelled-append bytes (unread_group options bytes (LeafLines row rows)) (group_events options bytes (LeafLines row rows))
     (unread_groups options bytes gs) (groups_events options bytes gs)
     (span-labelled options bytes row rows are.0 are.3 are.4) (groups-labelled options bytes gs are.2)
 
@@ -423,4 +432,4 @@ rows-labels options bytes gs are none =
     let r : Reading = read bytes unread (groups_events options bytes gs) in
     ap (labels_in bytes) (sym (append-nil us)) ∙ h.told [] ∙ append-nil h.own
     ∙ sym (h.reads unread refl refl).0
-    ∙ ap (λ (outer : List Around). outer_labels outer ++ defined_in r.here) none
+    ∙ ap (λ (outer : List OpenContainer). outer_labels outer ++ defined_in r.here) none

@@ -1,7 +1,7 @@
 // What is kept of a container that is open.
 
 ghost use Rattle.std.specs.Prelude.{◌≡◌};
-ghost use Rattle.md_engine.specs.Over.{goes_over_empty};
+ghost use Rattle.md_engine.specs.KnownContinuing.{goes_over_empty};
 ghost use Rattle.md_engine.specs.World.{container_of};
 
 pub mod name;

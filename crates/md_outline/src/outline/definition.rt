@@ -2,15 +2,15 @@
 
 ghost use Rattle.std.specs.Prelude.{◌≡◌, ◌+◌, OnOk};
 ghost use Rattle.std.specs.Str.{IsUtf8};
-ghost use Rattle.md_definition.specs.Outline.{entries_of};
+ghost use Rattle.md_meaning.specs.Outline.{entries_of};
 ghost use Rattle.md_outline.specs.DefinitionState.{destination_told, part_ended, part_of, part_parted};
 
 use crate::outline::lined::{Form, drop_end};
 use crate::outline::lines::{
     next, push, push_first_full, push_first_lines, push_full_lines, push_lines, text_of,
 };
-use md_definition::outline::{OutlineLine, Word};
 use md_engine::message::Message;
+use md_meaning::outline::{OutlineLine, Word};
 
 /// The word that shows the lines of the part that is read, if a definition is open: its label, and behind that its
 /// title.

@@ -3,13 +3,13 @@
 
 ghost use Rattle.std.specs.Prelude.{◌≡◌, ◌++◌, OnOk};
 ghost use Rattle.std.specs.Str.{IsUtf8};
-ghost use Rattle.md_definition.specs.Outline.{entries_of};
+ghost use Rattle.md_meaning.specs.Outline.{entries_of};
 ghost use Rattle.md_outline.specs.FootnoteState.{container_lines, label_told};
 
 use crate::outline::lined::drop_end;
 use crate::outline::lines::{next, push, text_of};
-use md_definition::outline::{OutlineLine, Word};
 use md_engine::message::Message;
+use md_meaning::outline::{OutlineLine, Word};
 
 /// Adds a container as it begins.
 pub fn push_container(lines: &mut Vec<OutlineLine>, depth: usize, word: Word) -> Result<(), Message>

@@ -1,13 +1,13 @@
 // What an outline knows of a heading that is open, and what it shows of it.
 
 ghost use Rattle.std.specs.Prelude.{◌≡◌, ◌++◌, length, OnOk};
-ghost use Rattle.md_definition.specs.Outline.{entries_of};
+ghost use Rattle.md_meaning.specs.Outline.{entries_of};
 ghost use Rattle.md_seam.specs.Events.Spelled.{with_text};
 ghost use Rattle.md_outline.specs.HeadingState.{heading_entries, heading_of, with_markers};
 
 use crate::outline::lines::{next, push, push_text};
-use md_definition::outline::{OutlineLine, Word};
 use md_engine::message::Message;
+use md_meaning::outline::{OutlineLine, Word};
 
 /// A heading that is open.
 #[derive(Clone, Copy)]

@@ -2,18 +2,18 @@
 // code, math, HTML, setext headings, definitions, tables and frontmatter. Its lines are shown as they come, and the
 // line of its word is told later what its fences, its underline or its cells say.
 
-ghost use Rattle.std.specs.Prelude.{◌≡◌, ◌+◌, ◌∷◌, [], ◌++◌, if◌then◌else◌, OnOk};
+ghost use Rattle.std.specs.Prelude.{◌≡◌, ◌+◌, ◌∷◌, [], ◌++◌, OnOk};
 ghost use Rattle.std.specs.Str.{IsUtf8};
-ghost use Rattle.md_definition.specs.Outline.{entries_of, entry, entry_with};
-ghost use Rattle.md_definition.specs.declared.outline.Word.TheVariants as word;
+ghost use Rattle.md_meaning.specs.Outline.{entries_of, entry, entry_with};
+ghost use Rattle.md_meaning.specs.declared.outline.Word.TheVariants as word;
 ghost use Rattle.md_seam.specs.Events.Spelled as spelled;
 ghost use Rattle.md_outline.specs.LinedState.{begin_lines, closed_word, filled_line, form_of, has_own_lines};
 ghost use Rattle.md_outline.specs.LinedState.{is_heading, marked_word, spaces_of, with_head, without_end};
 
 use crate::outline::lines::{next, push, text_of};
-use md_definition::outline::{OutlineLine, Word};
 use md_engine::event::Point;
 use md_engine::message::Message;
+use md_meaning::outline::{OutlineLine, Word};
 
 /// How the lines of a leaf block come.
 #[derive(Clone, Copy)]

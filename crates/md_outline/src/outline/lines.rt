@@ -3,15 +3,15 @@
 ghost use Rattle.std.specs.Prelude.{◌≡◌, ◌≤◌, ◌+◌, ◌-◌, ◌∷◌, [], ◌++◌, true, length, slice_range, IfOk, OnOk};
 ghost use Rattle.std.specs.List.{prefix_len, suffix_len};
 ghost use Rattle.std.specs.Str.{IsUtf8};
-ghost use Rattle.md_definition.specs.Outline.{entries_of, entry_with};
-ghost use Rattle.md_definition.specs.Rest.{is_white, trim, trim_start};
-ghost use Rattle.md_definition.specs.Texts.{first_byte, split_lines, trim_each};
+ghost use Rattle.md_meaning.specs.Outline.{entries_of, entry_with};
+ghost use Rattle.md_meaning.specs.Rest.{is_white, trim, trim_start};
+ghost use Rattle.md_meaning.specs.Texts.{first_byte, split_lines, trim_each};
 ghost use Rattle.md_seam.specs.Events.Places.{last_line};
 ghost use Rattle.md_outline.specs.TextLines.{after_ending, first_as, first_full_as, full_as, line_len, lines_as};
 ghost use Rattle.md_outline.specs.TextLines.{text_entries};
 
-use md_definition::outline::{OutlineLine, Word};
 use md_engine::message::Message;
+use md_meaning::outline::{OutlineLine, Word};
 use memchr::memchr2;
 use std::str;
 

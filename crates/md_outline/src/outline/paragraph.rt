@@ -2,13 +2,13 @@
 
 ghost use Rattle.std.specs.Prelude.{◌≡◌, ◌+◌, ◌++◌, OnOk};
 ghost use Rattle.std.specs.Str.{IsUtf8};
-ghost use Rattle.md_definition.specs.Outline.{entries_of};
+ghost use Rattle.md_meaning.specs.Outline.{entries_of};
 ghost use Rattle.md_outline.specs.ParagraphState.{begin_entries};
 ghost use Rattle.md_outline.specs.TextLines.{full_entries, text_entries};
 
 use crate::outline::lines::{next, push, push_full_lines, push_lines};
-use md_definition::outline::{OutlineLine, Word};
 use md_engine::message::Message;
+use md_meaning::outline::{OutlineLine, Word};
 
 /// Adds the begin of the block, if it is not shown yet.
 pub fn push_begin<'a>(

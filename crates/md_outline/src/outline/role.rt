@@ -2,15 +2,15 @@
 
 ghost use Rattle.std.specs.Prelude.{◌≡◌, ◌++◌, OnOk};
 ghost use Rattle.std.specs.Str.{IsUtf8};
-ghost use Rattle.md_definition.specs.Outline.{entries_of};
+ghost use Rattle.md_meaning.specs.Outline.{entries_of};
 ghost use Rattle.md_seam.specs.Events.Spelled as spelled;
 ghost use Rattle.md_outline.specs.Roles.{leaf_entries, leaf_of, noted, shown_as};
 
 use crate::outline::heading::{Heading, push_heading};
 use crate::outline::lines::{push, text_of};
-use md_definition::outline::{OutlineLine, Word};
 use md_engine::event::Name;
 use md_engine::message::Message;
+use md_meaning::outline::{OutlineLine, Word};
 
 /// What a text tells the leaf block that it stands in.
 #[derive(Clone, Copy)]

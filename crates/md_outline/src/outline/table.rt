@@ -3,14 +3,14 @@
 
 ghost use Rattle.std.specs.Prelude.{◌≡◌, IfOk, OnOk};
 ghost use Rattle.std.specs.Str.{IsUtf8};
-ghost use Rattle.md_definition.specs.Outline.{entries_of};
+ghost use Rattle.md_meaning.specs.Outline.{entries_of};
 ghost use Rattle.md_outline.specs.LinedState.{with_head};
 ghost use Rattle.md_outline.specs.TableState.{cell_told, counted_word, with_cell, with_delimiter, with_row};
 
 use crate::outline::lined::drop_end;
 use crate::outline::lines::{next, push, text_of, trimmed_text};
-use md_definition::outline::{OutlineLine, Word};
 use md_engine::message::Message;
+use md_meaning::outline::{OutlineLine, Word};
 
 /// The word of a table that has one column more.
 fn counted(word: Word) -> Result<Word, Message>

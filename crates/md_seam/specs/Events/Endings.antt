@@ -34,15 +34,15 @@ on_line n.BlankLineEnding = Ends true
 on_line _ = IsOther
 
 -- where one is in a text: whether in a leaf, and whether one stood on the line before here
-pub record Spot : Type 0 where
+pub record EndingPlace : Type 0 where
   pub in_leaf : Bool
   pub after_leaf : Bool
 
 -- whether the line holds a leaf, so far
-abbrev pub is_filled : Spot → Bool
+abbrev pub is_filled : EndingPlace → Bool
 is_filled s = s.in_leaf || s.after_leaf
 
-abbrev pub spot_behind : Kind → OnLine → Spot → Spot
+abbrev pub spot_behind : Kind → OnLine → EndingPlace → EndingPlace
 spot_behind Enter IsLeaf s = record { in_leaf = true; after_leaf = true }
 spot_behind Exit IsLeaf s = record s { in_leaf = false }
 spot_behind Enter (Ends blank) s = s
@@ -51,18 +51,18 @@ spot_behind Enter IsOther s = record s { after_leaf = is_filled s }
 spot_behind Exit IsOther s = s
 
 -- whether an ending has the right name
-abbrev pub ends_rightly : Kind → OnLine → Spot → Bool
+abbrev pub ends_rightly : Kind → OnLine → EndingPlace → Bool
 ends_rightly Enter (Ends true) s = not (is_filled s)
 ends_rightly Enter (Ends false) s = is_filled s
 ends_rightly kind x s = true
 
-abbrev pub endings_stand_from : Spot → List Event → Bool
+abbrev pub endings_stand_from : EndingPlace → List Event → Bool
 endings_stand_from s [] = true
 endings_stand_from s (e ∷ es) =
     ends_rightly e.kind (on_line e.name) s && endings_stand_from (spot_behind e.kind (on_line e.name) s) es
 
 -- at the begin of a line, outside of leaves
-abbrev pub line_start : Spot
+abbrev pub line_start : EndingPlace
 line_start = record { in_leaf = false; after_leaf = false }
 
 abbrev pub endings_stand : List Event → Bool

@@ -1,8 +1,8 @@
 -- Which blocks may stand in a tree under given options: those whose construct is on.
 use Rattle.std.specs.Prelude.{ℕ, Bool, true, ◌&&◌, ◌||◌, ◌==◌}
 use Rattle.md_engine.specs.declared.configuration.ParseOptions.{ParseOptions}
-use Rattle.md_definition.specs.Tree.{Block, Frontmatter, Quote, ListOf, Item, Footnote, Heading, Break, Code, Html}
-use Rattle.md_definition.specs.Tree.{Fence, Math, Definition, Paragraph, Table, Blocks, End, More}
+use Rattle.md_meaning.specs.Tree.{Block, Frontmatter, Quote, ListOf, Item, Footnote, Heading, Break, Code, Html}
+use Rattle.md_meaning.specs.Tree.{Fence, Math, Definition, Paragraph, Table, Blocks, End, More}
 
 -- an underline makes a heading of depth 1 or 2 (CommonMark 4.3)
 abbrev pub is_setext_depth : ℕ → Bool

@@ -8,12 +8,12 @@ use Rattle.std.specs.Str.{bytes_eq}
 use Rattle.md_engine.specs.declared.event.Name.{Name}
 use Rattle.md_engine.specs.declared.event.Name.TheVariants as n
 use Rattle.md_seam.specs.Events.Inline.{Piece, is_one_line}
-use Rattle.md_definition.specs.Lines.{is_ending}
+use Rattle.md_meaning.specs.Lines.{is_ending}
 use Rattle.md_seam.specs.Events.Places.{same_place}
-use Rattle.md_definition.specs.Rest.{is_blank}
-use Rattle.md_definition.specs.Texts.{split_lines}
-use Rattle.md_definition.specs.Ascii.{asterisk, backtick, carriage_return, dollar, equals_sign, hash, hyphen, line_feed}
-use Rattle.md_definition.specs.Ascii.{tilde, underscore}
+use Rattle.md_meaning.specs.Rest.{is_blank}
+use Rattle.md_meaning.specs.Texts.{split_lines}
+use Rattle.md_meaning.specs.Ascii.{asterisk, backtick, carriage_return, dollar, equals_sign, hash, hyphen, line_feed}
+use Rattle.md_meaning.specs.Ascii.{tilde, underscore}
 
 -- Bytes.
 

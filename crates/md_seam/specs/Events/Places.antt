@@ -6,8 +6,8 @@ use Rattle.md_engine.specs.declared.event.Point.{Point}
 use Rattle.md_engine.specs.declared.event.Event.{Event}
 use Rattle.md_engine.specs.Place.{is_pair}
 pub use Rattle.md_engine.specs.Place.{first_point}
-use Rattle.md_definition.specs.Rest.{tab_columns}
-use Rattle.md_definition.specs.Texts.{split_lines, first_byte}
+use Rattle.md_meaning.specs.Rest.{tab_columns}
+use Rattle.md_meaning.specs.Texts.{split_lines, first_byte}
 
 -- the column behind a byte that begins in this column, both counted from 0 (CommonMark 2.2)
 abbrev pub column_past : ℕ → ℕ → ℕ

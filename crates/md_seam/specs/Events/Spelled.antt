@@ -10,13 +10,13 @@ use Rattle.md_engine.specs.declared.event.Kind.{Kind}
 use Rattle.md_engine.specs.declared.event.Kind.TheVariants.{Enter, Exit}
 use Rattle.md_engine.specs.declared.event.Name.{Name}
 use Rattle.md_engine.specs.declared.event.Name.TheVariants as n
-use Rattle.md_definition.specs.Tree.{Line, Block, Blocks, Quote, ListOf, Item, Footnote, Heading, Break, Code, Html}
-use Rattle.md_definition.specs.Tree.{Fence, Math, Definition, Paragraph, Table, End, More}
-use Rattle.md_definition.specs.Tree as t
-use Rattle.md_definition.specs.Containers.{is_bullet}
-use Rattle.md_definition.specs.Rest.{trim, tab_columns}
-use Rattle.md_definition.specs.State.{then_block}
-use Rattle.md_definition.specs.Texts.{split_lines, trim_each, trim_further, first_byte}
+use Rattle.md_meaning.specs.Tree.{Line, Block, Blocks, Quote, ListOf, Item, Footnote, Heading, Break, Code, Html}
+use Rattle.md_meaning.specs.Tree.{Fence, Math, Definition, Paragraph, Table, End, More}
+use Rattle.md_meaning.specs.Tree as t
+use Rattle.md_meaning.specs.Containers.{is_bullet}
+use Rattle.md_meaning.specs.Rest.{trim, tab_columns}
+use Rattle.md_meaning.specs.State.{then_block}
+use Rattle.md_meaning.specs.Texts.{split_lines, trim_each, trim_further, first_byte}
 
 -- a list with its last item changed
 abbrev pub on_last : {A : Type 0} → (A → A) → List A → List A
@@ -50,7 +50,7 @@ pub data Shape : Type 0 where
   FootnoteShape : List ℕ → Shape
 
 -- an open container, and the blocks that were finished before it
-pub record Around : Type 0 where
+pub record OpenContainer : Type 0 where
   pub shape : Shape
   pub before : Blocks
 
@@ -122,7 +122,7 @@ pub record Text : Type 0 where
 -- A half-read tree.
 pub record Reading : Type 0 where
   -- the open containers, the innermost first
-  pub outer : List Around
+  pub outer : List OpenContainer
   -- the finished blocks in the innermost
   pub here : Blocks
   pub leaf : Option OpenLeaf
@@ -148,11 +148,11 @@ pub data Purpose : Type 0 where
 -- What a pair of events means, by its name.
 pub data Role : Type 0 where
   -- a container, as it begins
-  Holds : Shape → Role
+  ContainerRole : Shape → Role
   -- a leaf block
-  Opens : LeafKind → Role
+  LeafRole : LeafKind → Role
   -- the slice between the points
-  Tells : Purpose → Role
+  TextRole : Purpose → Role
   -- a fence, or one of frontmatter
   IsFence : Role
   -- a title, also an empty one
@@ -170,51 +170,51 @@ pub data Role : Type 0 where
 
 -- The names that are read, and what for.
 abbrev pub role : Name → Role
-role n.Frontmatter = Opens OfFrontmatter
+role n.Frontmatter = LeafRole OfFrontmatter
 role n.FrontmatterFence = IsFence
-role n.FrontmatterSequence = Tells AsMarkers
-role n.FrontmatterChunk = Tells AsLine
-role n.BlockQuote = Holds QuoteShape
+role n.FrontmatterSequence = TextRole AsMarkers
+role n.FrontmatterChunk = TextRole AsLine
+role n.BlockQuote = ContainerRole QuoteShape
 role n.BlockQuotePrefix = IsPrefix
-role n.ListOrdered = Holds OrderedShape
-role n.ListUnordered = Holds UnorderedShape
-role n.ListItem = Holds (ItemShape 0 [])
-role n.ListItemValue = Tells AsDigits
-role n.ListItemMarker = Tells AsItemMarker
-role n.GfmFootnoteDefinition = Holds (FootnoteShape [])
-role n.GfmFootnoteDefinitionLabelString = Tells AsFootnoteLabel
-role n.HeadingAtx = Opens OfHeadingAtx
-role n.HeadingAtxSequence = Tells AsMarkers
-role n.HeadingAtxText = Tells AsHeading
-role n.HeadingSetext = Opens OfHeadingSetext
-role n.HeadingSetextText = Tells AsHeading
-role n.HeadingSetextUnderlineSequence = Tells AsMarkers
-role n.ThematicBreak = Opens OfBreak
-role n.CodeIndented = Opens OfCode
-role n.CodeFenced = Opens OfFence
+role n.ListOrdered = ContainerRole OrderedShape
+role n.ListUnordered = ContainerRole UnorderedShape
+role n.ListItem = ContainerRole (ItemShape 0 [])
+role n.ListItemValue = TextRole AsDigits
+role n.ListItemMarker = TextRole AsItemMarker
+role n.GfmFootnoteDefinition = ContainerRole (FootnoteShape [])
+role n.GfmFootnoteDefinitionLabelString = TextRole AsFootnoteLabel
+role n.HeadingAtx = LeafRole OfHeadingAtx
+role n.HeadingAtxSequence = TextRole AsMarkers
+role n.HeadingAtxText = TextRole AsHeading
+role n.HeadingSetext = LeafRole OfHeadingSetext
+role n.HeadingSetextText = TextRole AsHeading
+role n.HeadingSetextUnderlineSequence = TextRole AsMarkers
+role n.ThematicBreak = LeafRole OfBreak
+role n.CodeIndented = LeafRole OfCode
+role n.CodeFenced = LeafRole OfFence
 role n.CodeFencedFence = IsFence
-role n.CodeFencedFenceSequence = Tells AsMarkers
-role n.CodeFencedFenceInfo = Tells AsInfo
-role n.CodeFencedFenceMeta = Tells AsMeta
-role n.CodeFlowChunk = Tells AsLine
-role n.MathFlow = Opens OfMath
+role n.CodeFencedFenceSequence = TextRole AsMarkers
+role n.CodeFencedFenceInfo = TextRole AsInfo
+role n.CodeFencedFenceMeta = TextRole AsMeta
+role n.CodeFlowChunk = TextRole AsLine
+role n.MathFlow = LeafRole OfMath
 role n.MathFlowFence = IsFence
-role n.MathFlowFenceSequence = Tells AsMarkers
-role n.MathFlowFenceMeta = Tells AsMeta
-role n.MathFlowChunk = Tells AsLine
-role n.HtmlFlow = Opens OfHtml
-role n.HtmlFlowData = Tells AsLine
-role n.Definition = Opens OfDefinition
-role n.DefinitionLabelString = Tells AsLabel
-role n.DefinitionDestinationString = Tells AsDestination
+role n.MathFlowFenceSequence = TextRole AsMarkers
+role n.MathFlowFenceMeta = TextRole AsMeta
+role n.MathFlowChunk = TextRole AsLine
+role n.HtmlFlow = LeafRole OfHtml
+role n.HtmlFlowData = TextRole AsLine
+role n.Definition = LeafRole OfDefinition
+role n.DefinitionLabelString = TextRole AsLabel
+role n.DefinitionDestinationString = TextRole AsDestination
 role n.DefinitionTitle = IsTitle
-role n.DefinitionTitleString = Tells AsTitle
-role n.Paragraph = Tells AsParagraph
-role n.GfmTable = Opens OfTable
+role n.DefinitionTitleString = TextRole AsTitle
+role n.Paragraph = TextRole AsParagraph
+role n.GfmTable = LeafRole OfTable
 role n.GfmTableRow = IsRow
 role n.GfmTableCell = IsCell
-role n.GfmTableCellText = Tells AsCell
-role n.GfmTableDelimiterRow = Tells AsDelimiter
+role n.GfmTableCellText = TextRole AsCell
+role n.GfmTableDelimiterRow = TextRole AsDelimiter
 role n.LineEnding = IsEnding
 role _ = IsQuiet
 
@@ -406,7 +406,7 @@ on_leaf f r = record r { leaf = option_map f r.leaf }
 abbrev pub on_text : (Text → Text) → Reading → Reading
 on_text f r = record r { text = option_map f r.text }
 
-abbrev pub on_shape : (Shape → Shape) → List Around → List Around
+abbrev pub on_shape : (Shape → Shape) → List OpenContainer → List OpenContainer
 on_shape f [] = []
 on_shape f (around ∷ outer) = record around { shape = f around.shape } ∷ outer
 
@@ -430,7 +430,7 @@ abbrev pub finished : Option OpenLeaf → Reading → Reading
 finished None r = r
 finished (Some leaf) r = add_block (block_of leaf) (record r { leaf = None })
 
-abbrev pub left : List Around → Reading → Reading
+abbrev pub left : List OpenContainer → Reading → Reading
 left [] r = r
 left (around ∷ outer) r = record r { outer = outer; here = then_block around.before (block_around around.shape r.here) }
 
@@ -441,12 +441,12 @@ at_ending bytes p (Some text) r = r
 at_ending bytes p None r = if nat_lt p.index (length bytes) then on_leaf next_line r else r
 
 abbrev pub read_enter : List ℕ → Role → Point → Reading → Reading
-read_enter bytes (Holds shape) p r = record r {
+read_enter bytes (ContainerRole shape) p r = record r {
   outer = (record { shape = shape; before = r.here }) ∷ r.outer;
   here = End;
 }
-read_enter bytes (Opens kind) p r = record r { leaf = Some (fresh kind) }
-read_enter bytes (Tells purpose) p r = record r { text = Some (begun p) }
+read_enter bytes (LeafRole kind) p r = record r { leaf = Some (fresh kind) }
+read_enter bytes (TextRole purpose) p r = record r { text = Some (begun p) }
 read_enter bytes IsFence p r = on_leaf at_fence r
 read_enter bytes IsTitle p r = on_leaf at_title r
 read_enter bytes IsRow p r = on_leaf at_row r
@@ -456,9 +456,9 @@ read_enter bytes IsEnding p r = r
 read_enter bytes IsQuiet p r = r
 
 abbrev pub read_exit : List ℕ → Role → Point → Reading → Reading
-read_exit bytes (Holds shape) p r = left r.outer r
-read_exit bytes (Opens kind) p r = finished r.leaf r
-read_exit bytes (Tells purpose) p r = told_at bytes purpose p r.text r
+read_exit bytes (ContainerRole shape) p r = left r.outer r
+read_exit bytes (LeafRole kind) p r = finished r.leaf r
+read_exit bytes (TextRole purpose) p r = told_at bytes purpose p r.text r
 read_exit bytes IsTitle p r = on_leaf behind_title r
 read_exit bytes IsPrefix p r = on_text (after_prefix p) r
 read_exit bytes IsEnding p r = at_ending bytes p r.text r

@@ -1,6 +1,6 @@
 -- What holds of all blocks of a tree, at any depth.
 use Rattle.std.specs.Prelude.{Bool, true, ◌&&◌}
-use Rattle.md_definition.specs.Tree.{Block, Blocks, End, Footnote, Item, ListOf, More, Quote}
+use Rattle.md_meaning.specs.Tree.{Block, Blocks, End, Footnote, Item, ListOf, More, Quote}
 
 abbrev mutual
   -- whether it holds of a block, and of all blocks in it

@@ -13,7 +13,7 @@ use Rattle.md_engine.specs.declared.event.Name.TheVariants as n
 use Rattle.md_seam.specs.declared.inline.PartKind.{PartKind}
 use Rattle.md_seam.specs.declared.inline.PartKind.TheVariants as k
 use Rattle.md_seam.specs.declared.inline.Chunk.{Chunk}
-use Rattle.md_definition.specs.Rest.{is_blank}
+use Rattle.md_meaning.specs.Rest.{is_blank}
 use Rattle.md_seam.specs.Events.Prefix.{is_prefix}
 use Rattle.md_seam.specs.Events.Places.{first_point, are_placed, same_place}
 use Rattle.md_seam.specs.Events.Nested.{Nested, is_exit}

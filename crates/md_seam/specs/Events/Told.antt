@@ -1,9 +1,9 @@
 -- What a text that is read tells: a block of its own, something of the container that it stands in, or something of the
 -- leaf block.
 use Rattle.std.specs.Prelude.{ℕ, Bool, true, false, List}
-use Rattle.md_definition.specs.Texts.{split_lines, trim_each}
-use Rattle.md_definition.specs.Tree.{Block, Paragraph}
-use Rattle.md_seam.specs.Events.Spelled.{AsDigits, AsFootnoteLabel, AsItemMarker, AsParagraph, Purpose, Role, Tells}
+use Rattle.md_meaning.specs.Texts.{split_lines, trim_each}
+use Rattle.md_meaning.specs.Tree.{Block, Paragraph}
+use Rattle.md_seam.specs.Events.Spelled.{AsDigits, AsFootnoteLabel, AsItemMarker, AsParagraph, Purpose, Role, TextRole}
 
 pub data Told : Type 0 where
   OfItself : Told
@@ -23,5 +23,5 @@ block_told text = Paragraph (trim_each (split_lines text))
 
 -- what a text is read from
 abbrev pub is_told : Role → Bool
-is_told (Tells purpose) = true
+is_told (TextRole purpose) = true
 is_told _ = false

@@ -2,8 +2,8 @@ use Rattle.std.proofs.Common.{◌≡◌, List, length, ap, sym, ◌∙◌}
 use Rattle.std.specs.List.{prefix_len}
 use Rattle.md_engine.specs.declared.event.Event.{Event}
 use Rattle.md_engine.specs.World.{World, world}
-use Rattle.markdown_blocks.specs.Registry.{stays_alone}
-use Rattle.markdown_blocks.proofs.GroupedBlocks.{all-alone}
+use Rattle.md_frame.specs.Resolving.{stays_alone}
+use Rattle.md_frame.proofs.GroupedBlocks.{all-alone}
 use Rattle.markdown_blocks.proofs.parser.group_blocks.Goals as goal
 
 pub returns-then-until_grouped-len : goal.returns-then-until_grouped-len

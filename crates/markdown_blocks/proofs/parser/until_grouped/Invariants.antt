@@ -1,6 +1,6 @@
 use Rattle.std.proofs.Common.{◌≡◌, ◌+◌, drop}
 use Rattle.std.specs.List.{prefix_len}
-use Rattle.markdown_blocks.specs.Registry.{stays_alone}
+use Rattle.md_frame.specs.Resolving.{stays_alone}
 use Rattle.markdown_blocks.proofs.parser.until_grouped.Given as goal
 
 abbrev pub invariant-loop-at : goal.invariant-loop-at

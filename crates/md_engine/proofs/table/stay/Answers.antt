@@ -8,8 +8,8 @@ use Rattle.md_engine.proofs.table.stay.Goals as goal
 pub returns-in_default : goal.returns-in_default
 returns-in_default g c = record { runs = λ is_end. Stays; stands = c.requires; falls = omega arith; setting = refl }
 
-pub returns-in_default-stays : goal.returns-in_default-stays
-returns-in_default-stays g c = record { runs = λ is_end. Stays; stands = c.requires; falls = omega arith; setting = refl }
+pub returns-in_default-takes_at_once : goal.returns-in_default-takes_at_once
+returns-in_default-takes_at_once g c = record { runs = λ is_end. Stays; stands = c.requires; falls = omega arith; setting = refl }
 
 pub returns-in-Line : goal.returns-in-Line
 returns-in-Line g c =

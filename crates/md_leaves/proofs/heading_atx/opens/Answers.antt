@@ -1,10 +1,7 @@
-use Rattle.std.proofs.Common.{◌≡◌, ◌<◌, ◌∙◌, Bool, true, ◌&&◌, nat_lt, ap, inl, inr, is_ok, refl, subst, sym}
+use Rattle.std.proofs.Common.{◌≡◌, ◌<◌, ◌∙◌, true, ◌&&◌, nat_lt, ap, inl, inr, is_ok, refl, subst, sym}
 use Rattle.std.specs.Prelude.{OnOk}
 use Rattle.std.specs.declared.result.Result.{Result}
 use Rattle.std.specs.declared.result.Result.TheVariants as result
-use Rattle.md_engine.specs.contracts.resolve.name.NamePartialEq.TheImpl as names
-use Rattle.md_engine.specs.declared.resolve.name.Name.{Name as ResolveName}
-use Rattle.md_engine.specs.declared.resolve.name.Name.TheVariants as r
 use Rattle.md_engine.specs.declared.state.heading_atx.State.TheVariants as its
 use Rattle.md_engine.specs.declared.state.Name.TheVariants as n
 use Rattle.md_engine.specs.declared.state.State.TheVariants.{Next}
@@ -19,17 +16,13 @@ use Rattle.md_seam.specs.OneSpace.{IsOneSpace, spaced}
 use Rattle.md_seam.specs.Spaces.{is_current, sees_white}
 use Rattle.md_leaves.proofs.heading_atx.opens.Goals as goal
 
--- whether a name that is registered is that of headings
-abbrev is_name : ResolveName → Bool
-is_name name = names.ghosts.eq name r.HeadingAtx
-
 on-ok : {T E : Type 0} → (x : Result T E) (P : Type 0) → is_ok x ≡ true → OnOk x P → P
 on-ok (result.Ok v) P e h = h
 on-ok (result.Err v) P e h = cc
 
 pub words-requires : goal.words-requires
 words-requires c =
-    let T = HeadingStep is_name in
+    let T = HeadingStep in
     let first = n.HeadingAtx its.SequenceOpen in
     let w = world c.args.tokenizer.now in
     let x = world c.exit.new.self in
@@ -44,7 +37,7 @@ words-requires c =
 
 pub returns-then-is_one_space-3-clause-runs : goal.returns-then-is_one_space-3-clause-runs
 returns-then-is_one_space-3-clause-runs c = λ fine is_end s v named from may.
-    let T = HeadingStep is_name in
+    let T = HeadingStep in
     let first = n.HeadingAtx its.SequenceOpen in
     let w = world c.args.tokenizer.now in
     let x = world c.exit.new.self in
@@ -57,14 +50,14 @@ returns-then-is_one_space-3-clause-runs c = λ fine is_end s v named from may.
     on-ok c.take_one_space.result (u ≡ spaced x) has_taken c.take_one_space.ensures ∙ ap spaced ended in
     let came : Came T is_end first w (n.HeadingAtx its.AtBreak) u = λ t y called saw here.
     subst (λ (z : World). CameTo T is_end t y (n.HeadingAtx its.AtBreak) z) (sym is)
-    (opening-ends is_name is_end t y w (came-first T first w is_end t y called saw here) c.requires.current
+    (opening-ends is_end t y w (came-first T first w is_end t y called saw here) c.requires.current
     (within-world c.args.tokenizer.now) one) in
     came-runs T is_end first (n.HeadingAtx its.AtBreak) w u c.words.result (world c.words.new.tokenizer) came
     (c.words.ensures.runs fine is_end) s v named from may
 
 pub returns-then-is_one_space-3-clause-sees : goal.returns-then-is_one_space-3-clause-sees
 returns-then-is_one_space-3-clause-sees c = λ fine.
-    let T = HeadingStep is_name in
+    let T = HeadingStep in
     let first = n.HeadingAtx its.SequenceOpen in
     let w = world c.args.tokenizer.now in
     let x = world c.exit.new.self in
@@ -88,7 +81,7 @@ returns-else-is_one_space-clause-runs c = λ fine.
     let w = world c.args.tokenizer.now in
     let d = opening-remains w (is_current 35 w.current && nat_lt w.scratch.size 6) (sees_text w.current)
     (sees_white w.current) in
-    call-runs (HeadingStep is_name) (n.HeadingAtx its.SequenceOpen) w c.sequence_open.result
+    call-runs HeadingStep (n.HeadingAtx its.SequenceOpen) w c.sequence_open.result
     (world c.sequence_open.new.tokenizer) (c.sequence_open.ensures.to fine, c.sequence_open.ensures.world fine) fine
     (ap (λ (x : World). x.setting) (c.sequence_open.ensures.world fine) ∙ d.1) (within-world c.args.tokenizer.now)
 

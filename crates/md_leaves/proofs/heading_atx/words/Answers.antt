@@ -1,11 +1,8 @@
-use Rattle.std.proofs.Common.{◌≡◌, ◌<◌, ◌⊎◌, ◌∙◌, Bool, true, false, ap, arith, inl, inr, is_ok, refl, subst, sym}
+use Rattle.std.proofs.Common.{◌≡◌, ◌<◌, ◌⊎◌, ◌∙◌, true, false, ap, arith, inl, inr, is_ok, refl, subst, sym}
 use Rattle.std.specs.Prelude.{OnOk}
 use Rattle.std.specs.declared.result.Result.{Result}
 use Rattle.std.specs.declared.result.Result.TheVariants as result
-use Rattle.md_engine.specs.contracts.resolve.name.NamePartialEq.TheImpl as names
 use Rattle.md_engine.specs.declared.event.Name.TheVariants.{Data}
-use Rattle.md_engine.specs.declared.resolve.name.Name.{Name as ResolveName}
-use Rattle.md_engine.specs.declared.resolve.name.Name.TheVariants as r
 use Rattle.md_engine.specs.declared.state.heading_atx.State.TheVariants as its
 use Rattle.md_engine.specs.declared.state.Name.TheVariants as n
 use Rattle.md_engine.specs.declared.state.State.TheVariants.{Next}
@@ -26,10 +23,6 @@ use Rattle.md_seam.specs.Spaces.{ends_line, is_current, sees_white}
 use Rattle.md_seam.specs.Transition.{entered_link, exited}
 use Rattle.md_leaves.proofs.heading_atx.words.Goals as goal
 
--- whether a name that is registered is that of headings
-abbrev is_name : ResolveName → Bool
-is_name name = names.ghosts.eq name r.HeadingAtx
-
 on-ok : {T E : Type 0} → (x : Result T E) (P : Type 0) → is_ok x ≡ true → OnOk x P → P
 on-ok (result.Ok v) P e h = h
 on-ok (result.Err v) P e h = cc
@@ -41,7 +34,7 @@ ahead (inr h) = h
 pub loop-tokenizer-init : goal.loop-tokenizer-init
 loop-tokenizer-init c = record {
   current = c.requires.current;
-  came = came-first (HeadingStep is_name) (n.HeadingAtx its.AtBreak) (world c.args.tokenizer.now);
+  came = came-first HeadingStep (n.HeadingAtx its.AtBreak) (world c.args.tokenizer.now);
   may = inl refl;
 }
 
@@ -57,13 +50,13 @@ returns-then-see_or_wait-clause-runs c = λ fine is_end s v named sees may.
     subst (λ (x : World). x.current ≡ looks x) (sym e) c.loop-tokenizer.invariant.current in
     let inside : w1.point.index < w1.setting.limit =
     subst (λ (x : World). x.point.index < x.setting.limit) (sym e) (begins-inside w c.loop-tokenizer.invariant.current is) in
-    let begun : CameTo (HeadingStep is_name) is_end s v (n.HeadingAtx its.Data) w1 =
-    subst (λ (x : World). CameTo (HeadingStep is_name) is_end s v (n.HeadingAtx its.Data) x) (sym e)
-    (word-begins is_name is_end s v w (c.loop-tokenizer.invariant.came is_end s v named sees may) is
+    let begun : CameTo HeadingStep is_end s v (n.HeadingAtx its.Data) w1 =
+    subst (λ (x : World). CameTo HeadingStep is_end s v (n.HeadingAtx its.Data) x) (sym e)
+    (word-begins is_end s v w (c.loop-tokenizer.invariant.came is_end s v named sees may) is
     c.loop-tokenizer.invariant.current (within-world c.loop-tokenizer.tokenizer)) in
-    subst (λ (x : World). Runs (HeadingStep is_name) is_end s v (Next (n.HeadingAtx its.Data)) x)
+    subst (λ (x : World). Runs HeadingStep is_end s v (Next (n.HeadingAtx its.Data)) x)
     (sym (c.if-see_or_wait.ensures.same refl))
-    (word-waits is_name is_end s v w1 u begun seen (within-world c.enter_link.new.self) c.see_word.ensures.some inside
+    (word-waits is_end s v w1 u begun seen (within-world c.enter_link.new.self) c.see_word.ensures.some inside
     (c.if-see_or_wait.ensures.waits refl).1)
 
 pub returns-then-not-is_one_space-clause-runs : goal.returns-then-not-is_one_space-clause-runs
@@ -77,19 +70,19 @@ returns-then-not-is_one_space-clause-runs c = λ fine is_end s v named from may.
     let is : begins_word w.current ≡ true = sym c.begins_word.ensures ∙ c.loop-tokenizer-test.true in
     let seen : w1.current ≡ looks w1 =
     subst (λ (x : World). x.current ≡ looks x) (sym e) c.loop-tokenizer.invariant.current in
-    let begun : CameTo (HeadingStep is_name) is_end s v (n.HeadingAtx its.Data) w1 =
-    subst (λ (x : World). CameTo (HeadingStep is_name) is_end s v (n.HeadingAtx its.Data) x) (sym e)
-    (word-begins is_name is_end s v w (c.loop-tokenizer.invariant.came is_end s v named from may) is
+    let begun : CameTo HeadingStep is_end s v (n.HeadingAtx its.Data) w1 =
+    subst (λ (x : World). CameTo HeadingStep is_end s v (n.HeadingAtx its.Data) x) (sym e)
+    (word-begins is_end s v w (c.loop-tokenizer.invariant.came is_end s v named from may) is
     c.loop-tokenizer.invariant.current (within-world c.loop-tokenizer.tokenizer)) in
     let sees : w3 ≡ reading u = c.if-see_or_wait.ensures.sees refl in
-    let came : CameTo (HeadingStep is_name) is_end s v (n.HeadingAtx its.Data) w3 =
-    subst (λ (x : World). CameTo (HeadingStep is_name) is_end s v (n.HeadingAtx its.Data) x) (sym sees)
-    (word-taken is_name is_end s v w1 u begun seen (within-world c.enter_link.new.self) c.see_word.ensures.some
+    let came : CameTo HeadingStep is_end s v (n.HeadingAtx its.Data) w3 =
+    subst (λ (x : World). CameTo HeadingStep is_end s v (n.HeadingAtx its.Data) x) (sym sees)
+    (word-taken is_end s v w1 u begun seen (within-world c.enter_link.new.self) c.see_word.ensures.some
     (ahead (c.if-see_or_wait.ensures.goes_on refl))) in
     let same : (world c.data.new.tokenizer).setting ≡ w3.setting =
     ap (λ (x : World). x.setting) (c.data.ensures.world fine)
     ∙ (data-remains w3 (sees_text w3.current) (sees_white w3.current)).1 in
-    then-run (HeadingStep is_name) is_end s v (n.HeadingAtx its.Data) w3 c.data.result (world c.data.new.tokenizer) came
+    then-run HeadingStep is_end s v (n.HeadingAtx its.Data) w3 c.data.result (world c.data.new.tokenizer) came
     (c.data.ensures.to fine, c.data.ensures.world fine) fine same (within-world c.see_or_wait.new.self)
 
 pub returns-then-not-is_one_space-clause-sees : goal.returns-then-not-is_one_space-clause-sees
@@ -162,16 +155,16 @@ loop-tokenizer-preserved c =
     record {
       current = subst (λ (y : World). y.current ≡ looks y) (sym all) refl;
       came = λ is_end s v named from may.
-          let begun : CameTo (HeadingStep is_name) is_end s v (n.HeadingAtx its.Data) w1 =
-          subst (λ (y : World). CameTo (HeadingStep is_name) is_end s v (n.HeadingAtx its.Data) y) (sym e)
-          (word-begins is_name is_end s v w (c.loop-tokenizer.invariant.came is_end s v named from may) is
+          let begun : CameTo HeadingStep is_end s v (n.HeadingAtx its.Data) w1 =
+          subst (λ (y : World). CameTo HeadingStep is_end s v (n.HeadingAtx its.Data) y) (sym e)
+          (word-begins is_end s v w (c.loop-tokenizer.invariant.came is_end s v named from may) is
           c.loop-tokenizer.invariant.current (within-world c.loop-tokenizer.tokenizer)) in
-          let came : CameTo (HeadingStep is_name) is_end s v (n.HeadingAtx its.Data) w3 =
-          subst (λ (y : World). CameTo (HeadingStep is_name) is_end s v (n.HeadingAtx its.Data) y) (sym sees)
-          (word-taken is_name is_end s v w1 u begun seen (within-world c.enter_link.new.self) c.see_word.ensures.some
+          let came : CameTo HeadingStep is_end s v (n.HeadingAtx its.Data) w3 =
+          subst (λ (y : World). CameTo HeadingStep is_end s v (n.HeadingAtx its.Data) y) (sym sees)
+          (word-taken is_end s v w1 u begun seen (within-world c.enter_link.new.self) c.see_word.ensures.some
           (ahead (c.if-see_or_wait.ensures.goes_on refl))) in
-          subst (λ (y : World). CameTo (HeadingStep is_name) is_end s v (n.HeadingAtx its.AtBreak) y) (sym all)
-          (word-ends is_name is_end s v w3 came seen3 (within-world c.see_or_wait.new.self) one);
+          subst (λ (y : World). CameTo HeadingStep is_end s v (n.HeadingAtx its.AtBreak) y) (sym all)
+          (word-ends is_end s v w3 came seen3 (within-world c.see_or_wait.new.self) one);
       may = inr (subst (λ (y : World). y.point.index < y.setting.limit) (sym all) one.next);
     }
 
@@ -181,8 +174,8 @@ at_break-requires c = record { current = c.loop-tokenizer.invariant.current; has
 pub returns-clause-runs : goal.returns-clause-runs
 returns-clause-runs c = λ fine.
     let w = world c.loop-tokenizer.tokenizer in
-    let d = at_break-remains is_name w (sees_text w.current) (is_current 35 w.current) (ends_line w.current) in
-    came-calls (HeadingStep is_name) (n.HeadingAtx its.AtBreak) (n.HeadingAtx its.AtBreak) (world c.args.tokenizer.now) w
+    let d = at_break-remains w (sees_text w.current) (is_current 35 w.current) (ends_line w.current) in
+    came-calls HeadingStep (n.HeadingAtx its.AtBreak) (n.HeadingAtx its.AtBreak) (world c.args.tokenizer.now) w
     c.at_break.result (world c.at_break.new.tokenizer) c.loop-tokenizer.invariant.came
     (c.at_break.ensures.to fine, c.at_break.ensures.world fine) fine
     (ap (λ (x : World). x.setting) (c.at_break.ensures.world fine) ∙ d.1) (within-world c.loop-tokenizer.tokenizer)
@@ -191,9 +184,9 @@ pub returns-clause-sees : goal.returns-clause-sees
 returns-clause-sees c = λ fine.
     let w = world c.loop-tokenizer.tokenizer in
     let w' = world c.at_break.new.tokenizer in
-    let d = at_break-remains is_name w (sees_text w.current) (is_current 35 w.current) (ends_line w.current) in
+    let d = at_break-remains w (sees_text w.current) (is_current 35 w.current) (ends_line w.current) in
     let same : w'.setting ≡ w.setting = ap (λ (x : World). x.setting) (c.at_break.ensures.world fine) ∙ d.1 in
     sees-from c.at_break.result (world c.args.tokenizer.now) w w'
     (call-sees c.at_break.result w w'
-    (remains-of (at_break_transition is_name w) c.at_break.result w w' (c.at_break.ensures.to fine)
+    (remains-of (at_break_transition w) c.at_break.result w w' (c.at_break.ensures.to fine)
     (c.at_break.ensures.world fine) d.0) same c.loop-tokenizer.invariant.current) same c.loop-tokenizer.invariant.may

@@ -1,6 +1,4 @@
 use Rattle.std.proofs.Common.{◌≡◌, ◌<◌, ◌⊎◌}
-use Rattle.md_engine.specs.contracts.resolve.name.NamePartialEq.TheImpl as names
-use Rattle.md_engine.specs.declared.resolve.name.Name.TheVariants as r
 use Rattle.md_engine.specs.declared.state.heading_atx.State.TheVariants as its
 use Rattle.md_engine.specs.declared.state.Name.TheVariants as n
 use Rattle.md_engine.specs.Scheme.{cells_left}
@@ -12,7 +10,7 @@ use Rattle.md_leaves.proofs.heading_atx.words.Given as goal
 abbrev pub invariant-loop-tokenizer : goal.invariant-loop-tokenizer
 invariant-loop-tokenizer l = record {
   current : (world l.tokenizer).current ≡ looks (world l.tokenizer);
-  came : CameHere (HeadingStep (λ name. names.ghosts.eq name r.HeadingAtx)) (n.HeadingAtx its.AtBreak)
+  came : CameHere HeadingStep (n.HeadingAtx its.AtBreak)
       (world l.initial.tokenizer) (n.HeadingAtx its.AtBreak) (world l.tokenizer);
   may : ((world l.tokenizer).point ≡ (world l.initial.tokenizer).point) ⊎
       ((world l.tokenizer).point.index < (world l.tokenizer).setting.limit);

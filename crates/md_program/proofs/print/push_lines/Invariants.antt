@@ -1,6 +1,6 @@
 use Rattle.std.proofs.Common.{◌≡◌, ◌++◌, map, take, string_bytes}
 use Rattle.std.specs.List.{flat_map}
-use Rattle.md_definition.specs.Outline.{entry_of}
+use Rattle.md_meaning.specs.Outline.{entry_of}
 use Rattle.md_program.specs.Printed.{printed_line}
 use Rattle.md_program.proofs.print.push_lines.Given as goal
 

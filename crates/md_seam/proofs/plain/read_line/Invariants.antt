@@ -2,7 +2,7 @@ use Rattle.std.proofs.Common.{◌≡◌, ◌≤◌, length}
 use Rattle.std.specs.Prelude.{slice_range}
 use Rattle.md_engine.specs.Scheme.{cells_left}
 use Rattle.md_engine.specs.World.{world}
-use Rattle.md_definition.specs.Lines.{without_ending}
+use Rattle.md_meaning.specs.Lines.{without_ending}
 use Rattle.md_seam.specs.Events.Places.{past_text}
 use Rattle.md_seam.proofs.plain.read_line.Given as goal
 

@@ -1,7 +1,7 @@
 use Rattle.std.proofs.Common.{◌≡◌, string_bytes}
 use Rattle.std.proofs.lemmas.Result.{IfOk-weaker}
-use Rattle.md_definition.specs.Wrapped.{IsItemOf, itemised}
-use Rattle.md_definition.proofs.ListLaw.{item-is}
+use Rattle.md_meaning.specs.Wrapped.{IsItemOf, itemised}
+use Rattle.md_meaning.proofs.ListLaw.{item-is}
 use Rattle.md_wrap.proofs.wrap.item.Goals as goal
 
 pub returns : goal.returns

@@ -2,8 +2,8 @@ use Rattle.std.proofs.Common.{◌≡◌, ◌++◌, length, string_bytes}
 use denote.Text.{Utf8}
 use denote.Shadow.{shadow}
 use Rattle.std.specs.List.{concat}
-use Rattle.md_definition.specs.Lines.{full_lines_of}
-use Rattle.md_definition.specs.Wrapped.{prefixed}
+use Rattle.md_meaning.specs.Lines.{full_lines_of}
+use Rattle.md_meaning.specs.Wrapped.{prefixed}
 use Rattle.md_wrap.proofs.wrap.prefixed.Given as goal
 
 -- what is written, and the rest with its prefixes, are what is wanted

@@ -1,7 +1,7 @@
 use Rattle.std.proofs.Common.{◌≡◌, string_bytes}
 use Rattle.std.proofs.lemmas.Result.{IfOk-weaker}
-use Rattle.md_definition.specs.Wrapped.{IsQuoteOf, quoted}
-use Rattle.md_definition.proofs.QuoteLaw.{quote-is}
+use Rattle.md_meaning.specs.Wrapped.{IsQuoteOf, quoted}
+use Rattle.md_meaning.proofs.QuoteLaw.{quote-is}
 use Rattle.md_wrap.proofs.wrap.quote.Goals as goal
 
 pub returns : goal.returns

@@ -2,34 +2,34 @@ use Rattle.md_engine.specs.World.{world}
 use Rattle.md_engine.proofs.Loops.{call-runs, call-sees}
 use Rattle.md_engine.proofs.StayLemmas.{within-world}
 use Rattle.md_content.specs.States.{ContentStep, content_scheme, content_transition}
-use Rattle.md_content.proofs.States.{content_does}
-use Rattle.md_seam.proofs.SpacesGoods.{does-fall, does-remain, does-setting, does-stands}
+use Rattle.md_content.proofs.States.{content_terminates}
+use Rattle.md_seam.proofs.SpacesTermination.{does-fall, does-remain, does-setting, does-stands}
 use Rattle.md_content.proofs.content.ContentTableTable.call.Goals as goal
 
 pub returns-clause-stands : goal.returns-clause-stands
 returns-clause-stands c = λ fine.
     let w = world c.args.tokenizer.now in
     does-stands content_scheme c.args.name w (content_transition c.args.name w) _ _ (c.call_state.ensures.to fine)
-    (c.call_state.ensures.world fine) (content_does c.args.name w c.requires.current c.requires.stands)
+    (c.call_state.ensures.world fine) (content_terminates c.args.name w c.requires.current c.requires.stands)
 
 pub returns-clause-falls : goal.returns-clause-falls
 returns-clause-falls c = λ fine.
     let w = world c.args.tokenizer.now in
     does-fall content_scheme c.args.name w (content_transition c.args.name w) _ _ (c.call_state.ensures.to fine)
-    (c.call_state.ensures.world fine) (content_does c.args.name w c.requires.current c.requires.stands)
+    (c.call_state.ensures.world fine) (content_terminates c.args.name w c.requires.current c.requires.stands)
 
 pub returns-clause-setting : goal.returns-clause-setting
 returns-clause-setting c = λ fine.
     let w = world c.args.tokenizer.now in
     does-setting content_scheme c.args.name w (content_transition c.args.name w) _ (c.call_state.ensures.world fine)
-    (content_does c.args.name w c.requires.current c.requires.stands)
+    (content_terminates c.args.name w c.requires.current c.requires.stands)
 
 pub returns-clause-runs : goal.returns-clause-runs
 returns-clause-runs c = λ fine.
     let w = world c.args.tokenizer.now in
     call-runs ContentStep c.args.name w _ _ (record { to_is = c.call_state.ensures.to fine; new_is = c.call_state.ensures.world fine }) fine
     (does-setting content_scheme c.args.name w (content_transition c.args.name w) _ (c.call_state.ensures.world fine)
-    (content_does c.args.name w c.requires.current c.requires.stands))
+    (content_terminates c.args.name w c.requires.current c.requires.stands))
     (within-world c.args.tokenizer.now)
 
 pub returns-clause-sees : goal.returns-clause-sees
@@ -37,7 +37,7 @@ returns-clause-sees c = λ fine.
     let w = world c.args.tokenizer.now in
     call-sees _ w _
     (does-remain content_scheme c.args.name w (content_transition c.args.name w) _ _ (c.call_state.ensures.to fine)
-    (c.call_state.ensures.world fine) (content_does c.args.name w c.requires.current c.requires.stands))
+    (c.call_state.ensures.world fine) (content_terminates c.args.name w c.requires.current c.requires.stands))
     (does-setting content_scheme c.args.name w (content_transition c.args.name w) _ (c.call_state.ensures.world fine)
-    (content_does c.args.name w c.requires.current c.requires.stands))
+    (content_terminates c.args.name w c.requires.current c.requires.stands))
     c.requires.current

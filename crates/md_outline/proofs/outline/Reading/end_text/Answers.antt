@@ -1,6 +1,6 @@
 use Rattle.std.proofs.Common.{◌+◌, ◌∷◌, [], ◌++◌, ap, refl, ◌∙◌}
-use Rattle.md_definition.specs.Outline.{entries_of, entry_with}
-use Rattle.md_definition.specs.declared.outline.Word.TheVariants as word
+use Rattle.md_meaning.specs.Outline.{entries_of, entry_with}
+use Rattle.md_meaning.specs.declared.outline.Word.TheVariants as word
 use Rattle.md_outline.specs.DefinitionState.{destination_told, part_ended}
 use Rattle.md_outline.specs.FootnoteState.{label_told}
 use Rattle.md_outline.specs.LinedState.{filled_line, shown_spaces, without_end}

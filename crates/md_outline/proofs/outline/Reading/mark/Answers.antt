@@ -1,6 +1,6 @@
 use Rattle.std.proofs.Common.{◌∙◌, ap, List, sym, arith}
 use Rattle.std.specs.Prelude.{None}
-use Rattle.md_definition.specs.Outline.{Entry}
+use Rattle.md_meaning.specs.Outline.{Entry}
 use Rattle.md_outline.specs.OutlineSteps.{marked_at, state_of}
 use Rattle.md_outline.proofs.ListLemmas.{line-marked}
 use Rattle.md_outline.proofs.outline.Reading.mark.Goals as goal

@@ -1,6 +1,6 @@
 use Rattle.std.proofs.Common.{◌∙◌, ◌||◌, refl, sym}
 use Rattle.std.specs.Prelude.{Some, None}
-use Rattle.md_definition.specs.Outline.{entries_of}
+use Rattle.md_meaning.specs.Outline.{entries_of}
 use Rattle.md_outline.specs.OutlineSteps.{is_titled, state_of}
 use Rattle.md_outline.proofs.OutlineLemmas.{on_ok-map, piece-end}
 use Rattle.md_outline.proofs.outline.Reading.part_text.Goals as goal

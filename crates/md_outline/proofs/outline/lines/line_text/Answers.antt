@@ -1,6 +1,6 @@
 use Rattle.std.proofs.Common.{◌≡◌, ◌∙◌, drop, sym, ap, subst}
 use Rattle.std.specs.Str.{IsUtf8}
-use Rattle.md_definition.specs.Rest.{trim_start}
+use Rattle.md_meaning.specs.Rest.{trim_start}
 use Rattle.md_outline.proofs.TextCuts.{utf8-trim}
 use Rattle.md_outline.proofs.outline.lines.line_text.Goals as goal
 

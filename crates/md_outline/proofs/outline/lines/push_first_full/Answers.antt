@@ -1,4 +1,4 @@
-use Rattle.md_definition.specs.Outline.{entries_of}
+use Rattle.md_meaning.specs.Outline.{entries_of}
 use Rattle.md_outline.proofs.TextCuts.{first-full}
 use Rattle.md_outline.proofs.outline.lines.push_first_full.Goals as goal
 

@@ -1,5 +1,5 @@
 use Rattle.std.proofs.Common.{◌∙◌, sym}
-use Rattle.md_definition.specs.Outline.{entries_of}
+use Rattle.md_meaning.specs.Outline.{entries_of}
 use Rattle.md_outline.proofs.OutlineLemmas.{on_ok-map}
 use Rattle.md_outline.proofs.TextCuts.{first-all, first-one}
 use Rattle.md_outline.proofs.outline.lines.push_first_lines.Goals as goal

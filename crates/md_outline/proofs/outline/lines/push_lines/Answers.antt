@@ -1,4 +1,4 @@
-use Rattle.md_definition.specs.Outline.{entries_of}
+use Rattle.md_meaning.specs.Outline.{entries_of}
 use Rattle.md_outline.proofs.OutlineLemmas.{on_ok-map}
 use Rattle.md_outline.proofs.TextCuts.{lines-all}
 use Rattle.md_outline.proofs.outline.lines.push_lines.Goals as goal

@@ -1,6 +1,6 @@
 use Rattle.std.proofs.Common.{◌≡◌, ◌∙◌, ◌-◌, ℕ, List, length, take, drop, sym, ap, subst}
 use Rattle.std.specs.Str.{IsUtf8}
-use Rattle.md_definition.specs.Rest.{trim, trim_end, trim_start}
+use Rattle.md_meaning.specs.Rest.{trim, trim_end, trim_start}
 use Rattle.md_outline.proofs.TextCuts.{utf8-trim, utf8-trim_end}
 use Rattle.md_outline.proofs.outline.lines.trimmed_text.Goals as goal
 

@@ -1,9 +1,0 @@
--- The texts of a definition, over their lines: what is known of their events.
-pub mod Facts
-pub mod Lines
-pub mod Places
-pub mod Words
-pub mod Parts
-pub mod Parted
-pub mod Reads
-pub mod Whole

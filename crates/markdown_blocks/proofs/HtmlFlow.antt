@@ -1,7 +1,0 @@
--- HTML: what its lines come to, the line that begins it and further ones, and their laws.
-pub mod Trial
-pub mod Cells
-pub mod Found
-pub mod Outside
-pub mod Registers
-pub mod Laws

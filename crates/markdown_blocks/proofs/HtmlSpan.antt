@@ -1,5 +1,0 @@
--- HTML with all its lines, joined: what stands on a line, what further lines come to, and the laws.
-pub mod Lines
-pub mod Rows
-pub mod Walk
-pub mod Laws

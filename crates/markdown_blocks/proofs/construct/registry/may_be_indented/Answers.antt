@@ -1,7 +1,0 @@
-use Rattle.std.proofs.Common.{sym, ◌∙◌}
-use Rattle.md_engine.specs.World.{world}
-use Rattle.markdown_blocks.proofs.CodeIndented.Look.{code-may}
-use Rattle.markdown_blocks.proofs.construct.registry.may_be_indented.Goals as goal
-
-pub returns : goal.returns
-returns c = c.may_be_white.ensures ∙ sym (code-may (world c.args.tokenizer.now))

@@ -1,8 +1,0 @@
--- The rest of a line as it stands in the text.
-use Rattle.std.specs.Prelude.{ℕ, List, ◌++◌}
-pub use Rattle.md_definition.specs.Rest.{cut_tab}
-use Rattle.md_definition.specs.Rest.{Rest}
-
--- its bytes: a tab that is cut is counted among them
-abbrev pub rest_line : Rest → List ℕ
-rest_line r = cut_tab r.spaces ++ r.bytes

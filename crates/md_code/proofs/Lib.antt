@@ -1,0 +1,13 @@
+pub mod CodeTermination
+pub mod CodeMeaning
+pub mod CodeWhole
+pub mod CodeLines
+pub mod FenceCells
+pub mod FenceFurther
+pub mod FenceTermination
+pub mod FenceOpened
+pub mod FenceOpens
+pub mod FenceParts
+pub mod FenceRefused
+pub mod FenceMeaning
+pub mod FenceWhole

@@ -1,0 +1,722 @@
+// Fenced code (CommonMark 4.5) and math.
+//
+//     raw_flow ::= opening *( eol line ) [ eol closing ]
+//     opening  ::= small_indent sequence [ *space_or_tab info [ 1*space_or_tab meta ] ] *space_or_tab
+//     closing  ::= small_indent sequence *space_or_tab
+//     sequence ::= 3*'`' | 3*'~' | 2*'$'
+//
+// A block of tildes or backticks is fenced code, one of dollars is math, which has no `info`: all behind its sequence
+// is `meta`. Neither holds the marker, unless that is a tilde. A closing sequence has the marker of the opening one,
+// and at least as many. Each other line loses as many columns of whitespace as stood in front of the opening sequence,
+// or as many as it has.
+//
+// A block is read one line at a time: `start` is the first state of its opening line, `at_non_lazy_break` that of each
+// further line. What is kept between them is `HeldLeaf::Fence`. Each line is a `CodeFenced` of its own, to the end of
+// the line: the opening one from its sequence on, a further one from its begin, and linked to the line before. A
+// resolver makes one block of them. In it stand `CodeFencedFence` around a sequence and what follows it on its line:
+// `CodeFencedFenceSequence`, `SpaceOrTab`, and around linked `Data` `CodeFencedFenceInfo` and `CodeFencedFenceMeta`;
+// and `CodeFlowChunk` over what a line has left, if anything. Indents are `SpaceOrTab` in front of these. In math all
+// names begin with `MathFlow`.
+
+ghost use Rattle.std.specs.Prelude.{◌≡◌, ◌≢◌, IfSome};
+ghost use Rattle.md_meaning.specs.Leaves.{is_fence_marker, least_size};
+ghost use Rattle.md_engine.specs.World.{world};
+ghost use Rattle.md_engine.specs.declared.state.Name.{Name as StateName};
+ghost use Rattle.md_engine.specs.declared.state.State.{State};
+ghost use Rattle.md_engine.specs.declared.state.raw_flow.State.{State as RawState};
+ghost use Rattle.md_code.specs.Fence.{FenceNeeds, after_transition, at_non_lazy_break_transition, behind_part};
+ghost use Rattle.md_code.specs.Fence.{before_content_chunk_transition, before_sequence_close_transition};
+ghost use Rattle.md_code.specs.Fence.{before_sequence_open_transition, block_name, chunk_name, cleared};
+ghost use Rattle.md_code.specs.Fence.{close_start_transition, content_chunk_transition, content_start_transition};
+ghost use Rattle.md_code.specs.Fence.{fence_name, fence_transition, held_indent, held_marker, held_size};
+ghost use Rattle.md_code.specs.Fence.{info_before_transition, info_transition, is_open, is_refused, may_begin};
+ghost use Rattle.md_code.specs.Fence.{meta_before_transition, meta_name, meta_transition};
+ghost use Rattle.md_code.specs.Fence.{sequence_close_after_transition, sequence_close_transition, sequence_name};
+ghost use Rattle.md_code.specs.Fence.{sequence_open_transition, start_transition};
+ghost use Rattle.md_seam.specs.Look.{may_with};
+ghost use Rattle.md_seam.specs.Spaces.{sees_white};
+ghost use Rattle.md_seam.specs.Stays.{TakesEach};
+ghost use Rattle.md_seam.specs.Transition.{IsAt};
+
+use md_engine::configuration::ParseOptions;
+use md_engine::event::{Content, Link, Name};
+use md_engine::or_error;
+use md_engine::state::raw_flow::State as RawState;
+use md_engine::state::{Name as StateName, State};
+use md_engine::stay::Stay;
+use md_engine::tokenizer::{HeldLeaf, Scratch, Tokenizer};
+use md_leaves::further::FURTHER;
+use md_seam::space_or_tab::{is_space_or_tab, small_indent, space_or_tab_min_max};
+
+/// What stands behind an opening sequence is read later.
+const STRING_LINK: Link = Link {
+    previous: false,
+    next: false,
+    content: Content::String,
+};
+
+/// Whether this marks a block that is on.
+fn is_marker(options: &ParseOptions, byte: u8) -> bool
+    ensures { result ≡ is_fence_marker options.now byte }
+{
+    if byte == b'$' {
+        options.constructs.math_flow
+    } else {
+        options.constructs.code_fenced && (byte == b'`' || byte == b'~')
+    }
+}
+
+/// So many markers an opening sequence has at least.
+fn least_size(marker: u8) -> usize
+    ensures { result ≡ least_size marker }
+{
+    if marker == b'$' { 2 } else { 3 }
+}
+
+/// Whether this may not stand behind an opening sequence: its marker, unless that is a tilde.
+fn is_refused(marker: u8, byte: u8) -> bool
+    ensures { result ≡ is_refused marker byte }
+{
+    byte == marker && marker != b'~'
+}
+
+/// The name of a block.
+fn block_name(marker: u8) -> Name
+    ensures { result ≡ block_name marker }
+{
+    if marker == b'$' {
+        Name::MathFlow
+    } else {
+        Name::CodeFenced
+    }
+}
+
+/// That of its fences,
+fn fence_name(marker: u8) -> Name
+    ensures { result ≡ fence_name marker }
+{
+    if marker == b'$' {
+        Name::MathFlowFence
+    } else {
+        Name::CodeFencedFence
+    }
+}
+
+/// of their sequences,
+fn sequence_name(marker: u8) -> Name
+    ensures { result ≡ sequence_name marker }
+{
+    if marker == b'$' {
+        Name::MathFlowFenceSequence
+    } else {
+        Name::CodeFencedFenceSequence
+    }
+}
+
+/// of `meta`,
+fn meta_name(marker: u8) -> Name
+    ensures { result ≡ meta_name marker }
+{
+    if marker == b'$' {
+        Name::MathFlowFenceMeta
+    } else {
+        Name::CodeFencedFenceMeta
+    }
+}
+
+/// and of its lines.
+fn chunk_name(marker: u8) -> Name
+    ensures { result ≡ chunk_name marker }
+{
+    if marker == b'$' {
+        Name::MathFlowChunk
+    } else {
+        Name::CodeFlowChunk
+    }
+}
+
+/// The marker of the open block,
+fn held_marker(leaf: HeldLeaf) -> u8
+    ensures { result ≡ held_marker leaf }
+{
+    match leaf {
+        HeldLeaf::Fence { marker, .. } => marker,
+        _ => 0,
+    }
+}
+
+/// how many of it its opening sequence has,
+fn held_size(leaf: HeldLeaf) -> usize
+    ensures { result ≡ held_size leaf }
+{
+    match leaf {
+        HeldLeaf::Fence { size, .. } => size,
+        _ => 0,
+    }
+}
+
+/// and how many columns stand in front of that.
+fn held_indent(leaf: HeldLeaf) -> usize
+    ensures { result ≡ held_indent leaf }
+{
+    match leaf {
+        HeldLeaf::Fence { indent, .. } => indent,
+        _ => 0,
+    }
+}
+
+/// Without a marker and what was counted.
+fn cleared(scratch: Scratch) -> Scratch
+    ensures { result ≡ cleared scratch }
+{
+    Scratch {
+        marker: 0,
+        size: 0,
+        size_c: 0,
+        ..scratch
+    }
+}
+
+/// Whether a block may begin here, by what stands first behind whitespace: a marker, if that is known.
+pub fn may_begin(first: Option<u8>) -> bool
+    ensures { result ≡ may_with may_begin first }
+{
+    matches!(first, None | Some(b'`' | b'~' | b'$'))
+}
+
+/// Whether this is a block that is open: its fence has a marker of such a block, and enough of it.
+pub fn is_open(leaf: HeldLeaf) -> bool
+    ensures { result ≡ is_open leaf }
+{
+    let marker = held_marker(leaf);
+    may_begin(Some(marker)) && held_size(leaf) >= least_size(marker)
+}
+
+/// Before an opening sequence and its indent.
+///
+/// ```markdown
+/// > | ~~~js
+///     ^
+///   | a
+///   | ~~~
+/// ```
+pub fn start(tokenizer: &mut Tokenizer) -> State
+    requires { IsAt FenceNeeds (StateName.RawFlow RawState.Start) (world tokenizer.old) }
+    ensures to { result ≢ State.Error → result ≡ (start_transition (world tokenizer.old)).to }
+    ensures world { result ≢ State.Error → world tokenizer.new ≡ (start_transition (world tokenizer.old)).world }
+{
+    if !tokenizer.options.constructs.code_fenced && !tokenizer.options.constructs.math_flow {
+        return State::Nok;
+    }
+    tokenizer.scratch.size_c = tokenizer.point.column;
+    if is_space_or_tab(tokenizer.current) {
+        let max = small_indent(tokenizer);
+        space_or_tab_min_max(
+            tokenizer,
+            0,
+            max,
+            State::Next(StateName::RawFlow(RawState::BeforeSequenceOpen)),
+            State::Nok,
+        )
+    } else {
+        State::Retry(StateName::RawFlow(RawState::BeforeSequenceOpen))
+    }
+}
+
+/// Behind the indent, at an opening sequence. The columns of the indent are known here.
+///
+/// ```markdown
+/// > | ~~~js
+///     ^
+///   | a
+///   | ~~~
+/// ```
+pub fn before_sequence_open(tokenizer: &mut Tokenizer) -> State
+    requires { IsAt FenceNeeds (StateName.RawFlow RawState.BeforeSequenceOpen) (world tokenizer.old) }
+    ensures to { result ≢ State.Error → result ≡ (before_sequence_open_transition (world tokenizer.old)).to }
+    ensures world { result ≢ State.Error →
+        world tokenizer.new ≡ (before_sequence_open_transition (world tokenizer.old)).world }
+{
+    match tokenizer.current {
+        Some(byte) if is_marker(tokenizer.options, byte) => {
+            let begin = tokenizer.scratch.size_c;
+            tokenizer.scratch.marker = byte;
+            tokenizer.scratch.size_c = tokenizer.point.column.saturating_sub(begin);
+            or_error!(tokenizer.enter(block_name(byte)));
+            or_error!(tokenizer.enter(fence_name(byte)));
+            or_error!(tokenizer.enter(sequence_name(byte)));
+            State::Retry(StateName::RawFlow(RawState::SequenceOpen))
+        }
+        _ => {
+            tokenizer.scratch = cleared(tokenizer.scratch);
+            State::Nok
+        }
+    }
+}
+
+/// Goes on behind a part of a fence: behind whitespace, if some stands here.
+fn go_on(tokenizer: &mut Tokenizer, behind: RawState) -> State
+    ensures to { result ≢ State.Error →
+        result ≡ (behind_part (world tokenizer.old) behind (sees_white tokenizer.old.current)).to }
+    ensures world { result ≢ State.Error →
+        world tokenizer.new ≡ (behind_part (world tokenizer.old) behind (sees_white tokenizer.old.current)).world }
+{
+    if is_space_or_tab(tokenizer.current) {
+        space_or_tab_min_max(
+            tokenizer,
+            0,
+            usize::MAX,
+            State::Next(StateName::RawFlow(behind)),
+            State::Nok,
+        )
+    } else {
+        State::Retry(StateName::RawFlow(behind))
+    }
+}
+
+/// In the opening sequence.
+///
+/// ```markdown
+/// > | ~~~js
+///     ^^^
+///   | a
+///   | ~~~
+/// ```
+pub fn sequence_open(tokenizer: &mut Tokenizer) -> State
+    requires { IsAt FenceNeeds (StateName.RawFlow RawState.SequenceOpen) (world tokenizer.old) }
+    ensures to { result ≢ State.Error → result ≡ (sequence_open_transition (world tokenizer.old)).to }
+    ensures world { result ≢ State.Error →
+        world tokenizer.new ≡ (sequence_open_transition (world tokenizer.old)).world }
+{
+    let marker = tokenizer.scratch.marker;
+    if tokenizer.current == Some(marker) {
+        tokenizer.consume();
+        tokenizer.scratch.size += 1;
+        return State::Next(StateName::RawFlow(RawState::SequenceOpen));
+    }
+    if tokenizer.scratch.size < least_size(marker) {
+        tokenizer.scratch = cleared(tokenizer.scratch);
+        return State::Nok;
+    }
+    or_error!(tokenizer.exit(sequence_name(marker)));
+    if marker == b'$' {
+        go_on(tokenizer, RawState::MetaBefore)
+    } else {
+        go_on(tokenizer, RawState::InfoBefore)
+    }
+}
+
+/// Behind the opening sequence, before `info`, or at the end of the line: then the block is open.
+///
+/// ```markdown
+/// > | ~~~js
+///        ^ ^
+///   | a
+///   | ~~~
+/// ```
+pub fn info_before(tokenizer: &mut Tokenizer) -> State
+    requires { IsAt FenceNeeds (StateName.RawFlow RawState.InfoBefore) (world tokenizer.old) }
+    ensures to { result ≢ State.Error → result ≡ (info_before_transition (world tokenizer.old)).to }
+    ensures world { result ≢ State.Error →
+        world tokenizer.new ≡ (info_before_transition (world tokenizer.old)).world }
+{
+    match tokenizer.current {
+        None | Some(b'\n') => {
+            let Scratch {
+                marker,
+                size,
+                size_c,
+                ..
+            } = tokenizer.scratch;
+            or_error!(tokenizer.exit(fence_name(marker)));
+            or_error!(tokenizer.exit(block_name(marker)));
+            tokenizer.flags.leaf = HeldLeaf::Fence {
+                marker,
+                size,
+                indent: size_c,
+            };
+            tokenizer.scratch = cleared(tokenizer.scratch);
+            State::Ok
+        }
+        // All whitespace lies behind.
+        Some(b'\t' | b' ') => {
+            tokenizer.scratch = cleared(tokenizer.scratch);
+            State::Nok
+        }
+        Some(_) => {
+            or_error!(tokenizer.enter(Name::CodeFencedFenceInfo));
+            or_error!(tokenizer.enter_link(Name::Data, STRING_LINK));
+            State::Retry(StateName::RawFlow(RawState::Info))
+        }
+    }
+}
+
+/// In `info`.
+///
+/// ```markdown
+/// > | ~~~js
+///        ^^
+///   | a
+///   | ~~~
+/// ```
+pub fn info(tokenizer: &mut Tokenizer) -> State
+    requires { IsAt FenceNeeds (StateName.RawFlow RawState.Info) (world tokenizer.old) }
+    ensures to { result ≢ State.Error → result ≡ (info_transition (world tokenizer.old)).to }
+    ensures world { result ≢ State.Error → world tokenizer.new ≡ (info_transition (world tokenizer.old)).world }
+{
+    match tokenizer.current {
+        None | Some(b'\t' | b'\n' | b' ') => {
+            or_error!(tokenizer.exit(Name::Data));
+            or_error!(tokenizer.exit(Name::CodeFencedFenceInfo));
+            go_on(tokenizer, RawState::MetaBefore)
+        }
+        Some(byte) => {
+            if is_refused(tokenizer.scratch.marker, byte) {
+                tokenizer.scratch = cleared(tokenizer.scratch);
+                State::Nok
+            } else {
+                tokenizer.consume();
+                State::Next(StateName::RawFlow(RawState::Info))
+            }
+        }
+    }
+}
+
+/// Before `meta`, or at the end of the line.
+///
+/// ```markdown
+/// > | ~~~js eval
+///           ^
+///   | a
+///   | ~~~
+/// ```
+pub fn meta_before(tokenizer: &mut Tokenizer) -> State
+    requires { IsAt FenceNeeds (StateName.RawFlow RawState.MetaBefore) (world tokenizer.old) }
+    ensures to { result ≢ State.Error → result ≡ (meta_before_transition (world tokenizer.old)).to }
+    ensures world { result ≢ State.Error →
+        world tokenizer.new ≡ (meta_before_transition (world tokenizer.old)).world }
+{
+    match tokenizer.current {
+        None | Some(b'\n') => State::Retry(StateName::RawFlow(RawState::InfoBefore)),
+        // All whitespace lies behind.
+        Some(b'\t' | b' ') => {
+            tokenizer.scratch = cleared(tokenizer.scratch);
+            State::Nok
+        }
+        Some(_) => {
+            let name = meta_name(tokenizer.scratch.marker);
+            or_error!(tokenizer.enter(name));
+            or_error!(tokenizer.enter_link(Name::Data, STRING_LINK));
+            State::Retry(StateName::RawFlow(RawState::Meta))
+        }
+    }
+}
+
+/// In `meta`, which goes on to the end of the line.
+///
+/// ```markdown
+/// > | ~~~js eval
+///           ^^^^
+///   | a
+///   | ~~~
+/// ```
+pub fn meta(tokenizer: &mut Tokenizer) -> State
+    requires { IsAt FenceNeeds (StateName.RawFlow RawState.Meta) (world tokenizer.old) }
+    ensures to { result ≢ State.Error → result ≡ (meta_transition (world tokenizer.old)).to }
+    ensures world { result ≢ State.Error → world tokenizer.new ≡ (meta_transition (world tokenizer.old)).world }
+{
+    match tokenizer.current {
+        None | Some(b'\n') => {
+            let name = meta_name(tokenizer.scratch.marker);
+            or_error!(tokenizer.exit(Name::Data));
+            or_error!(tokenizer.exit(name));
+            State::Retry(StateName::RawFlow(RawState::InfoBefore))
+        }
+        Some(byte) => {
+            if is_refused(tokenizer.scratch.marker, byte) {
+                tokenizer.scratch = cleared(tokenizer.scratch);
+                State::Nok
+            } else {
+                tokenizer.consume();
+                State::Next(StateName::RawFlow(RawState::Meta))
+            }
+        }
+    }
+}
+
+/// Before a further line: a closing fence, which begins with whitespace or the marker, or else content. Either goes on
+/// the block of the line before.
+///
+/// ```markdown
+///   | ~~~js
+/// > | a
+///     ^
+/// > | ~~~
+///     ^
+/// ```
+pub fn at_non_lazy_break(tokenizer: &mut Tokenizer) -> State
+    requires { IsAt FenceNeeds (StateName.RawFlow RawState.AtNonLazyBreak) (world tokenizer.old) }
+    ensures to { result ≢ State.Error → result ≡ (at_non_lazy_break_transition (world tokenizer.old)).to }
+    ensures world { result ≢ State.Error →
+        world tokenizer.new ≡ (at_non_lazy_break_transition (world tokenizer.old)).world }
+{
+    let marker = held_marker(tokenizer.flags.leaf);
+    or_error!(tokenizer.enter_link(block_name(marker), FURTHER));
+    if is_space_or_tab(tokenizer.current) || tokenizer.current == Some(marker) {
+        or_error!(tokenizer.attempt(
+            State::Next(StateName::RawFlow(RawState::After)),
+            State::Next(StateName::RawFlow(RawState::ContentStart)),
+        ));
+        tokenizer.scratch.marker = marker;
+        State::Retry(StateName::RawFlow(RawState::CloseStart))
+    } else {
+        State::Retry(StateName::RawFlow(RawState::ContentStart))
+    }
+}
+
+/// Before a closing sequence and its indent.
+///
+/// ```markdown
+///   | ~~~js
+///   | a
+/// > | ~~~
+///     ^
+/// ```
+pub fn close_start(tokenizer: &mut Tokenizer) -> State
+    requires { IsAt FenceNeeds (StateName.RawFlow RawState.CloseStart) (world tokenizer.old) }
+    ensures to { result ≢ State.Error → result ≡ (close_start_transition (world tokenizer.old)).to }
+    ensures world { result ≢ State.Error →
+        world tokenizer.new ≡ (close_start_transition (world tokenizer.old)).world }
+{
+    if is_space_or_tab(tokenizer.current) {
+        let max = small_indent(tokenizer);
+        space_or_tab_min_max(
+            tokenizer,
+            0,
+            max,
+            State::Next(StateName::RawFlow(RawState::BeforeSequenceClose)),
+            State::Nok,
+        )
+    } else {
+        State::Retry(StateName::RawFlow(RawState::BeforeSequenceClose))
+    }
+}
+
+/// Behind the indent, at a closing sequence.
+///
+/// ```markdown
+///   | ~~~js
+///   | a
+/// > | ~~~
+///     ^
+/// ```
+pub fn before_sequence_close(tokenizer: &mut Tokenizer) -> State
+    requires { IsAt FenceNeeds (StateName.RawFlow RawState.BeforeSequenceClose) (world tokenizer.old) }
+    ensures to { result ≢ State.Error → result ≡ (before_sequence_close_transition (world tokenizer.old)).to }
+    ensures world { result ≢ State.Error →
+        world tokenizer.new ≡ (before_sequence_close_transition (world tokenizer.old)).world }
+{
+    let marker = tokenizer.scratch.marker;
+    if tokenizer.current == Some(marker) {
+        or_error!(tokenizer.enter(fence_name(marker)));
+        or_error!(tokenizer.enter(sequence_name(marker)));
+        State::Retry(StateName::RawFlow(RawState::SequenceClose))
+    } else {
+        tokenizer.scratch = cleared(tokenizer.scratch);
+        State::Nok
+    }
+}
+
+/// In the closing sequence, which is as long as the opening one at least.
+///
+/// ```markdown
+///   | ~~~js
+///   | a
+/// > | ~~~
+///     ^^^
+/// ```
+pub fn sequence_close(tokenizer: &mut Tokenizer) -> State
+    requires { IsAt FenceNeeds (StateName.RawFlow RawState.SequenceClose) (world tokenizer.old) }
+    ensures to { result ≢ State.Error → result ≡ (sequence_close_transition (world tokenizer.old)).to }
+    ensures world { result ≢ State.Error →
+        world tokenizer.new ≡ (sequence_close_transition (world tokenizer.old)).world }
+{
+    let Scratch { marker, size, .. } = tokenizer.scratch;
+    if tokenizer.current == Some(marker) {
+        tokenizer.consume();
+        tokenizer.scratch.size += 1;
+        return State::Next(StateName::RawFlow(RawState::SequenceClose));
+    }
+    tokenizer.scratch = cleared(tokenizer.scratch);
+    if size < held_size(tokenizer.flags.leaf) {
+        return State::Nok;
+    }
+    or_error!(tokenizer.exit(sequence_name(marker)));
+    go_on(tokenizer, RawState::SequenceCloseAfter)
+}
+
+/// Behind the closing sequence and whitespace: the line ends here.
+///
+/// ```markdown
+///   | ~~~js
+///   | a
+/// > | ~~~
+///        ^
+/// ```
+pub fn sequence_close_after(tokenizer: &mut Tokenizer) -> State
+    requires { IsAt FenceNeeds (StateName.RawFlow RawState.SequenceCloseAfter) (world tokenizer.old) }
+    ensures to { result ≢ State.Error → result ≡ (sequence_close_after_transition (world tokenizer.old)).to }
+    ensures world { result ≢ State.Error →
+        world tokenizer.new ≡ (sequence_close_after_transition (world tokenizer.old)).world }
+{
+    match tokenizer.current {
+        None | Some(b'\n') => {
+            let name = fence_name(held_marker(tokenizer.flags.leaf));
+            or_error!(tokenizer.exit(name));
+            State::Ok
+        }
+        _ => State::Nok,
+    }
+}
+
+/// Before a line that is no closing fence: as many columns of whitespace as stood in front of the opening sequence do
+/// not belong to it.
+///
+/// ```markdown
+///   | ~~~js
+/// > | a
+///     ^
+///   | ~~~
+/// ```
+pub fn content_start(tokenizer: &mut Tokenizer) -> State
+    requires { IsAt FenceNeeds (StateName.RawFlow RawState.ContentStart) (world tokenizer.old) }
+    ensures to { result ≢ State.Error → result ≡ (content_start_transition (world tokenizer.old)).to }
+    ensures world { result ≢ State.Error →
+        world tokenizer.new ≡ (content_start_transition (world tokenizer.old)).world }
+{
+    let max = held_indent(tokenizer.flags.leaf);
+    if max > 0 && is_space_or_tab(tokenizer.current) {
+        space_or_tab_min_max(
+            tokenizer,
+            0,
+            max,
+            State::Next(StateName::RawFlow(RawState::BeforeContentChunk)),
+            State::Nok,
+        )
+    } else {
+        State::Retry(StateName::RawFlow(RawState::BeforeContentChunk))
+    }
+}
+
+/// Before what is left of a line, or at its end, where the line is done.
+///
+/// ```markdown
+///   | ~~~js
+/// > | a
+///     ^^
+///   | ~~~
+/// ```
+pub fn before_content_chunk(tokenizer: &mut Tokenizer) -> State
+    requires { IsAt FenceNeeds (StateName.RawFlow RawState.BeforeContentChunk) (world tokenizer.old) }
+    ensures to { result ≢ State.Error → result ≡ (before_content_chunk_transition (world tokenizer.old)).to }
+    ensures world { result ≢ State.Error →
+        world tokenizer.new ≡ (before_content_chunk_transition (world tokenizer.old)).world }
+{
+    match tokenizer.current {
+        None | Some(b'\n') => {
+            let name = block_name(held_marker(tokenizer.flags.leaf));
+            or_error!(tokenizer.exit(name));
+            State::Ok
+        }
+        Some(_) => {
+            let name = chunk_name(held_marker(tokenizer.flags.leaf));
+            or_error!(tokenizer.enter(name));
+            State::Retry(StateName::RawFlow(RawState::ContentChunk))
+        }
+    }
+}
+
+/// In a line.
+///
+/// ```markdown
+///   | ~~~js
+/// > | a
+///     ^
+///   | ~~~
+/// ```
+pub fn content_chunk(tokenizer: &mut Tokenizer) -> State
+    requires { IsAt FenceNeeds (StateName.RawFlow RawState.ContentChunk) (world tokenizer.old) }
+    ensures to { result ≢ State.Error → result ≡ (content_chunk_transition (world tokenizer.old)).to }
+    ensures world { result ≢ State.Error →
+        world tokenizer.new ≡ (content_chunk_transition (world tokenizer.old)).world }
+{
+    match tokenizer.current {
+        None | Some(b'\n') => {
+            let name = chunk_name(held_marker(tokenizer.flags.leaf));
+            or_error!(tokenizer.exit(name));
+            State::Retry(StateName::RawFlow(RawState::BeforeContentChunk))
+        }
+        Some(_) => {
+            tokenizer.consume();
+            State::Next(StateName::RawFlow(RawState::ContentChunk))
+        }
+    }
+}
+
+/// Behind a closing fence: the block ends.
+///
+/// ```markdown
+///   | ~~~js
+///   | a
+/// > | ~~~
+///        ^
+/// ```
+pub fn after(tokenizer: &mut Tokenizer) -> State
+    requires { IsAt FenceNeeds (StateName.RawFlow RawState.After) (world tokenizer.old) }
+    ensures to { result ≢ State.Error → result ≡ (after_transition (world tokenizer.old)).to }
+    ensures world { result ≢ State.Error → world tokenizer.new ≡ (after_transition (world tokenizer.old)).world }
+{
+    let name = block_name(held_marker(tokenizer.flags.leaf));
+    or_error!(tokenizer.exit(name));
+    tokenizer.flags.leaf = HeldLeaf::None;
+    State::Ok
+}
+
+/// What a state of fenced code or math only takes and counts.
+pub fn takes_at_once(state: RawState) -> Option<Stay>
+    ensures { IfSome result (λ stay. TakesEach stay (StateName.RawFlow state) (fence_transition state)) }
+{
+    match state {
+        RawState::SequenceOpen | RawState::SequenceClose => Some(Stay::Markers),
+        RawState::ContentChunk => Some(Stay::Line),
+        _ => None,
+    }
+}
+
+/// Calls a state of fenced code or math.
+pub fn call(tokenizer: &mut Tokenizer, state: RawState) -> State
+    requires { IsAt FenceNeeds (StateName.RawFlow state) (world tokenizer.old) }
+    ensures to { result ≢ State.Error → result ≡ (fence_transition state (world tokenizer.old)).to }
+    ensures world { result ≢ State.Error → world tokenizer.new ≡ (fence_transition state (world tokenizer.old)).world }
+{
+    match state {
+        RawState::Start => start(tokenizer),
+        RawState::BeforeSequenceOpen => before_sequence_open(tokenizer),
+        RawState::SequenceOpen => sequence_open(tokenizer),
+        RawState::InfoBefore => info_before(tokenizer),
+        RawState::Info => info(tokenizer),
+        RawState::MetaBefore => meta_before(tokenizer),
+        RawState::Meta => meta(tokenizer),
+        RawState::AtNonLazyBreak => at_non_lazy_break(tokenizer),
+        RawState::CloseStart => close_start(tokenizer),
+        RawState::BeforeSequenceClose => before_sequence_close(tokenizer),
+        RawState::SequenceClose => sequence_close(tokenizer),
+        RawState::SequenceCloseAfter => sequence_close_after(tokenizer),
+        RawState::ContentStart => content_start(tokenizer),
+        RawState::BeforeContentChunk => before_content_chunk(tokenizer),
+        RawState::ContentChunk => content_chunk(tokenizer),
+        RawState::After => after(tokenizer),
+        // A fence is read line by line, and no state takes a line ending.
+        RawState::ContentBefore => State::Nok,
+    }
+}

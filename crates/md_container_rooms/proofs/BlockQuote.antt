@@ -1,0 +1,12 @@
+-- Block quotes.
+pub mod Cells
+pub mod Collected
+pub mod Facts
+pub mod Fronts
+pub mod Grammar
+pub mod Laws
+pub mod Parted
+pub mod Pieces
+pub mod Registers
+pub mod Tree
+pub mod Trial

@@ -1,0 +1,14 @@
+-- Footnote definitions.
+pub mod Cells
+pub mod Definition
+pub mod Facts
+pub mod Fronts
+pub mod Grammar
+pub mod Laws
+pub mod Names
+pub mod Parts
+pub mod Pieces
+pub mod Prefix
+pub mod Read
+pub mod Registers
+pub mod Trial

@@ -1,0 +1,3 @@
+pub mod BlockQuote
+pub mod GfmFootnoteDefinition
+pub mod ListItem

@@ -1,0 +1,14 @@
+-- List items.
+pub mod Cells
+pub mod Collected
+pub mod Facts
+pub mod Fronts
+pub mod Grammar
+pub mod Laws
+pub mod Names
+pub mod Parted
+pub mod Pieces
+pub mod Prefix
+pub mod Read
+pub mod Registers
+pub mod Trial

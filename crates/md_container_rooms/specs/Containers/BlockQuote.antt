@@ -1,0 +1,59 @@
+-- Block quotes (CommonMark 5.1), as containers of a line.
+use Rattle.std.specs.Prelude.{◌≡◌, ◌∷◌, ◌&&◌, false, if◌then◌else◌, List, Some, None}
+use Rattle.md_engine.specs.declared.configuration.ParseOptions.{ParseOptions}
+use Rattle.md_engine.specs.declared.event.Name.TheVariants as n
+use Rattle.md_engine.specs.declared.event.Point.{Point}
+use Rattle.md_engine.specs.declared.state.Name.TheVariants as s
+use Rattle.md_engine.specs.declared.state.block_quote.State.TheVariants as its
+use Rattle.md_engine.specs.declared.state.document.State.TheVariants as document
+use Rattle.md_engine.specs.declared.tokenizer.container.name.ContainerKind.TheVariants as kind
+use Rattle.md_engine.specs.Meaning.{Cell}
+use Rattle.md_engine.specs.World.{container_of}
+use Rattle.md_containers.specs.QuotePrefix.{IsPlainPrefix, prefixed}
+use Rattle.md_containers.specs.Quote.{may_begin}
+use Rattle.md_containers.specs.QuoteRule.{prefix_at, prefix_end, prefix_events, prefix_rest, quote_at, takes_prefix}
+use Rattle.md_seam.specs.Events.Nested.{enter}
+use Rattle.md_meaning.specs.Containers.{opens_quote}
+use Rattle.md_meaning.specs.State.{InQuote}
+use Rattle.md_frame.specs.ContainerRules.{ContainerRules}
+use Rattle.md_frame.specs.Passed.{Passed}
+
+-- a quote that goes on
+abbrev pub quote_on : ParseOptions → List Cell → Point → Passed
+quote_on options cells p = record {
+  container = InQuote;
+  held = container_of kind.BlockQuote;
+  events = prefix_events options cells p;
+  cells = prefix_rest options cells;
+  point = prefix_end options cells p;
+}
+
+-- one that opens
+abbrev pub quote_new : ParseOptions → List Cell → Point → Passed
+quote_new options cells p = record {
+  container = InQuote;
+  held = container_of kind.BlockQuote;
+  events = enter n.BlockQuote p ∷ prefix_events options cells p;
+  cells = prefix_rest options cells;
+  point = prefix_end options cells p;
+}
+
+-- its kind tells all of it, and no more is held
+abbrev pub quote_rules : ContainerRules
+quote_rules = record {
+  before = document.ContainerNewBefore;
+  start = s.BlockQuote its.Start;
+  begins = λ options cells h. quote_at options cells h;
+  further = s.BlockQuote its.ContStart;
+  continues = λ options cells h. prefix_at options cells h;
+  may_open = may_begin;
+  may_go_on = may_begin;
+  plain = λ held w. IsPlainPrefix w;
+  taken = λ held w. prefixed w;
+  opens = λ options interrupting cells p.
+      if options.constructs.block_quote && takes_prefix options cells then Some (quote_new options cells p) else None;
+  goes = λ options c cells p. if takes_prefix options cells then Some (quote_on options cells p) else None;
+  found = λ options interrupting r. opens_quote options r;
+  over_empty = λ held. false;
+  holds = λ held c. held ≡ container_of kind.BlockQuote;
+}

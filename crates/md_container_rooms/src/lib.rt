@@ -1,0 +1,2 @@
+// The rooms of containers: quotes, items and footnote definitions.
+#![tactic(auto)]

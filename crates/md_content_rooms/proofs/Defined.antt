@@ -1,0 +1,16 @@
+pub mod Along
+pub mod Facts
+pub mod Form
+pub mod Gaps
+pub mod Is
+pub mod Known
+pub mod Lay
+pub mod Marked
+pub mod Names
+pub mod Parts
+pub mod Placed
+pub mod Runs
+pub mod Strands
+pub mod Strings
+pub mod Takes
+pub mod Targets

@@ -1,0 +1,1 @@
+-- The lines of a definition: their breaks, their cells, and its events in their places.

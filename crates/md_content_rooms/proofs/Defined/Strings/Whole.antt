@@ -1,0 +1,235 @@
+-- All that is asked of the texts of a definition.
+use Rattle.std.proofs.Common.{◌≡◌, ◌≢◌, ℕ, true, List, [], ◌∷◌, ◌++◌, ◌||◌, refl, ap, sym, ◌∙◌, subst}
+use Rattle.std.specs.Prelude.{◌==◌, not, Option, Some, option_map}
+use Rattle.std.proofs.lemmas.Bool.{and_from, or_right}
+use Rattle.md_engine.specs.declared.event.Event.{Event}
+use Rattle.md_engine.specs.declared.event.Name.{Name}
+use Rattle.md_engine.specs.declared.event.Name.TheVariants as n
+use Rattle.md_engine.specs.declared.event.Point.{Point}
+use Rattle.md_containers.specs.ItemsStand.{IsPart}
+use Rattle.md_outline.specs.Between.{is_between}
+use Rattle.md_outline.specs.Roles.{is_told, is_unlisted}
+use Rattle.md_link_definitions.specs.Chunks.{string_link}
+use Rattle.md_seam.specs.declared.inline.Chunk.{Chunk}
+use Rattle.md_seam.specs.declared.inline.PartKind.TheVariants.{String}
+use Rattle.md_seam.specs.Events.Endings.{on_line}
+use Rattle.md_seam.specs.Events.Grammar.{Expression, plain_text, unread_text}
+use Rattle.md_seam.specs.Events.Inline.{plain_chunk}
+use Rattle.md_seam.specs.Events.Nested.{around, enter, enter_link, exit}
+use Rattle.md_seam.specs.Events.Spelled.{AsDestination, AsLabel, AsTitle, DefinitionLeaf, DefinitionSoFar, OpenLeaf}
+use Rattle.md_seam.specs.Events.Spelled.{Purpose, Text, begun, byte_at, noted, role, text_to}
+use Rattle.md_seam.specs.Events.Spelled.{first_told, with_title}
+use Rattle.md_seam.proofs.BlocksLemmas.{read-told}
+use Rattle.md_seam.proofs.EndingsLemmas.{AreOthers, Stays, is_other, stays-append, stays-others}
+use Rattle.md_seam.proofs.GrammarLemmas.{IsWord, leads-around}
+use Rattle.md_seam.proofs.InlineLemmas.{plain-fills}
+use Rattle.md_seam.proofs.SpelledLemmas.{Between, Roles, roles-append, text_after}
+use Rattle.md_frame.proofs.BetweenFacts.{around-between}
+use Rattle.md_content_rooms.proofs.Defined.Form.{IsRun, IsStrand, LastLine, Strand, strand_chunks, strand_done}
+use Rattle.md_content_rooms.proofs.Defined.Form.{strand_lines, strand_unread}
+use Rattle.md_content_rooms.proofs.Defined.Strings.Facts.{FurtherFilled, IsString, MayBeParted, StringFacts, label_told}
+use Rattle.md_content_rooms.proofs.Defined.Strings.Facts.{target_told, title_told}
+use Rattle.md_content_rooms.proofs.Defined.Strings.Lines.{AreLines, Last, More, NoneLeft, strand-lines}
+use Rattle.md_content_rooms.proofs.Defined.Strings.Parted.{line-sits, strand-sits}
+use Rattle.md_content_rooms.proofs.Defined.Strings.Parts.{strand-begins, strand-filled, strand-inside, strand-one}
+use Rattle.md_content_rooms.proofs.Defined.Strings.Parts.{strand-order}
+use Rattle.md_content_rooms.proofs.Defined.Strings.Places.{HasLine, done-between, done-nested, done-starts, done-stood}
+use Rattle.md_content_rooms.proofs.Defined.Strings.Places.{strand-some, unread-nested, unread-starts, unread-stood}
+use Rattle.md_content_rooms.proofs.Defined.Strings.Places.{unread-tiled}
+use Rattle.md_content_rooms.proofs.Defined.Strings.Reads.{told-line, told-lines}
+use Rattle.md_content_rooms.proofs.Defined.Strings.Words.{done-stays, done-texts, done-word, unread-stays, unread-texts}
+use Rattle.md_content_rooms.proofs.Defined.Strings.Words.{unread-word}
+use Rattle.md_frame.proofs.FillFacts.{fill-part}
+use Rattle.md_frame.proofs.FrontStands.{plain-front}
+use Rattle.md_frame.proofs.LeafStands.{between-parts}
+use Rattle.md_frame.proofs.PartedFacts.{PrefixesAtLineStart, clear}
+use Rattle.md_frame.proofs.PartsStand.{stands-part}
+use Rattle.md_frame.proofs.PieceFacts.{stood-around}
+use Rattle.md_frame.proofs.PiecesLemmas.{tiled-around}
+use Rattle.md_frame.proofs.PlainFacts.{ArePlain, chunk-plain, known-around, plain-append, plain-nil}
+use Rattle.md_frame.proofs.LeafLines.Inside.{ReadsLeaf}
+use Rattle.md_frame.proofs.SpanLemmas.{around-nested}
+
+-- nothing in them is told
+done-plain : (bytes : List ℕ) (p q : Point) (s : Strand) → AreLines bytes p q s → ArePlain bytes (strand_done bytes s)
+done-plain bytes q _ _ (NoneLeft _ whole) = plain-nil bytes
+done-plain bytes p q _ (Last _ _ text some run) = chunk-plain bytes (record { first = p; after = q })
+done-plain bytes p q _ (More _ e b r _ text front s run break more) =
+    let chunk : Chunk = record { first = p; after = b } in
+    plain-append bytes (plain_chunk bytes chunk ++ front) (strand_done bytes s)
+    (plain-append bytes (plain_chunk bytes chunk) front (chunk-plain bytes chunk)
+    (plain-front bytes [] b r front break.front_is))
+    (done-plain bytes r q s more)
+
+-- it ends in no tab
+end-whole : (bytes : List ℕ) (p q : Point) (s : Strand) → AreLines bytes p q s → q.vs ≡ 0
+end-whole bytes q _ _ (NoneLeft _ whole) = whole
+end-whole bytes p q _ (Last _ _ text some run) = run.whole
+end-whole bytes p q _ (More _ e b r _ text front s run break more) = end-whole bytes r q s more
+
+whole-clear : (bytes : List ℕ) (p : Point) → p.vs ≡ 0 → clear bytes p ≡ true
+whole-clear bytes p e = ap (λ (v : ℕ). (v == 0) || is_between bytes (byte_at p)) e
+
+-- Around them.
+
+string-stays : (name : Name) (purpose : Purpose) (p q : Point) (es : List Event) → IsString name purpose → Stays es →
+    Stays (around name p q es)
+string-stays name purpose p q es named h =
+    let begin : AreOthers (enter name p ∷ []) = and_from (is_other (on_line name)) true named.other refl in
+    let end : AreOthers (exit name q ∷ []) = and_from (is_other (on_line name)) true named.other refl in
+    stays-append (enter name p ∷ []) (es ++ exit name q ∷ []) (stays-others (enter name p ∷ []) begin)
+    (stays-append es (exit name q ∷ []) h (stays-others (exit name q ∷ []) end))
+
+string-roles : (name : Name) (purpose : Purpose) (p q : Point) (es : List Event) → IsString name purpose →
+    Roles Between es → Roles IsPart (around name p q es)
+string-roles name purpose p q es named h =
+    (named.part, roles-append IsPart es (exit name q ∷ []) (between-parts es h) (named.part, tt))
+
+-- all of it, where it may be parted and is read
+string-facts : (bytes : List ℕ) (name : Name) (purpose : Purpose) (p q : Point)
+    (tells : DefinitionSoFar → DefinitionSoFar) (s : Strand) → IsString name purpose → p.vs ≡ 0 → HasLine s →
+    AreLines bytes p q s → (MayBeParted purpose → PrefixesAtLineStart bytes (around name p q (strand_done bytes s))) →
+    ((d : DefinitionSoFar) →
+    ReadsLeaf bytes (DefinitionLeaf d) (DefinitionLeaf (tells d)) (around name p q (strand_done bytes s))) →
+    StringFacts bytes name purpose p q tells (strand_unread s) (strand_done bytes s)
+string-facts bytes name purpose p q tells s named whole has lines parted reads = record {
+  unread_nested = around-nested name p q unread (unread-nested bytes p q s lines);
+  nested = around-nested name p q done (done-nested bytes p q s lines);
+  tiled = tiled-around name p q unread (unread-tiled bytes p q s lines);
+  unread_stood = stood-around bytes name p q unread (unread-starts s has) (unread-stood bytes p q s lines);
+  stood = stood-around bytes name p q done (done-starts bytes p q s has lines) (done-stood bytes p q s lines);
+  unread_word =
+      λ x. leads-around unread_text x name p q unread
+      (subst (λ (y : Expression). IsWord unread_text (y ∷ []) unread) (sym (named.inside_is unread_text))
+      (unread-word bytes p q s has lines));
+  word =
+      λ x. leads-around plain_text x name p q done
+      (subst (λ (y : Expression). IsWord plain_text (y ∷ []) done) (sym (named.inside_is plain_text))
+      (done-word bytes true p q s lines));
+  unread_stays = string-stays name purpose p q unread named (unread-stays bytes p q s lines);
+  stays = string-stays name purpose p q done named (done-stays bytes p q s lines);
+  unread_roles = string-roles name purpose p q unread named (unread-texts bytes p q s lines);
+  roles = string-roles name purpose p q done named (done-texts bytes p q s lines);
+  texts = done-texts bytes p q s lines;
+  parts =
+      stands-part bytes name String p q chunks unread named.kind (strand-inside bytes p q s lines)
+      (strand-begins bytes p q s has lines) (strand-one bytes p q s lines);
+  filled =
+      fill-part bytes name String p q chunks unread done named.kind (strand-inside bytes p q s lines)
+      (plain-fills bytes p chunks (strand-order bytes p q s lines)) (strand-filled bytes p q s lines);
+  between = λ begin end. around-between bytes name p q done begin end (done-between bytes p q s lines begin end);
+  parted = parted;
+  known = λ unlisted.
+      known-around bytes name p q done (ap is_unlisted named.tells ∙ unlisted)
+      (or_right (not (is_told (role name))) (clear bytes p) (whole-clear bytes p whole))
+      (or_right (not (is_told (role name))) (clear bytes q)
+      (whole-clear bytes q (end-whole bytes p q s lines)))
+      (done-plain bytes p q s lines).known;
+  reads = reads;
+}
+  where
+    unread : List Event
+    unread = strand_unread s
+
+    done : List Event
+    done = strand_done bytes s
+
+    chunks : List Chunk
+    chunks = strand_chunks s
+
+-- A label.
+
+label-name : IsString n.DefinitionLabelString AsLabel
+label-name = record { tells = refl; kind = refl; inside_is = λ text. refl; other = refl; part = tt }
+
+label-reads : (bytes : List ℕ) (p q : Point) (s : Strand) (d : DefinitionSoFar) → p.vs ≡ 0 → FurtherFilled s →
+    AreLines bytes p q s →
+    ReadsLeaf bytes (DefinitionLeaf d) (DefinitionLeaf (label_told (strand_lines s) d))
+    (around n.DefinitionLabelString p q (strand_done bytes s))
+label-reads bytes p q s d whole filled lines r none opened =
+    let text : Text = text_after bytes (begun p) (strand_done bytes s) in
+    read-told bytes r n.DefinitionLabelString AsLabel p q (strand_done bytes s) refl none
+    (done-texts bytes p q s lines)
+    ∙ ap
+    (λ (o : Option OpenLeaf).
+    record r {
+      leaf = option_map (noted AsLabel (record { spaces = text.spaces; text = text_to bytes q.index text })) o;
+    }) opened
+    ∙ ap
+    (λ (l : List (List ℕ)).
+    record r { leaf = Some (DefinitionLeaf (record d { label = first_told d.label l })) })
+    (told-lines bytes p q s whole filled lines)
+
+-- All that is asked of the text of a label.
+pub label-facts : (bytes : List ℕ) (p q : Point) (s : Strand) → p.vs ≡ 0 → IsStrand bytes p q s → FurtherFilled s →
+    StringFacts bytes n.DefinitionLabelString AsLabel p q (label_told (strand_lines s)) (strand_unread s)
+    (strand_done bytes s)
+label-facts bytes p q s whole is filled =
+    let lines : AreLines bytes p q s = strand-lines bytes p q s is in
+    string-facts bytes n.DefinitionLabelString AsLabel p q (label_told (strand_lines s)) s label-name whole
+    (strand-some bytes p q s is) lines
+    (λ may. strand-sits bytes n.DefinitionLabelString AsLabel p q s refl may filled lines)
+    (λ d. label-reads bytes p q s d whole filled lines)
+
+-- A title.
+
+title-name : IsString n.DefinitionTitleString AsTitle
+title-name = record { tells = refl; kind = refl; inside_is = λ text. refl; other = refl; part = tt }
+
+title-reads : (bytes : List ℕ) (p q : Point) (s : Strand) (d : DefinitionSoFar) → p.vs ≡ 0 → FurtherFilled s →
+    AreLines bytes p q s →
+    ReadsLeaf bytes (DefinitionLeaf d) (DefinitionLeaf (title_told (strand_lines s) d))
+    (around n.DefinitionTitleString p q (strand_done bytes s))
+title-reads bytes p q s d whole filled lines r none opened =
+    let text : Text = text_after bytes (begun p) (strand_done bytes s) in
+    read-told bytes r n.DefinitionTitleString AsTitle p q (strand_done bytes s) refl none
+    (done-texts bytes p q s lines)
+    ∙ ap
+    (λ (o : Option OpenLeaf).
+    record r {
+      leaf = option_map (noted AsTitle (record { spaces = text.spaces; text = text_to bytes q.index text })) o;
+    }) opened
+    ∙ ap (λ (l : List (List ℕ)). record r { leaf = Some (DefinitionLeaf (with_title l d)) })
+    (told-lines bytes p q s whole filled lines)
+
+pub title-facts : (bytes : List ℕ) (p q : Point) (s : Strand) → p.vs ≡ 0 → IsStrand bytes p q s → FurtherFilled s →
+    StringFacts bytes n.DefinitionTitleString AsTitle p q (title_told (strand_lines s)) (strand_unread s)
+    (strand_done bytes s)
+title-facts bytes p q s whole is filled =
+    let lines : AreLines bytes p q s = strand-lines bytes p q s is in
+    string-facts bytes n.DefinitionTitleString AsTitle p q (title_told (strand_lines s)) s title-name whole
+    (strand-some bytes p q s is) lines
+    (λ may. strand-sits bytes n.DefinitionTitleString AsTitle p q s refl may filled lines)
+    (λ d. title-reads bytes p q s d whole filled lines)
+
+-- A destination, which is on one line.
+
+target-name : IsString n.DefinitionDestinationString AsDestination
+target-name = record { tells = refl; kind = refl; inside_is = λ text. refl; other = refl; part = tt }
+
+target-reads : (bytes text : List ℕ) (p q : Point) (d : DefinitionSoFar) → p.vs ≡ 0 → text ≢ [] →
+    IsRun bytes text p q →
+    ReadsLeaf bytes (DefinitionLeaf d) (DefinitionLeaf (target_told text d))
+    (around n.DefinitionDestinationString p q (plain_chunk bytes (record { first = p; after = q })))
+target-reads bytes text p q d whole some run r none opened =
+    let chunk : List Event = plain_chunk bytes (record { first = p; after = q }) in
+    let read_text : Text = text_after bytes (begun p) chunk in
+    read-told bytes r n.DefinitionDestinationString AsDestination p q chunk refl none
+    (done-texts bytes p q (LastLine p q text) (Last p q text some run))
+    ∙ ap
+    (λ (o : Option OpenLeaf).
+    record r {
+      leaf = option_map
+          (noted AsDestination (record { spaces = read_text.spaces; text = text_to bytes q.index read_text })) o;
+    }) opened
+    ∙ ap (λ (l : List ℕ). record r { leaf = Some (DefinitionLeaf (target_told l d)) })
+    (told-line bytes text p q whole run)
+
+pub target-facts : (bytes : List ℕ) (p q : Point) (text : List ℕ) → p.vs ≡ 0 → text ≢ [] → IsRun bytes text p q →
+    StringFacts bytes n.DefinitionDestinationString AsDestination p q (target_told text)
+    (enter_link n.Data p string_link ∷ exit n.Data q ∷ []) (plain_chunk bytes (record { first = p; after = q }))
+target-facts bytes p q text whole some run =
+    string-facts bytes n.DefinitionDestinationString AsDestination p q (target_told text) (LastLine p q text)
+    target-name whole tt (Last p q text some run)
+    (λ may. line-sits bytes n.DefinitionDestinationString AsDestination p q refl)
+    (λ d. target-reads bytes text p q d whole some run)

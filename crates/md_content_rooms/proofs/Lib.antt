@@ -1,0 +1,4 @@
+pub mod Defined
+pub mod Labels
+pub mod Paragraph
+pub mod Text

@@ -1,0 +1,2 @@
+// The rooms of content: definitions, labels, paragraphs.
+#![tactic(auto)]

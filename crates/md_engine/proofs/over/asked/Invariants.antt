@@ -1,9 +1,0 @@
-use Rattle.std.proofs.Common.{◌-◌, ◌≤◌}
-use Rattle.md_engine.specs.Over.{AreOver}
-use Rattle.md_engine.proofs.over.asked.Given as goal
-
-abbrev pub invariant-loop-to : goal.invariant-loop-to
-invariant-loop-to l = record { behind : l.from ≤ l.to; within : l.to ≤ l.until; each : AreOver l.containers l.from l.to }
-
-abbrev pub decreases-loop-to : goal.decreases-loop-to
-decreases-loop-to l = l.until - l.to

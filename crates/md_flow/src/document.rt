@@ -1,0 +1,572 @@
+// The document: what stands in front of its lines, and the containers of each.
+//
+//     document ::= [ byte_order_mark ] [ frontmatter line_ending ] line *( line_ending line )
+//     line     ::= *prefix *container flow
+//
+// Its table takes the mark and the frontmatter, if they stand there. The lines that follow are read by the table of
+// flow, which has the states of containers too. On each line the containers that are open are asked from the outermost
+// in whether they go on, then others may open, and flow reads the rest of the line. Only then is it known whether the
+// line goes on the open paragraph, so that all containers stay open although not all went on (CommonMark 5.1,
+// "laziness"). Else those that did not go on end: their ends are put where the line before ended, in front of its
+// ending. Where nothing is left of a line no container is asked, and none opens: what is held of each tells whether it
+// goes on there.
+
+ghost use Rattle.std.specs.Prelude.{◌≡◌, ◌≢◌, true};
+ghost use Rattle.md_engine.specs.Going.{SeesOn};
+ghost use Rattle.md_engine.specs.Run.{RunsHere};
+ghost use Rattle.md_engine.specs.Scheme.{stands};
+ghost use Rattle.md_engine.specs.World.{looks, world};
+ghost use Rattle.md_engine.specs.declared.state.Name.{Name as StateName};
+ghost use Rattle.md_engine.specs.declared.state.State.{State};
+ghost use Rattle.md_engine.specs.declared.state.document.State.{State as DocumentState};
+ghost use Rattle.md_registry.specs.Flow.{containers_after_transition, existing_after_transition};
+ghost use Rattle.md_registry.specs.Flow.{behind_all, existing_before_transition, flow_end_transition};
+ghost use Rattle.md_registry.specs.Flow.{inside_transition, new_after_transition};
+ghost use Rattle.md_registry.specs.Flow.{new_before_transition};
+ghost use Rattle.md_frame.specs.EndingName.{ending_name};
+ghost use Rattle.md_registry.specs.LineFlags.{asking, begun_line, ended_on, next_container, kept_containers};
+ghost use Rattle.md_registry.specs.AtOnce.{GoesAtOnce, asking_next, openers_passed};
+ghost use Rattle.md_containers.specs.PlainBullet.{IsPlainBullet};
+ghost use Rattle.md_registry.specs.Registry.{opener_front, openers, bars_containers};
+ghost use Rattle.md_registry.specs.States.{FlowStep};
+ghost use Rattle.md_engine.specs.declared.resolve.name.Name.{Name as ResolveName};
+ghost use Rattle.md_frame.specs.HeldLeaf.{lazy_of, takes_lazy};
+ghost use Rattle.md_registry.specs.Document.{before_frontmatter_transition, document_own_transition};
+ghost use Rattle.md_registry.specs.Document.{document_table_scheme, document_transition, start_transition};
+ghost use Rattle.md_seam.specs.Transition.{IsAt, NeedsNothing};
+ghost use Rattle.md_registry.specs.Flow.{opener_transition};
+ghost use Rattle.md_registry.specs.Registry.{opener_at};
+
+use crate::resolve;
+use md_containers::frontmatter;
+use md_engine::event::Name;
+use md_engine::message::Message;
+use md_engine::or_error;
+use md_engine::resolve::Name as ResolveName;
+use md_engine::state::bom::State as BomState;
+use md_engine::state::document::State as DocumentState;
+use md_engine::state::flow::State as FlowState;
+use md_engine::state::frontmatter::State as FrontState;
+use md_engine::state::{Name as StateName, State};
+use md_engine::stay::Stay;
+use md_engine::subtokenize::Subresult;
+use md_engine::table::Table;
+use md_engine::tokenizer::{Container, ContainerKind, Flags, HeldLeaf, Tokenizer};
+use md_leaves::blank_line::ends_line;
+use md_leaves::partial_bom;
+use md_registry::choices;
+use md_seam::space_or_tab;
+
+/// At the start of the text: before a byte order mark, if there is one.
+///
+/// ```markdown
+/// > | a
+///     ^
+/// ```
+pub fn start(tokenizer: &mut Tokenizer) -> State
+    requires { IsAt NeedsNothing (StateName.Document DocumentState.Start) (world tokenizer.old) }
+    ensures to { result ≢ State.Error → result ≡ (start_transition (world tokenizer.old)).to }
+    ensures world { result ≢ State.Error → world tokenizer.new ≡ (start_transition (world tokenizer.old)).world }
+{
+    or_error!(tokenizer.attempt(
+        State::Next(StateName::Document(DocumentState::BeforeFrontmatter)),
+        State::Next(StateName::Document(DocumentState::BeforeFrontmatter))
+    ));
+    State::Retry(StateName::Bom(BomState::Start))
+}
+
+/// Behind the mark: before frontmatter, if there is some. The lines of the text begin behind it.
+///
+/// ```markdown
+/// > | ---
+///     ^
+///   | a: b
+///   | ---
+/// ```
+pub fn before_frontmatter(tokenizer: &mut Tokenizer) -> State
+    requires { IsAt NeedsNothing (StateName.Document DocumentState.BeforeFrontmatter) (world tokenizer.old) }
+    ensures to { result ≢ State.Error → result ≡ (before_frontmatter_transition (world tokenizer.old)).to }
+    ensures world { result ≢ State.Error →
+        world tokenizer.new ≡ (before_frontmatter_transition (world tokenizer.old)).world }
+{
+    or_error!(tokenizer.attempt(State::Ok, State::Ok));
+    State::Retry(StateName::Frontmatter(FrontState::Start))
+}
+
+/// The outermost container that was not asked yet whether it goes on.
+fn next_container(tokenizer: &Tokenizer) -> Option<Container>
+    ensures { result ≡ next_container (world tokenizer.now).flags }
+{
+    tokenizer.containers.get(tokenizer.flags.continued).copied()
+}
+
+/// A container is asked whether it goes on, or tried, where the tokenizer stands.
+fn ask(tokenizer: &mut Tokenizer, container: Container)
+    ensures { world tokenizer.new ≡ asking container (world tokenizer.old) }
+{
+    tokenizer.flags.asked = container;
+    tokenizer.flags.asked_column = tokenizer.point.column;
+}
+
+/// Where the line ends no container is asked: those go on that take nothing of it.
+fn pass_over(tokenizer: &mut Tokenizer)
+    ensures { world tokenizer.new ≡ record (world tokenizer.old) { flags = ended_on (world tokenizer.old).flags } }
+{
+    let continued = tokenizer.flags.continued;
+    if continued < tokenizer.containers.len() {
+        tokenizer.flags.continued = tokenizer.over_end(continued);
+    }
+}
+
+/// The state where all containers went on: none is tried where a leaf is open in which none opens.
+#[inline(always)]
+fn behind_all(tokenizer: &Tokenizer) -> DocumentState
+    ensures { result ≡ behind_all (bars_containers (world tokenizer.now).flags.leaf) }
+{
+    if choices::bars_containers(tokenizer.flags.leaf) {
+        DocumentState::ContainersAfter
+    } else {
+        choices::first_opener()
+    }
+}
+
+/// At the begin of a line, or behind the prefix of a container that went on: before the next one that is open.
+///
+/// ```markdown
+///   | > a
+/// > | > b
+///     ^
+/// ```
+#[inline(always)]
+#[tactic(auto, unfolding(md_seam::specs::Look::looks_behind))]
+pub fn container_existing_before(tokenizer: &mut Tokenizer) -> State
+    requires { IsAt NeedsNothing (StateName.Document DocumentState.ContainerExistingBefore) (world tokenizer.old) }
+    ensures to { result ≢ State.Error → result ≡ (existing_before_transition (world tokenizer.old)).to }
+    ensures world { result ≢ State.Error →
+        world tokenizer.new ≡ (existing_before_transition (world tokenizer.old)).world }
+{
+    if ends_line(tokenizer.current) {
+        pass_over(tokenizer);
+        return State::Retry(StateName::Document(DocumentState::ContainersAfter));
+    }
+    match next_container(tokenizer) {
+        None => State::Retry(StateName::Document(behind_all(tokenizer))),
+        Some(container) => {
+            ask(tokenizer, container);
+            if !choices::may_go_on(tokenizer, container.kind) {
+                return State::Retry(StateName::Document(choices::first_opener()));
+            }
+            or_error!(tokenizer.attempt(
+                State::Next(StateName::Document(DocumentState::ContainerExistingAfter)),
+                State::Next(StateName::Document(choices::first_opener()))
+            ));
+            State::Retry(choices::goes_on_with(container.kind))
+        }
+    }
+}
+
+/// Whether the next container goes on, with a prefix that can be taken at once.
+fn goes_on_at_once(tokenizer: &mut Tokenizer) -> bool
+    ensures goes { result ≡ true → GoesAtOnce (world tokenizer.old) }
+    ensures same { world tokenizer.new ≡ world tokenizer.old }
+{
+    match next_container(tokenizer) {
+        None => false,
+        Some(container) => choices::has_plain_prefix(container, tokenizer),
+    }
+}
+
+/// The next container is asked, if there is one.
+fn ask_next(tokenizer: &mut Tokenizer)
+    ensures { world tokenizer.new ≡ asking_next (world tokenizer.old) }
+{
+    match next_container(tokenizer) {
+        None => {}
+        Some(container) => ask(tokenizer, container),
+    }
+}
+
+/// At the same place: goes at once over prefixes of containers that go on, as the states do one after another.
+#[inline(always)]
+pub fn containers_existing(tokenizer: &mut Tokenizer) -> State
+    requires { IsAt NeedsNothing (StateName.Document DocumentState.ContainerExistingBefore) (world tokenizer.old) }
+    ensures runs { result ≢ State.Error →
+        RunsHere FlowStep
+        (StateName.Document DocumentState.ContainerExistingBefore) (world tokenizer.old) result (world tokenizer.new) }
+    ensures sees { result ≢ State.Error → SeesOn result (world tokenizer.old) (world tokenizer.new) }
+{
+    while goes_on_at_once(tokenizer) {
+        ask_next(tokenizer);
+        or_error!(choices::take_plain_prefix(tokenizer));
+        container_existing_after(tokenizer);
+    }
+    container_existing_before(tokenizer)
+}
+
+/// Behind the prefix of a container that went on.
+///
+/// ```markdown
+///   | > a
+/// > | > b
+///       ^
+/// ```
+pub fn container_existing_after(tokenizer: &mut Tokenizer) -> State
+    requires { IsAt NeedsNothing (StateName.Document DocumentState.ContainerExistingAfter) (world tokenizer.old) }
+    ensures to { result ≡ (existing_after_transition (world tokenizer.old)).to }
+    ensures world { world tokenizer.new ≡ (existing_after_transition (world tokenizer.old)).world }
+{
+    let Flags {
+        asked,
+        continued,
+        ..
+    } = tokenizer.flags;
+    if continued < tokenizer.containers.len() {
+        tokenizer.set_container(continued, asked);
+        tokenizer.flags.continued = continued + 1;
+    }
+    State::Retry(StateName::Document(DocumentState::ContainerExistingBefore))
+}
+
+/// Before a block quote that may open.
+///
+/// ```markdown
+/// > | > a
+///     ^
+/// ```
+#[inline(always)]
+pub fn container_new_before(tokenizer: &mut Tokenizer) -> State
+    requires { IsAt NeedsNothing (StateName.Document DocumentState.ContainerNewBefore) (world tokenizer.old) }
+    ensures to { result ≢ State.Error →
+        result ≡ (new_before_transition ContainerKind.BlockQuote (world tokenizer.old)).to }
+    ensures world { result ≢ State.Error →
+        world tokenizer.new ≡ (new_before_transition ContainerKind.BlockQuote (world tokenizer.old)).world }
+{
+    try_new(tokenizer, ContainerKind::BlockQuote)
+}
+
+/// Before a list item that may open.
+///
+/// ```markdown
+/// > | * a
+///     ^
+/// ```
+#[inline(always)]
+pub fn container_new_before_not_block_quote(tokenizer: &mut Tokenizer) -> State
+    requires { IsAt NeedsNothing (StateName.Document DocumentState.ContainerNewBeforeNotBlockQuote)
+        (world tokenizer.old) }
+    ensures to { result ≢ State.Error →
+        result ≡ (new_before_transition ContainerKind.ListItem (world tokenizer.old)).to }
+    ensures world { result ≢ State.Error →
+        world tokenizer.new ≡ (new_before_transition ContainerKind.ListItem (world tokenizer.old)).world }
+{
+    try_new(tokenizer, ContainerKind::ListItem)
+}
+
+/// Before a footnote definition that may open.
+///
+/// ```markdown
+/// > | [^a]: b
+///     ^
+/// ```
+#[inline(always)]
+pub fn container_new_before_not_list(tokenizer: &mut Tokenizer) -> State
+    requires { IsAt NeedsNothing (StateName.Document DocumentState.ContainerNewBeforeNotList) (world tokenizer.old) }
+    ensures to { result ≢ State.Error →
+        result ≡ (new_before_transition ContainerKind.GfmFootnoteDefinition (world tokenizer.old)).to }
+    ensures world { result ≢ State.Error →
+        world tokenizer.new ≡ (new_before_transition ContainerKind.GfmFootnoteDefinition (world tokenizer.old)).world }
+{
+    try_new(tokenizer, ContainerKind::GfmFootnoteDefinition)
+}
+
+/// Calls the state of the document in front of a container that may open; those of containers that are not built refuse.
+#[inline(always)]
+pub fn before_opener(tokenizer: &mut Tokenizer, state: DocumentState) -> State
+    requires { IsAt NeedsNothing (StateName.Document state) (world tokenizer.old) }
+    ensures to { result ≢ State.Error → result ≡ (opener_transition (opener_at state) (world tokenizer.old)).to }
+    ensures world { result ≢ State.Error →
+        world tokenizer.new ≡ (opener_transition (opener_at state) (world tokenizer.old)).world }
+{
+    match state {
+        DocumentState::ContainerNewBefore => container_new_before(tokenizer),
+        DocumentState::ContainerNewBeforeNotBlockQuote => {
+            container_new_before_not_block_quote(tokenizer)
+        }
+        DocumentState::ContainerNewBeforeNotList => container_new_before_not_list(tokenizer),
+        _ => State::Nok,
+    }
+}
+
+/// Before a container of a kind that may open: where it does not, the next kind is tried.
+#[inline(always)]
+#[tactic(auto, unfolding(md_seam::specs::Look::looks_behind))]
+pub(crate) fn try_new(tokenizer: &mut Tokenizer, kind: ContainerKind) -> State
+    ensures to { result ≢ State.Error → result ≡ (new_before_transition kind (world tokenizer.old)).to }
+    ensures world { result ≢ State.Error →
+        world tokenizer.new ≡ (new_before_transition kind (world tokenizer.old)).world }
+{
+    ask(tokenizer, Container::new(kind));
+    if !choices::may_open(tokenizer, kind) {
+        return State::Retry(StateName::Document(choices::next_opener(kind)));
+    }
+    or_error!(tokenizer.attempt(
+        State::Next(StateName::Document(DocumentState::ContainerNewAfter)),
+        State::Next(StateName::Document(choices::next_opener(kind)))
+    ));
+    State::Retry(choices::opens_with(kind))
+}
+
+/// Passes all containers that may open, where none does by what stands here, as the states do one after another.
+#[inline(always)]
+pub fn pass_openers(tokenizer: &mut Tokenizer)
+    ensures { world tokenizer.new ≡ openers_passed (world tokenizer.old) }
+{
+    ask(tokenizer, Container::new(choices::last_opener()));
+    begin_line(tokenizer);
+}
+
+/// Before the first container that may open, where one opens with a prefix that can be taken at once: it opens, as by
+/// the states that try one kind after another.
+pub fn opens_at_once(tokenizer: &mut Tokenizer) -> State
+    requires at { IsAt NeedsNothing (StateName.Document (opener_front openers)) (world tokenizer.old) }
+    requires plain { IsPlainBullet (world tokenizer.old) }
+    ensures runs { result ≢ State.Error →
+        RunsHere FlowStep
+        (StateName.Document (opener_front openers)) (world tokenizer.old) result (world tokenizer.new) }
+    ensures sees { result ≢ State.Error → SeesOn result (world tokenizer.old) (world tokenizer.new) }
+{
+    ask(tokenizer, Container::new(choices::plain_opener()));
+    or_error!(choices::take_plain_opening(tokenizer));
+    container_new_after(tokenizer)
+}
+
+/// Behind the first prefix of a container that opens: those that did not go on end before it.
+///
+/// ```markdown
+/// > | > a
+///       ^
+/// ```
+pub fn container_new_after(tokenizer: &mut Tokenizer) -> State
+    requires { IsAt NeedsNothing (StateName.Document DocumentState.ContainerNewAfter) (world tokenizer.old) }
+    ensures to { result ≢ State.Error → result ≡ (new_after_transition (world tokenizer.old)).to }
+    ensures world { result ≢ State.Error → world tokenizer.new ≡ (new_after_transition (world tokenizer.old)).world }
+{
+    let Flags {
+        asked,
+        continued,
+        line_end,
+        ..
+    } = tokenizer.flags;
+    or_error!(tokenizer.close(continued, line_end));
+    or_error!(tokenizer.open(asked));
+    tokenizer.flags.continued = tokenizer.containers.len();
+    tokenizer.flags.leaf = HeldLeaf::None;
+    State::Retry(StateName::Document(choices::first_opener()))
+}
+
+/// Behind all containers of a line.
+///
+/// ```markdown
+/// > | > a
+///       ^
+/// ```
+#[inline(always)]
+pub fn containers_after(tokenizer: &mut Tokenizer) -> State
+    requires { IsAt NeedsNothing (StateName.Document DocumentState.ContainersAfter) (world tokenizer.old) }
+    ensures to { result ≡ (containers_after_transition (world tokenizer.old)).to }
+    ensures world { world tokenizer.new ≡ (containers_after_transition (world tokenizer.old)).world }
+{
+    begin_line(tokenizer);
+    if choices::goes_inside(tokenizer.flags.leaf) {
+        State::Retry(StateName::Document(DocumentState::FlowInside))
+    } else {
+        State::Retry(StateName::Flow(FlowState::Start))
+    }
+}
+
+/// Behind all containers of a line, where a leaf is open that is asked first whether the line goes on it. It may do so
+/// over a line on which nothing stands, no prefix either, whose ending is that of a blank line.
+///
+/// ```markdown
+///   | ~~~
+/// > | a
+///     ^
+/// ```
+pub fn flow_inside(tokenizer: &mut Tokenizer) -> State
+    requires { IsAt NeedsNothing (StateName.Document DocumentState.FlowInside) (world tokenizer.old) }
+    ensures to { result ≢ State.Error → result ≡ (inside_transition (world tokenizer.old)).to }
+    ensures world { result ≢ State.Error → world tokenizer.new ≡ (inside_transition (world tokenizer.old)).world }
+{
+    match choices::inside_start(tokenizer.flags.leaf) {
+        None => State::Retry(StateName::Flow(FlowState::Start)),
+        Some(start) => {
+            tokenizer.flags.blank = ends_line(tokenizer.current) && tokenizer.point.column == 1;
+            or_error!(tokenizer.attempt(
+                State::Next(StateName::Flow(FlowState::After)),
+                State::Next(StateName::Flow(FlowState::Start))
+            ));
+            State::Retry(start)
+        }
+    }
+}
+
+/// Keeps the leaf that is open behind the containers of a line, and what the line meets of it.
+#[inline(always)]
+fn begin_line(tokenizer: &mut Tokenizer)
+    ensures { world tokenizer.new ≡ record (world tokenizer.old) { flags = begun_line (world tokenizer.old).flags } }
+{
+    let all = !(tokenizer.flags.continued < tokenizer.containers.len());
+    tokenizer.flags.leaf_before = tokenizer.flags.leaf;
+    if !all {
+        tokenizer.flags.leaf = lazy_of(tokenizer.flags.leaf);
+    }
+}
+
+/// A leaf as a lazy line meets it.
+#[inline(always)]
+fn lazy_of(leaf: HeldLeaf) -> HeldLeaf
+    ensures { result ≡ lazy_of leaf }
+{
+    match leaf {
+        HeldLeaf::Text(at) | HeldLeaf::LazyText(at) => HeldLeaf::LazyText(at),
+        _ => HeldLeaf::None,
+    }
+}
+
+/// Whether a line that starts no other leaf goes on this one, although not all containers went on (CommonMark 5.1,
+/// "laziness").
+#[inline(always)]
+fn takes_lazy(leaf: HeldLeaf) -> bool
+    ensures { result ≡ takes_lazy leaf }
+{
+    match leaf {
+        HeldLeaf::Text(_) | HeldLeaf::LazyText(_) => true,
+        _ => false,
+    }
+}
+
+/// How many containers are still open behind a line: all of them if it goes on the open text, else those that went on.
+fn kept_containers(tokenizer: &Tokenizer) -> usize
+    ensures { result ≡ kept_containers (world tokenizer.now).flags }
+{
+    if takes_lazy(tokenizer.flags.leaf_before) && takes_lazy(tokenizer.flags.leaf) {
+        tokenizer.containers.len()
+    } else {
+        tokenizer.flags.continued
+    }
+}
+
+/// What the ending of a line is called.
+fn ending_name(blank: bool) -> Name
+    ensures { result ≡ ending_name blank }
+{
+    if blank {
+        Name::BlankLineEnding
+    } else {
+        Name::LineEnding
+    }
+}
+
+/// Behind the leaf of a line, at its ending or the end of the text: containers end that did not go on, unless the line
+/// goes on the open paragraph; at the end of the text all do.
+///
+/// ```markdown
+/// > | > a
+///        ^
+/// ```
+#[inline(always)]
+pub fn flow_end(tokenizer: &mut Tokenizer) -> State
+    requires { IsAt NeedsNothing (StateName.Document DocumentState.FlowEnd) (world tokenizer.old) }
+    ensures to { result ≢ State.Error → result ≡ (flow_end_transition (world tokenizer.old)).to }
+    ensures world { result ≢ State.Error → world tokenizer.new ≡ (flow_end_transition (world tokenizer.old)).world }
+{
+    let keep = kept_containers(tokenizer);
+    let line_end = tokenizer.flags.line_end;
+    or_error!(tokenizer.close(keep, line_end));
+    let len = tokenizer.events.len();
+    match tokenizer.current {
+        None => {
+            or_error!(tokenizer.close(0, len));
+            State::Ok
+        }
+        Some(b'\n') => {
+            let name = ending_name(tokenizer.flags.blank);
+            or_error!(tokenizer.enter(name));
+            tokenizer.consume();
+            or_error!(tokenizer.exit(name));
+            tokenizer.flags.blank = false;
+            tokenizer.flags.continued = 0;
+            tokenizer.flags.line_end = len;
+            State::Next(StateName::Document(DocumentState::ContainerExistingBefore))
+        }
+        _ => State::Nok,
+    }
+}
+
+/// Calls a state of the document: in front of its lines, or between the containers of a line.
+#[inline(always)]
+pub fn call(tokenizer: &mut Tokenizer, state: DocumentState) -> State
+    requires { IsAt NeedsNothing (StateName.Document state) (world tokenizer.old) }
+    ensures to { result ≢ State.Error → result ≡ (document_own_transition state (world tokenizer.old)).to }
+    ensures world { result ≢ State.Error →
+        world tokenizer.new ≡ (document_own_transition state (world tokenizer.old)).world }
+{
+    match state {
+        DocumentState::Start => start(tokenizer),
+        DocumentState::BeforeFrontmatter => before_frontmatter(tokenizer),
+        DocumentState::ContainerExistingBefore => container_existing_before(tokenizer),
+        DocumentState::ContainerExistingAfter => container_existing_after(tokenizer),
+        DocumentState::ContainerNewAfter => container_new_after(tokenizer),
+        DocumentState::ContainersAfter => containers_after(tokenizer),
+        DocumentState::FlowInside => flow_inside(tokenizer),
+        DocumentState::FlowEnd => flow_end(tokenizer),
+        _ => before_opener(tokenizer, state),
+    }
+}
+
+/// Calls a state of the table.
+fn call_state(tokenizer: &mut Tokenizer, name: StateName) -> State
+    requires current { (world tokenizer.old).current ≡ looks (world tokenizer.old) }
+    requires stands { stands document_table_scheme (world tokenizer.old) (State.Next name) }
+    ensures to { result ≢ State.Error → result ≡ (document_transition name (world tokenizer.old)).to }
+    ensures world { result ≢ State.Error →
+        world tokenizer.new ≡ (document_transition name (world tokenizer.old)).world }
+{
+    match name {
+        StateName::Bom(state) => partial_bom::call(tokenizer, state),
+        StateName::Frontmatter(state) => frontmatter::call(tokenizer, state),
+        StateName::SpaceOrTab(state) => space_or_tab::call(tokenizer, state),
+        StateName::Document(state) => call(tokenizer, state),
+        _ => State::Nok,
+    }
+}
+
+/// The states of the document.
+pub struct DocumentTable;
+
+impl Table for DocumentTable {
+    ghost use Rattle.md_frame.specs.HeldLeaf.{lazy_of, takes_lazy};
+    ghost use Rattle.md_registry.specs.Document.{DocumentStep};
+    ghost use Rattle.md_frame.specs.Resolved.{resolved_as};
+
+    ghost step = { DocumentStep };
+
+    ghost scheme = { document_table_scheme };
+
+    ghost resolves = { resolved_as };
+
+    fn call(tokenizer: &mut Tokenizer, name: StateName) -> State {
+        call_state(tokenizer, name)
+    }
+
+    fn takes_at_once(name: StateName) -> Option<Stay> {
+        match name {
+            StateName::Frontmatter(state) => frontmatter::takes_at_once(state),
+            _ => None,
+        }
+    }
+
+    fn resolve(tokenizer: &mut Tokenizer, name: ResolveName) -> Result<Option<Subresult>, Message> {
+        resolve::call(tokenizer, name)
+    }
+}

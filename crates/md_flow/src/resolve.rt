@@ -1,0 +1,32 @@
+// Resolvers by their names.
+
+ghost use Rattle.std.specs.Prelude.{◌≡◌, [], IfOk, OnOk};
+ghost use Rattle.std.specs.Option.{option_map};
+ghost use Rattle.md_engine.specs.Found.{found_in};
+ghost use Rattle.md_engine.specs.World.{world};
+ghost use Rattle.md_frame.specs.Resolved.{resolved_as};
+
+use md_content::content;
+use md_engine::message::Message;
+pub use md_engine::resolve::Name;
+use md_engine::subtokenize::Subresult;
+use md_engine::tokenizer::Tokenizer;
+use md_registry::choices;
+
+/// Runs the resolver of this name; changes nothing for names of the inline layer.
+///
+/// After an `Err`, which says that memory ran out, the parse has failed and the tokenizer is only dropped.
+pub fn call(tokenizer: &mut Tokenizer, name: Name) -> Result<Option<Subresult>, Message>
+    requires { (world tokenizer.old).frames ≡ [] }
+    ensures frames { OnOk result ((world tokenizer.new).frames ≡ []) }
+    ensures resolves { IfOk result
+        (λ found. resolved_as name (world tokenizer.old) (option_map found_in found) (world tokenizer.new)) }
+{
+    match name {
+        Name::Content => {
+            choices::read_heads(tokenizer)?;
+            content::resolve(tokenizer)
+        }
+        _ => choices::resolve(tokenizer, name),
+    }
+}

@@ -1,0 +1,210 @@
+-- The containers of the line definition, built or not: what is known of the names of their events, and of what these
+-- tell. It is the one place of the frame's proofs that goes through them.
+use Rattle.std.proofs.Common.{◌≡◌, Bool, true, false, cond, List, [], ◌∷◌, ◌++◌, refl, ap, map, sym, ℕ, zero, suc}
+use Rattle.std.specs.Prelude.{None, Some}
+use Rattle.md_engine.specs.declared.configuration.ParseOptions.{ParseOptions}
+use Rattle.md_engine.specs.declared.event.Event.{Event}
+use Rattle.md_engine.specs.declared.event.Kind.TheVariants.{Exit}
+use Rattle.md_engine.specs.declared.event.Name.{Name}
+use Rattle.md_engine.specs.declared.event.Name.TheVariants as n
+use Rattle.md_engine.specs.declared.event.Point.{Point}
+use Rattle.md_engine.specs.declared.tokenizer.container.name.ContainerKind.{ContainerKind}
+use Rattle.md_engine.specs.declared.tokenizer.container.name.ContainerKind.TheVariants as kind
+use Rattle.md_engine.specs.ContainerName.{name_of}
+use Rattle.md_containers.specs.ItemsStand.{is_item_shape}
+use Rattle.md_containers.specs.Listed.{is_item}
+use Rattle.md_containers.proofs.UnlistedLemmas.{among}
+use Rattle.md_content.specs.Joined.{content_behind}
+use Rattle.md_outline.specs.Roles.{is_plain}
+use Rattle.md_seam.specs.Events.Blocks.{is_block}
+use Rattle.md_seam.specs.Events.Endings.{on_line}
+use Rattle.md_seam.specs.Events.Grammar.{Expression, behind, may_end}
+use Rattle.md_seam.specs.Events.Inline.{is_line_ending}
+use Rattle.md_seam.specs.Events.Nested.{enter, exit}
+use Rattle.md_seam.specs.Events.Prefix.{is_prefix}
+use Rattle.md_seam.specs.Events.Spelled.{ContainerRole, Reading, Shape, block_around, left, read, role}
+use Rattle.md_seam.specs.Events.Tiles.{part_kind}
+use Rattle.md_meaning.specs.Containers.{Taken, continues, footnote_continues, item_continues, quote_taken}
+use Rattle.md_meaning.specs.Rest.{Rest}
+use Rattle.md_meaning.specs.State.{Container, InFootnote, InItem, InQuote, container_block}
+use Rattle.md_meaning.specs.Tree.{Blocks}
+use Rattle.md_seam.proofs.EndingsLemmas.{is_other}
+use Rattle.md_frame.specs.ContainerNames.{IsOf, container_kind, container_name, shape_name, shape_of}
+use Rattle.md_frame.proofs.LeafStands.{Moves}
+use Rattle.md_frame.proofs.PartedFacts.{Still}
+use Rattle.md_frame.proofs.PlainFacts.{Untold}
+
+-- names of prefixes and of containers, and of what they tell where they open
+abbrev pub is_front : Name → Bool
+is_front n.BlockQuote = true
+is_front n.ListItem = true
+is_front n.ListItemPrefix = true
+is_front n.ListItemValue = true
+is_front n.ListItemMarker = true
+is_front n.GfmFootnoteDefinition = true
+is_front n.GfmFootnoteDefinitionPrefix = true
+is_front n.GfmFootnoteDefinitionLabel = true
+is_front n.GfmFootnoteDefinitionLabelMarker = true
+is_front n.GfmFootnoteDefinitionMarker = true
+is_front n.GfmFootnoteDefinitionLabelString = true
+is_front n.DefinitionMarker = true
+is_front n.Data = true
+is_front name = is_prefix name
+
+-- so names of prefixes are among them
+pub front-name : (name : Name) → is_prefix name ≡ true → is_front name ≡ true
+front-name n.Data h = cc
+front-name _ h = cc
+
+-- Each container.
+
+pub record ContainerFacts (c : Container) : Type 0 where
+  -- its name is one of those that stand in front of a line, and not that of a prefix
+  pub front : is_front (container_name c) ≡ true
+  pub no_prefix : is_prefix (container_name c) ≡ false
+  pub begin_stops : (p : Point) (ys : List Event) → content_behind (enter (container_name c) p ∷ ys) ≡ false
+  -- it is no leaf and no ending
+  pub other : is_other (on_line (container_name c)) ≡ true
+  pub no_part : part_kind (container_name c) ≡ None
+  pub no_ending : is_line_ending (container_name c) ≡ false
+  -- it is a block, and an item or none; where it is innermost it ends between blocks
+  pub block_role : is_block (role (container_name c)) ≡ true
+  pub item_role : is_item (role (container_name c)) ≡ is_item_shape (shape_of c)
+  pub ends : (bytes : List ℕ) (items : List Bool) (p : Point) →
+      Moves bytes (among (is_item_shape (shape_of c) ∷ items)) (among items) Exit (role (container_name c)) p
+  -- no text begins or ends with it, and it has a plain name, if an outline shows it
+  pub still : Still (role (container_name c))
+  pub untold : is_plain (ContainerRole (shape_of c)) ≡ true → Untold (role (container_name c))
+  -- each is read as its block, and ends alike
+  pub block : (bs : Blocks) → block_around (shape_of c) bs ≡ container_block c bs
+  pub read_end : (bytes : List ℕ) (p : Point) (r : Reading) →
+      read bytes r (exit (container_name c) p ∷ []) ≡ left r.outer r
+  -- the tokenizer ends it by the same name, if it is built
+  pub held : (k : ContainerKind) → IsOf k c → name_of k ≡ container_name c
+
+pub container-facts : (c : Container) → ContainerFacts c
+container-facts InQuote = record {
+  front = refl;
+  no_prefix = refl;
+  begin_stops = λ p ys. refl;
+  other = refl;
+  no_part = refl;
+  no_ending = refl;
+  block_role = refl;
+  item_role = refl;
+  ends = λ bytes items p. record { may = refl; behind = refl };
+  still = tt;
+  untold = λ h. (refl, refl);
+  block = λ bs. refl;
+  read_end = λ bytes p r. refl;
+  held = held-is;
+}
+  where
+    held-is : (k : ContainerKind) → IsOf k InQuote → name_of k ≡ n.BlockQuote
+    held-is kind.BlockQuote e = refl
+    held-is kind.ListItem e = cc
+    held-is kind.GfmFootnoteDefinition e = cc
+container-facts (InItem digits marker width starts_blank) = record {
+  front = refl;
+  no_prefix = refl;
+  begin_stops = λ p ys. refl;
+  other = refl;
+  no_part = refl;
+  no_ending = refl;
+  block_role = refl;
+  item_role = refl;
+  ends = λ bytes items p. record { may = refl; behind = refl };
+  still = tt;
+  untold = λ h. (h, refl);
+  block = λ bs. refl;
+  read_end = λ bytes p r. refl;
+  held = held-is width;
+}
+  where
+    held-is : (w : ℕ) (k : ContainerKind) → IsOf k (InItem digits marker w starts_blank) → name_of k ≡ n.ListItem
+    held-is zero k e = cc
+    held-is (suc more) kind.BlockQuote e = cc
+    held-is (suc more) kind.ListItem e = refl
+    held-is (suc more) kind.GfmFootnoteDefinition e = cc
+container-facts (InFootnote label) = record {
+  front = refl;
+  no_prefix = refl;
+  begin_stops = λ p ys. refl;
+  other = refl;
+  no_part = refl;
+  no_ending = refl;
+  block_role = refl;
+  item_role = refl;
+  ends = λ bytes items p. record { may = refl; behind = refl };
+  still = tt;
+  untold = λ h. (h, refl);
+  block = λ bs. refl;
+  read_end = λ bytes p r. refl;
+  held = held-is;
+}
+  where
+    held-is : (k : ContainerKind) → IsOf k (InFootnote label) → name_of k ≡ n.GfmFootnoteDefinition
+    held-is kind.BlockQuote e = cc
+    held-is kind.ListItem e = cc
+    held-is kind.GfmFootnoteDefinition e = refl
+
+-- lines of content do not go on over its end
+pub end-stops : (c : Container) (p : Point) (ys : List Event) →
+    content_behind (exit (container_name c) p ∷ ys) ≡ false
+end-stops c p ys = ap (λ (x : Bool). cond x (content_behind ys) false) (container-facts c).no_prefix
+
+-- Names of open containers.
+
+-- the names that are open where these containers are, the innermost first
+abbrev pub open_names : List Container → List Name
+open_names [] = []
+open_names (c ∷ cs) = open_names cs ++ container_name c ∷ []
+
+-- the events of a container tell its name by its shape
+abbrev pub shape_names : List Shape → List Name
+shape_names [] = []
+shape_names (s ∷ ss) = shape_names ss ++ shape_name s ∷ []
+
+pub names-shapes : (cs : List Container) → open_names cs ≡ shape_names (map shape_of cs)
+names-shapes [] = refl
+names-shapes (c ∷ cs) = ap (λ (l : List Name). l ++ container_name c ∷ []) (names-shapes cs)
+
+-- What the events tell of a container does not change while it is open.
+
+-- what is taken, if anything is, is in this container
+when-container : (x : Bool) (u t : Taken) → cond x (Some u) None ≡ Some t → t.container ≡ u.container
+when-container true u t e = let same : u ≡ t = cc in sym (ap (λ (x : Taken). x.container) same)
+when-container false u t e = cc
+
+-- so a container that goes on has the shape that it had,
+pub continues-shape : (options : ParseOptions) (c : Container) (r : Rest) (t : Taken) →
+    continues options c r ≡ Some t → shape_of t.container ≡ shape_of c
+unfolding quote_taken item_continues footnote_continues
+continues-shape options InQuote r t e = ap shape_of (when-container _ _ t e)
+continues-shape options (InItem digits marker width starts_blank) r t e = ap shape_of (when-container _ _ t e)
+continues-shape options (InFootnote label) r t e = ap shape_of (when-container _ _ t e)
+
+-- and the kind
+pub continues-kind : (options : ParseOptions) (c : Container) (r : Rest) (t : Taken) →
+    continues options c r ≡ Some t → container_kind t.container ≡ container_kind c
+unfolding quote_taken item_continues footnote_continues
+continues-kind options InQuote r t e = ap container_kind (when-container _ _ t e)
+continues-kind options (InItem digits marker width starts_blank) r t e = ap container_kind (when-container _ _ t e)
+continues-kind options (InFootnote label) r t e = ap container_kind (when-container _ _ t e)
+
+-- What holds of the name of each kind of container that the tokenizer holds.
+pub held-names : (P : Name → Type 0) → P n.BlockQuote → P n.ListItem → P n.GfmFootnoteDefinition →
+    (k : ContainerKind) → P (name_of k)
+held-names P quote item footnote kind.BlockQuote = quote
+held-names P quote item footnote kind.ListItem = item
+held-names P quote item footnote kind.GfmFootnoteDefinition = footnote
+
+-- In the grammar of events.
+
+-- what may stand here takes what containers add to a line, and is left as it is
+abbrev pub TakesPrefixes : Expression → Type 0
+TakesPrefixes x = (behind n.SpaceOrTab x ≡ x) × (behind n.BlockQuotePrefix x ≡ x)
+
+-- a text part of one piece may stand, where this stands in text parts
+abbrev pub TakesData : Expression → Type 0
+TakesData text = may_end (behind n.Data text) ≡ true

@@ -1,0 +1,132 @@
+-- The names of what stands on a line of a leaf, which may lose columns of whitespace, and in a fence.
+use Rattle.std.proofs.Common.{◌≡◌, ℕ, Bool, true, false, cond, ◌&&◌, List, [], ◌∷◌, ◌++◌, refl}
+use Rattle.std.specs.Prelude.{nat_lt, None}
+use Rattle.md_engine.specs.declared.event.Content.{Content}
+use Rattle.md_engine.specs.declared.event.Event.{Event}
+use Rattle.md_engine.specs.declared.event.Kind.{Kind}
+use Rattle.md_engine.specs.declared.event.Kind.TheVariants.{Enter, Exit}
+use Rattle.md_engine.specs.declared.event.Name.{Name}
+use Rattle.md_engine.specs.declared.event.Name.TheVariants as n
+use Rattle.md_engine.specs.declared.event.Point.{Point}
+use Rattle.md_meaning.specs.Rest.{Rest, indent, lose}
+use Rattle.md_leaves.specs.Turned.{is_paragraph, is_underline}
+use Rattle.md_seam.specs.Events.Nested.{is_enter, pair}
+use Rattle.md_seam.specs.Substituted.{wanted}
+use Rattle.md_frame.specs.RestLine.{rest_line}
+use Rattle.md_frame.specs.LineColumns.{lost_line, part_over, past_columns}
+use Rattle.md_frame.specs.Resolving.{is_own}
+use Rattle.md_frame.proofs.ContentFacts.{NoContent, is_told}
+use Rattle.md_frame.proofs.OutsideFacts.{AreOutside}
+use Rattle.md_frame.proofs.UnturnedFacts.{AreUnturned}
+
+-- An event of a part.
+
+abbrev pub part_event : Kind → Name → Point → Event
+part_event kind name p = record { kind = kind; name = name; point = p; link = None }
+
+-- what may stand in the line
+abbrev pub is_inside : Name → Bool
+is_inside n.SpaceOrTab = true
+is_inside n.CodeFencedFence = true
+is_inside n.CodeFencedFenceSequence = true
+is_inside n.CodeFlowChunk = true
+is_inside n.MathFlowFence = true
+is_inside n.MathFlowFenceSequence = true
+is_inside n.MathFlowChunk = true
+is_inside n.HtmlFlowData = true
+is_inside _ = false
+
+-- what holds of each of them
+pub inside-name : (P : Name → Type 0) → P n.SpaceOrTab → P n.CodeFencedFence → P n.CodeFencedFenceSequence →
+    P n.CodeFlowChunk → P n.MathFlowFence → P n.MathFlowFenceSequence → P n.MathFlowChunk → P n.HtmlFlowData →
+    (name : Name) → is_inside name ≡ true → P name
+inside-name P white fence sequence chunk math math_sequence math_chunk html n.SpaceOrTab e = white
+inside-name P white fence sequence chunk math math_sequence math_chunk html n.CodeFencedFence e = fence
+inside-name P white fence sequence chunk math math_sequence math_chunk html n.CodeFencedFenceSequence e = sequence
+inside-name P white fence sequence chunk math math_sequence math_chunk html n.CodeFlowChunk e = chunk
+inside-name P white fence sequence chunk math math_sequence math_chunk html n.MathFlowFence e = math
+inside-name P white fence sequence chunk math math_sequence math_chunk html n.MathFlowFenceSequence e = math_sequence
+inside-name P white fence sequence chunk math math_sequence math_chunk html n.MathFlowChunk e = math_chunk
+inside-name P white fence sequence chunk math math_sequence math_chunk html n.HtmlFlowData e = html
+inside-name P white fence sequence chunk math math_sequence math_chunk html _ e = absurd (cc)
+
+-- Each event.
+
+-- one more of them
+abbrev pub More : (List Event → Type 0) → Type 0
+More P = (kind : Kind) (name : Name) (p : Point) (es : List Event) → is_inside name ≡ true → P es →
+    P (part_event kind name p ∷ es)
+
+pub either-part : (P : List Event → Type 0) → More P → (x : Bool) (name : Name) (p q : Point) (es : List Event) →
+    is_inside name ≡ true → P es → P (cond x (pair name p q) [] ++ es)
+either-part P more true name p q es e h = more Enter name p _ e (more Exit name q es e h)
+either-part P more false name p q es e h = h
+
+pub over-each : (P : List Event → Type 0) → More P → (name : Name) (bytes : List ℕ) (p q : Point) (es : List Event) →
+    is_inside name ≡ true → P es → P (part_over name bytes p q ++ es)
+over-each P more name [] p q es e h = h
+over-each P more name (b ∷ bs) p q es e h = more Enter name p _ e (more Exit name q es e h)
+
+-- what stands on a line that loses columns
+pub lost-each : (P : List Event → Type 0) → P [] → More P → (name : Name) (lost : ℕ) (r : Rest) (p q : Point) →
+    is_inside name ≡ true → P (lost_line name lost r p q)
+lost-each P none more name lost r p q e =
+    either-part P more (nat_lt 0 lost && nat_lt 0 (indent r)) n.SpaceOrTab p (past_columns lost r p) _ refl
+    (chunk (rest_line (lose lost r)))
+  where
+    chunk : (bytes : List ℕ) → P (part_over name bytes (past_columns lost r p) q)
+    chunk [] = none
+    chunk (b ∷ bs) = more Enter name (past_columns lost r p) _ e (more Exit name q [] e none)
+
+-- Events that are all of these names, and begin nothing that is read later: what holds of no events, and of one more
+-- such, holds of them.
+abbrev pub AreInside : List Event → Type 1
+AreInside es = (P : List Event → Type 0) → P [] → More P → P es
+
+pub lost-inside : (name : Name) (lost : ℕ) (r : Rest) (p q : Point) → is_inside name ≡ true →
+    AreInside (lost_line name lost r p q)
+lost-inside name lost r p q e = λ P none more. lost-each P none more name lost r p q e
+
+-- A resolver rewrites none of them.
+
+inside-own : (name : Name) → is_inside name ≡ true → is_own name ≡ false
+inside-own n.SpaceOrTab e = refl
+inside-own _ e = cc
+
+and-false : (x : Bool) → (x && false) ≡ false
+and-false true = refl
+and-false false = refl
+
+pub more-outside : More AreOutside
+more-outside kind name x es e k = (rw (inside-own name e) (and-false (is_enter kind)), k)
+
+pub inside-outside : (es : List Event) → AreInside es → AreOutside es
+inside-outside es all = all AreOutside tt more-outside
+
+-- None is of a text or an underline.
+
+inside-passes : (name : Name) → is_inside name ≡ true →
+    cond (is_paragraph name) false (cond (is_underline name) false true) ≡ true
+inside-passes n.Paragraph e = absurd (cc)
+inside-passes n.HeadingSetextUnderline e = absurd (cc)
+inside-passes _ e = refl
+
+pub inside-unturned : (es : List Event) → AreInside es → AreUnturned es
+inside-unturned es all = all AreUnturned tt (λ kind name x es e k. (inside-passes name e, k))
+
+-- No content stands among them.
+
+inside-content : (name : Name) → is_inside name ≡ true → is_told name ≡ false
+inside-content n.Content e = absurd (cc)
+inside-content n.DefinitionLabelString e = absurd (cc)
+inside-content _ e = refl
+
+pub more-no_content : (wants : Content → Bool) → More (NoContent wants)
+more-no_content wants kind name x es e k = (unlinked kind, inside-content name e, k)
+  where
+    unlinked : (kind : Kind) → wanted wants (part_event kind name x) ≡ None
+    unlinked Enter = refl
+    unlinked Exit = refl
+
+pub inside-no_content : (wants : Content → Bool) (es : List Event) → AreInside es → NoContent wants es
+inside-no_content wants es all = all (NoContent wants) tt (more-no_content wants)

@@ -1,0 +1,71 @@
+-- What stands on a line that loses columns of whitespace, and in a fence, by its names: parts of a leaf, no block, no
+-- text part, and none that ends a line.
+use Rattle.std.proofs.Common.{◌≡◌, ℕ, true, false, List, refl}
+use Rattle.std.specs.Prelude.{None}
+use Rattle.std.proofs.lemmas.Bool.{and_from}
+use Rattle.md_engine.specs.declared.event.Event.{Event}
+use Rattle.md_engine.specs.declared.event.Name.{Name}
+use Rattle.md_containers.specs.ItemsStand.{IsPart}
+use Rattle.md_leaves.proofs.SpannedLines.{NoBlocks, NoLines, blocks-lines}
+use Rattle.md_seam.specs.Events.Blocks.{is_block}
+use Rattle.md_seam.specs.Events.Endings.{on_line}
+use Rattle.md_seam.specs.Events.Spelled.{role}
+use Rattle.md_seam.specs.Events.Tiles.{part_kind}
+use Rattle.md_seam.proofs.EndingsLemmas.{AreOthers, is_other}
+use Rattle.md_seam.proofs.SpelledLemmas.{Roles}
+use Rattle.md_containers.proofs.UnlistedLemmas.{NoListing}
+use Rattle.md_frame.proofs.FillFacts.{PartsRead, fill-same}
+use Rattle.md_frame.proofs.LeafStands.{parts-unlisted}
+use Rattle.md_frame.proofs.IndentRemoved.Names.{AreInside, inside-name, is_inside}
+use Rattle.md_frame.proofs.PartFacts.{NoLinks, NoParts}
+use Rattle.md_frame.proofs.PartsStand.{PartsWhole, stands-outside}
+
+-- Names.
+
+-- each is the name of a part of a leaf
+inside-part : (name : Name) → is_inside name ≡ true → IsPart (role name)
+inside-part = inside-name (λ name. IsPart (role name)) tt tt tt tt tt tt tt tt
+
+inside-block : (name : Name) → is_inside name ≡ true → is_block (role name) ≡ false
+inside-block = inside-name (λ name. is_block (role name) ≡ false) refl refl refl refl refl refl refl refl
+
+inside-kind : (name : Name) → is_inside name ≡ true → part_kind name ≡ None
+inside-kind = inside-name (λ name. part_kind name ≡ None) refl refl refl refl refl refl refl refl
+
+inside-other : (name : Name) → is_inside name ≡ true → is_other (on_line name) ≡ true
+inside-other = inside-name (λ name. is_other (on_line name) ≡ true) refl refl refl refl refl refl refl refl
+
+-- Events.
+
+-- they are parts of a leaf
+pub inside-parts : (es : List Event) → AreInside es → Roles IsPart es
+inside-parts es all = all (Roles IsPart) tt (λ kind name x es e h. (inside-part name e, h))
+
+-- of no block, so of no line of a leaf either,
+pub inside-blocks : (es : List Event) → AreInside es → NoBlocks es
+inside-blocks es all = all NoBlocks tt (λ kind name x es e h. (inside-block name e, h))
+
+pub inside-lines : (es : List Event) → AreInside es → NoLines es
+inside-lines es all = blocks-lines es (inside-blocks es all)
+
+-- of no list,
+pub inside-unlisted : (es : List Event) → AreInside es → NoListing es
+inside-unlisted es all = parts-unlisted es (inside-parts es all)
+
+-- and none ends a line
+pub inside-others : (es : List Event) → AreInside es → AreOthers es
+inside-others es all = all AreOthers refl (λ kind name x es e h. and_from _ _ (inside-other name e) h)
+
+-- No text part stands among them,
+pub inside-no_parts : (es : List Event) → AreInside es → NoParts es
+inside-no_parts es all = all NoParts tt (λ kind name x es e h. (inside-kind name e, h))
+
+pub inside-unlinked : (es : List Event) → AreInside es → NoLinks es
+inside-unlinked es all = all NoLinks tt (λ kind name x es e h. (refl, h))
+
+-- so nothing is read of them later.
+pub inside-stands : (bytes : List ℕ) (es : List Event) → AreInside es → PartsWhole bytes es
+inside-stands bytes es all = stands-outside bytes es (inside-no_parts es all) (inside-unlinked es all)
+
+pub inside-filled : (bytes : List ℕ) (es : List Event) → AreInside es → PartsRead bytes es es
+inside-filled bytes es all = fill-same bytes es (inside-unlinked es all) (inside-no_parts es all)

@@ -1,0 +1,76 @@
+-- What is known of the whitespace in front of the begin of a leaf.
+use Rattle.std.proofs.Common.{◌≡◌, ℕ, true, List, [], ◌∷◌, refl}
+use Rattle.std.specs.Prelude.{IsTrue}
+use Rattle.md_engine.specs.declared.event.Event.{Event}
+use Rattle.md_engine.specs.declared.event.Name.TheVariants as n
+use Rattle.md_engine.specs.declared.event.Point.{Point}
+use Rattle.md_seam.specs.Events.Grammar.{Expression, blocks}
+use Rattle.md_seam.specs.Events.Nested.{pair}
+use Rattle.md_seam.specs.Events.Pieces.{piece_stands}
+use Rattle.md_seam.specs.Events.Places.{at_or_before}
+use Rattle.md_seam.proofs.EndingsLemmas.{AreOthers}
+use Rattle.md_seam.proofs.GrammarLemmas as grammar
+use Rattle.md_seam.proofs.InlineLemmas.{same-refl}
+use Rattle.md_seam.proofs.NestedLemmas.{at_or_before-refl, balanced-none}
+use Rattle.md_seam.proofs.SpelledLemmas.{Quiet, Roles}
+use Rattle.md_outline.specs.Between.{is_between}
+use Rattle.md_frame.proofs.BetweenFacts.{AreBetween, between-pair}
+use Rattle.md_frame.proofs.PartFacts.{NoLinks}
+use Rattle.md_frame.proofs.PartedFacts.{clear}
+use Rattle.md_frame.proofs.PieceFacts.{PiecesValid, span, stood-none, stood-pair}
+use Rattle.md_frame.proofs.PiecesLemmas.{Covered, tiled-none, tiled-pair}
+use Rattle.md_frame.proofs.SpanLemmas.{Nested_in}
+
+-- It stands from a point to a point, and tells nothing.
+pub record LeadFacts (bytes : List ℕ) (p q : Point) (lead : List Event) : Type 0 where
+  -- it nests, and goes forward
+  pub nested : Nested_in p q lead
+  -- it covers what stands there
+  pub tiled : Covered p q lead
+  pub stood : PiecesValid bytes lead
+  -- it may stand in front of a block
+  pub word : (text : Expression) → grammar.Leads text (blocks ∷ []) (blocks ∷ []) lead
+  -- no ending stands in it, and no begin or end of a leaf
+  pub others : AreOthers lead
+  pub quiet : Roles Quiet lead
+  pub unlinked : NoLinks lead
+  -- it stands between characters, and where no tab of one is cut, if it begins so
+  pub between : is_between bytes p.index ≡ true → AreBetween bytes lead
+  pub behind : is_between bytes p.index ≡ true → is_between bytes q.index ≡ true
+  pub clear : clear bytes p ≡ true → clear bytes q ≡ true
+
+-- none
+pub lead-none : (bytes : List ℕ) (p : Point) → LeadFacts bytes p p []
+lead-none bytes p = record {
+  nested = (balanced-none, (tt, at_or_before-refl p));
+  tiled = tiled-none p p (same-refl p);
+  stood = stood-none bytes;
+  word = λ text outer. refl;
+  others = refl;
+  quiet = tt;
+  unlinked = tt;
+  between = λ first. refl;
+  behind = λ first. first;
+  clear = λ first. first;
+}
+
+-- spaces and tabs
+pub lead-white : (bytes : List ℕ) (p q : Point) → IsTrue (at_or_before p q) →
+    piece_stands bytes (span n.SpaceOrTab p q) ≡ true →
+    (is_between bytes p.index ≡ true → is_between bytes q.index ≡ true) →
+    (clear bytes p ≡ true → clear bytes q ≡ true) → LeadFacts bytes p q (pair n.SpaceOrTab p q)
+lead-white bytes p q order stands behind whole = record {
+  nested = (
+    record { matches = (tt, (refl, tt)); closed = refl },
+    ((at_or_before-refl p, (order, tt)), at_or_before-refl q),
+  );
+  tiled = tiled-pair n.SpaceOrTab p q;
+  stood = stood-pair bytes n.SpaceOrTab p q stands;
+  word = λ text outer. refl;
+  others = refl;
+  quiet = (tt, (tt, tt));
+  unlinked = (refl, (refl, tt));
+  between = λ first. between-pair bytes n.SpaceOrTab p q first (behind first);
+  behind = behind;
+  clear = whole;
+}

@@ -1,0 +1,344 @@
+-- The runs of the cells of a line are those of its bytes.
+use Rattle.std.proofs.Common.{◌≡◌, ℕ, zero, suc, ◌<◌, ◌≤◌, ◌^◌, Bool, true, false, cond, List, [], ◌∷◌, ◌++◌, length}
+use Rattle.std.proofs.Common.{refl, ap, ap₂, sym, ◌∙◌, subst, arith}
+use Rattle.std.specs.Prelude.{◌==◌}
+use Rattle.std.proofs.lemmas.Bool.{eq-eqb, eqb-true}
+use Rattle.std.proofs.lemmas.Bool.Decides.{nat_tests}
+use Rattle.md_engine.specs.declared.configuration.ParseOptions.{ParseOptions}
+use Rattle.md_engine.specs.declared.event.Event.{Event}
+use Rattle.md_engine.specs.declared.event.Name.{Name}
+use Rattle.md_engine.specs.declared.event.Name.TheVariants as n
+use Rattle.md_engine.specs.declared.event.Point.{Point}
+use Rattle.md_engine.specs.declared.tokenizer.Line.{Line}
+use Rattle.md_engine.specs.Meaning.{Cell}
+use Rattle.md_leaves.specs.HeadingSetextRule.{first_cell}
+use Rattle.md_leaves.specs.MarkRuns as celled
+use Rattle.md_seam.specs.Ahead.{begins_white, line_bytes, line_cells, line_end, white_end, white_rest}
+use Rattle.md_seam.specs.Spaces.{small_indent}
+use Rattle.md_meaning.specs.Rest.{Rest, has_small_indent, is_white, trim_start}
+use Rattle.md_meaning.specs.Texts.{first_byte}
+use Rattle.md_seam.specs.Events.Nested.{around, enter, exit, pair}
+use Rattle.md_seam.specs.Events.Places.{past_byte, past_text}
+use Rattle.md_seam.proofs.AheadLemmas.{small-some, white-no_ending}
+use Rattle.md_seam.proofs.FeedLines.{Stops, byte_cells, bytes_of, cell, columns_more, next_column, spread}
+use Rattle.md_seam.proofs.FeedLines.{tab_cells, tab_end, tab_end-last, tab_end-next, tab_end-stop}
+use Rattle.md_seam.proofs.RestCells.{Cut, RestAt, rest_cells}
+use Rattle.md_seam.proofs.RestLines.{spread-line}
+use Rattle.md_meaning.proofs.TextsLemmas.{NoEnding}
+use Rattle.md_frame.specs.RestLine.{rest_line}
+use Rattle.md_frame.specs.MarkRuns.{Apart, Marks, Run, White, mark_runs}
+use Rattle.md_frame.proofs.RestFacts.{rest-line_end, rest-no_ending, rest-same, rest-trim, small-indented}
+
+-- What may mark a run: no whitespace, and no ending of a line; and 0 stands for none.
+pub record IsMark (m : ℕ) : Type 0 where
+  pub dark : is_white m ≡ false
+  pub no_ending : (m == 10) ≡ false
+  pub some : (m == 0) ≡ false
+
+-- it is no tab
+tab-other : (m : ℕ) → is_white m ≡ false → (9 == m) ≡ false
+tab-other m dark = grind (arith, nat_tests, dark)
+
+-- and no space
+space-other : (m : ℕ) → is_white m ≡ false → (32 == m) ≡ false
+space-other m dark = grind (arith, nat_tests, dark)
+
+-- and no whitespace at all
+pub white-other : (b m : ℕ) → is_white b ≡ true → is_white m ≡ false → (b == m) ≡ false
+white-other b m w e = go (b == m) refl
+  where
+    go : (x : Bool) → (b == m) ≡ x → x ≡ false
+    go true same = let bad = ap is_white (eqb-true b m same) in cc
+    go false other = refl
+
+-- Tabs.
+
+-- a tab lies in whitespace as a whole
+tab-white : (name : Name) (line : Line) (m k byte : ℕ) (p q : Point) (ys : List Cell) → (byte == m) ≡ false →
+    (32 == m) ≡ false →
+    celled.mark_runs name celled.White m (tab_cells line k byte p ++ ys) q ≡
+    celled.mark_runs name celled.White m ys (tab_end k p)
+tab-white name line m zero byte p q ys e f = rw e (ap (celled.mark_runs name celled.White m ys) (tab_end-last p))
+tab-white name line m (suc k) byte p q ys e f =
+    rw e
+    (tab-white name line m k 32 (next_column p) (next_column p) ys f f
+    ∙ ap (celled.mark_runs name celled.White m ys) (tab_end-next k p))
+
+-- behind another run it begins whitespace
+tab-apart : (name : Name) (line : Line) (m k : ℕ) (p : Point) (ys : List Cell) → (9 == m) ≡ false →
+    celled.mark_runs name celled.Apart m (tab_cells line k 9 p ++ ys) p ≡
+    enter n.SpaceOrTab p ∷ celled.mark_runs name celled.White m (tab_cells line k 9 p ++ ys) p
+tab-apart name line m zero p ys e = rw e refl
+tab-apart name line m (suc k) p ys e = rw e refl
+
+-- behind a run of markers
+tab-marks : (name : Name) (line : Line) (m k : ℕ) (p : Point) (ys : List Cell) → (9 == m) ≡ false →
+    celled.mark_runs name celled.Marks m (tab_cells line k 9 p ++ ys) p ≡
+    exit name p ∷ enter n.SpaceOrTab p ∷ celled.mark_runs name celled.White m (tab_cells line k 9 p ++ ys) p
+tab-marks name line m zero p ys e = rw e refl
+tab-marks name line m (suc k) p ys e = rw e refl
+
+-- Lines.
+
+-- a run of cells as one of bytes
+abbrev cell_run : Run → celled.Run
+cell_run Apart = celled.Apart
+cell_run Marks = celled.Marks
+cell_run White = celled.White
+
+-- the runs of cells are those of bytes
+abbrev Same : Name → Run → ℕ → List Cell → List ℕ → Point → Type 0
+Same name run m ys bs p = celled.mark_runs name (cell_run run) m ys p ≡ mark_runs name run m bs p
+
+-- those of a tab
+tab-same : (name : Name) (run : Run) (line : Line) (m : ℕ) (p : Point) (ys : List Cell) (bs : List ℕ) →
+    is_white m ≡ false → 1 ≤ p.column → Same name White m ys bs (past_byte 9 p) →
+    Same name run m (tab_cells line (columns_more p) 9 p ++ ys) (9 ∷ bs) p
+tab-same name run line m p ys bs dark one more = go run
+  where
+    tab : (9 == m) ≡ false
+    tab = tab-other m dark
+
+    space : (32 == m) ≡ false
+    space = space-other m dark
+
+    white :
+        celled.mark_runs name celled.White m (tab_cells line (columns_more p) 9 p ++ ys) p ≡
+        mark_runs name White m bs (past_byte 9 p)
+    white =
+        tab-white name line m (columns_more p) 9 p p ys tab space
+        ∙ ap (celled.mark_runs name celled.White m ys) (tab_end-stop p one)
+        ∙ more
+
+    go : (run : Run) → Same name run m (tab_cells line (columns_more p) 9 p ++ ys) (9 ∷ bs) p
+    go Apart =
+        rw tab
+        (tab-apart name line m (columns_more p) p ys tab ∙ ap (λ (es : List Event). enter n.SpaceOrTab p ∷ es) white)
+    go Marks =
+        rw tab
+        (tab-marks name line m (columns_more p) p ys tab
+        ∙ ap (λ (es : List Event). exit name p ∷ enter n.SpaceOrTab p ∷ es) white)
+    go White = rw tab white
+
+-- those of a byte
+byte-same : (name : Name) (run : Run) (line : Line) (m b : ℕ) (p : Point) (ys : List Cell) (bs : List ℕ) →
+    is_white m ≡ false → 1 ≤ p.column → ((run : Run) → Same name run m ys bs (past_byte b p)) →
+    Same name run m (byte_cells line b p ++ ys) (b ∷ bs) p
+byte-same name run line m b p ys bs dark one = go (b == 9) refl
+  where
+    P : ℕ → Type 0
+    P c =
+        ((run : Run) → Same name run m ys bs (past_byte c p)) → Same name run m (byte_cells line c p ++ ys) (c ∷ bs) p
+
+    whole : (run : Run) → ((run : Run) → Same name run m ys bs (past_byte b p)) →
+        Same name run m (cell b (past_byte b p) line ∷ ys) (b ∷ bs) p
+    whole Apart more =
+        ap₂ (λ (xs zs : List Event). cond (b == m) (enter name p ∷ xs) (enter n.SpaceOrTab p ∷ zs)) (more Marks)
+        (more White)
+    whole Marks more =
+        ap₂ (λ (xs zs : List Event). cond (b == m) xs (exit name p ∷ enter n.SpaceOrTab p ∷ zs)) (more Marks)
+        (more White)
+    whole White more =
+        ap₂ (λ (xs zs : List Event). cond (b == m) (exit n.SpaceOrTab p ∷ enter name p ∷ xs) zs) (more Marks)
+        (more White)
+
+    go : (t : Bool) → (b == 9) ≡ t → P b
+    go true e = subst P (sym (eqb-true b 9 e)) (λ more. tab-same name run line m p ys bs dark one (more White))
+    go false e =
+        λ more. ap
+        (λ (t : Bool).
+        celled.mark_runs name (cell_run run) m
+        (cond t (tab_cells line (columns_more p) 9 p) (cell b (past_byte b p) line ∷ []) ++ ys) p) e
+        ∙ whole run more
+
+-- those of a line
+spread-same : (name : Name) (run : Run) (line : Line) (m : ℕ) (bytes : List ℕ) (p : Point) → is_white m ≡ false →
+    1 ≤ p.column → Same name run m (spread line bytes p) bytes p
+spread-same name Apart line m [] p dark one = refl
+spread-same name Marks line m [] p dark one = refl
+spread-same name White line m [] p dark one = refl
+spread-same name run line m (b ∷ bs) p dark one =
+    byte-same name run line m b p (spread line bs (past_byte b p)) bs dark one
+    (λ (r : Run). spread-same name r line m bs (past_byte b p) dark (omega arith))
+
+-- those of the rest of a line
+rest-runs : (name : Name) (line : Line) (m : ℕ) (r : Rest) (p : Point) (stop : List Cell) → is_white m ≡ false →
+    NoEnding r.bytes → Stops stop → 1 ≤ p.column → Cut r.spaces p →
+    celled.mark_runs name celled.Apart m (line_cells (rest_cells line r p ++ stop)) p ≡
+    mark_runs name Apart m (rest_line r) p
+rest-runs name line m r p stop dark h k one cut =
+    rest-same (List Event) (λ (l : List Cell). celled.mark_runs name celled.Apart m (line_cells l) p) line same r p stop
+    one cut
+    ∙ ap (λ (l : List Cell). celled.mark_runs name celled.Apart m l p)
+    (spread-line line (rest_line r) p stop (rest-no_ending r h) k)
+    ∙ spread-same name Apart line m (rest_line r) p dark one
+  where
+    tab : (9 == m) ≡ false
+    tab = tab-other m dark
+
+    space : (32 == m) ≡ false
+    space = space-other m dark
+
+    same : (at : Point) (cs : List Cell) →
+        celled.mark_runs name celled.Apart m (line_cells (cell 32 at line ∷ cs)) p ≡
+        celled.mark_runs name celled.Apart m (line_cells (cell 9 at line ∷ cs)) p
+    same at cs = rw (tab, space) refl
+
+-- The indent is the first run.
+
+-- a marker stands first
+abbrev Marked : ℕ → List Cell → Type 0
+Marked m [] = ⊥
+Marked m (c ∷ cs) = (c.byte == m) ≡ true
+
+-- in front of it whitespace ends
+marked-white : (name : Name) (m : ℕ) (c : Cell) (cs : List Cell) (p : Point) → IsMark m → (c.byte == m) ≡ true →
+    celled.mark_runs name celled.White m (line_cells (c ∷ cs)) p ≡
+    exit n.SpaceOrTab p ∷ celled.mark_runs name celled.Apart m (line_cells (c ∷ cs)) p
+marked-white name m c cs p mark e = rw (no_ending c.byte e, e) refl
+  where
+    no_ending : (b : ℕ) → (b == m) ≡ true → (b == 10) ≡ false
+    no_ending b e = subst (λ (c : ℕ). (c == 10) ≡ false) (sym (eqb-true b m e)) mark.no_ending
+
+-- so it is behind whitespace
+white-run : (name : Name) (m room : ℕ) (cells : List Cell) (p : Point) → IsMark m → Marked m (white_rest room cells) →
+    celled.mark_runs name celled.White m (line_cells cells) p ≡
+    exit n.SpaceOrTab (white_end room cells p)
+    ∷ celled.mark_runs name celled.Apart m (line_cells (white_rest room cells)) (white_end room cells p)
+white-run name m room [] p mark h = absurd h
+white-run name m zero (c ∷ cs) p mark h = marked-white name m c cs p mark h
+white-run name m (suc room) (c ∷ cs) p mark h = go (is_white c.byte) refl h (white-run name m room cs c.after mark)
+  where
+    Done : List Cell → Point → Type 0
+    Done left q =
+        celled.mark_runs name celled.White m (line_cells (c ∷ cs)) p ≡
+        exit n.SpaceOrTab q ∷ celled.mark_runs name celled.Apart m (line_cells left) q
+
+    go : (x : Bool) → is_white c.byte ≡ x → Marked m (cond x (white_rest room cs) (c ∷ cs)) →
+        (Marked m (white_rest room cs) →
+        celled.mark_runs name celled.White m (line_cells cs) c.after ≡
+        exit n.SpaceOrTab (white_end room cs c.after)
+        ∷ celled.mark_runs name celled.Apart m (line_cells (white_rest room cs)) (white_end room cs c.after)) →
+        Done (cond x (white_rest room cs) (c ∷ cs)) (cond x (white_end room cs c.after) p)
+    go true e h more = rw (white-no_ending c.byte e, white-other c.byte m e mark.dark) (more h)
+    go false e h more = marked-white name m c cs p mark h
+
+-- the indent and the runs behind it are all runs of the line
+indent-runs : (name : Name) (m room : ℕ) (cells : List Cell) (p : Point) → 1 ≤ room → IsMark m →
+    Marked m (white_rest room cells) →
+    cond (begins_white cells) (pair n.SpaceOrTab p (white_end room cells p)) []
+    ++ celled.mark_runs name celled.Apart m (line_cells (white_rest room cells)) (white_end room cells p) ≡
+    celled.mark_runs name celled.Apart m (line_cells cells) p
+indent-runs name m zero cells p some mark h = absurd (omega arith)
+indent-runs name m (suc room) [] p some mark h = absurd h
+indent-runs name m (suc room) (c ∷ cs) p some mark h = go (is_white c.byte) refl h
+  where
+    go : (x : Bool) → is_white c.byte ≡ x → Marked m (cond x (white_rest room cs) (c ∷ cs)) →
+        cond x (pair n.SpaceOrTab p (cond x (white_end room cs c.after) p)) []
+        ++ celled.mark_runs name celled.Apart m (line_cells (cond x (white_rest room cs) (c ∷ cs)))
+        (cond x (white_end room cs c.after) p) ≡ celled.mark_runs name celled.Apart m (line_cells (c ∷ cs)) p
+    go true e h =
+        rw (white-no_ending c.byte e, white-other c.byte m e mark.dark)
+        (ap (λ (es : List Event). enter n.SpaceOrTab p ∷ es) (sym (white-run name m room cs c.after mark h)))
+    go false e h = refl
+
+-- The marker.
+
+-- it is there if the line has a byte
+cells-marked : (cells : List Cell) (m : ℕ) → (m == 0) ≡ false → first_byte (line_bytes cells) ≡ m →
+    (first_cell cells ≡ m) × Marked m cells
+cells-marked [] m some is = none m some is
+  where
+    none : (m : ℕ) → (m == 0) ≡ false → 0 ≡ m → (0 ≡ m) × ⊥
+    none m some is = let bad : (m == 0) ≡ true = eq-eqb m 0 (sym is) in absurd (cc)
+cells-marked (c ∷ cs) m some is = go (c.byte == 10) is
+  where
+    go : (x : Bool) → first_byte (bytes_of (cond x [] (c ∷ line_cells cs))) ≡ m →
+        (c.byte ≡ m) × ((c.byte == m) ≡ true)
+    go true is = let bad : (m == 0) ≡ true = eq-eqb m 0 (sym is) in absurd (cc)
+    go false is = (is, eq-eqb c.byte m is)
+
+-- the first column of a tab
+tab-first : (line : Line) (k byte : ℕ) (p : Point) (ys : List Cell) →
+    first_byte (bytes_of (tab_cells line k byte p ++ ys)) ≡ byte
+tab-first line zero byte p ys = refl
+tab-first line (suc k) byte p ys = refl
+
+-- the first byte of a line is that of its cells
+pub spread-first : (line : Line) (bytes : List ℕ) (p : Point) →
+    first_byte (bytes_of (spread line bytes p)) ≡ first_byte bytes
+spread-first line [] p = refl
+spread-first line (b ∷ bs) p = go (b == 9) refl
+  where
+    go : (t : Bool) → (b == 9) ≡ t → first_byte (bytes_of (spread line (b ∷ bs) p)) ≡ b
+    go true e =
+        ap
+        (λ (t : Bool).
+        first_byte
+        (bytes_of
+        (cond t (tab_cells line (columns_more p) 9 p) (cell b (past_byte b p) line ∷ [])
+        ++ spread line bs (past_byte b p)))) e
+        ∙ tab-first line (columns_more p) 9 p (spread line bs (past_byte b p))
+        ∙ sym (eqb-true b 9 e)
+    go false e =
+        ap
+        (λ (t : Bool).
+        first_byte
+        (bytes_of
+        (cond t (tab_cells line (columns_more p) 9 p) (cell b (past_byte b p) line ∷ [])
+        ++ spread line bs (past_byte b p)))) e
+
+-- A whole line, behind a small indent: by its cells the runs are those by its bytes.
+pub line-adds : (name marks : Name) (options : ParseOptions) (said : Line) (text behind : List ℕ) (r : Rest) (p : Point)
+    (stop : List Cell) →
+    RestAt text behind r p → NoEnding r.bytes → Stops stop → length (rest_cells said r p ++ stop) < 2 ^ 63 →
+    has_small_indent options r ≡ true → IsMark (first_byte (trim_start r.bytes)) →
+    around name p (line_end (rest_cells said r p ++ stop) p)
+    (cond (begins_white (rest_cells said r p ++ stop))
+    (pair n.SpaceOrTab p (white_end (small_indent options) (rest_cells said r p ++ stop) p)) []
+    ++ celled.mark_runs marks celled.Apart
+    (first_cell (white_rest (small_indent options) (rest_cells said r p ++ stop)))
+    (line_cells (white_rest (small_indent options) (rest_cells said r p ++ stop)))
+    (white_end (small_indent options) (rest_cells said r p ++ stop) p)) ≡
+    around name p (past_text (rest_line r) p)
+    (mark_runs marks Apart (first_byte (trim_start (rest_line r))) (rest_line r) p)
+line-adds name marks options said text behind r p stop is h k short small mark =
+    ap₂ (λ (q : Point) (es : List Event). around name p q es) (rest-line_end said r p stop h k one is.cut) inside
+  where
+    line : List Cell
+    line = rest_cells said r p ++ stop
+
+    room : ℕ
+    room = small_indent options
+
+    left : List Cell
+    left = white_rest (small_indent options) (rest_cells said r p ++ stop)
+
+    q : Point
+    q = white_end (small_indent options) (rest_cells said r p ++ stop) p
+
+    m : ℕ
+    m = first_byte (trim_start r.bytes)
+
+    one : 1 ≤ p.column
+    one = let column = is.column in omega arith
+
+    begins : (first_cell left ≡ m) × Marked m left
+    begins =
+        cells-marked left m mark.some
+        (ap first_byte (small-indented options said text behind r p stop is h k short small).bytes
+        ∙ spread-first said (trim_start r.bytes) q)
+
+    inside :
+        cond (begins_white line) (pair n.SpaceOrTab p q) []
+        ++ celled.mark_runs marks celled.Apart (first_cell left) (line_cells left) q ≡
+        mark_runs marks Apart (first_byte (trim_start (rest_line r))) (rest_line r) p
+    inside =
+        ap
+        (λ (c : ℕ).
+        cond (begins_white line) (pair n.SpaceOrTab p q) []
+        ++ celled.mark_runs marks celled.Apart c (line_cells left) q)
+        begins.0
+        ∙ indent-runs marks m room line p (small-some options) mark begins.1
+        ∙ rest-runs marks said m r p stop mark.dark h k one is.cut
+        ∙ ap (λ (l : List ℕ). mark_runs marks Apart (first_byte l) (rest_line r) p) (sym (rest-trim r))

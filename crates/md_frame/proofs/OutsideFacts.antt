@@ -1,0 +1,31 @@
+-- Events among which no part of some names begins, or ends.
+--
+-- A resolver asks for the begins of the parts that it rewrites, and it is registered where such a part ends.
+use Rattle.std.proofs.Common.{◌≡◌, Bool, false, ◌&&◌, List, [], ◌∷◌, ◌++◌, refl, ap}
+use Rattle.md_engine.specs.declared.event.Event.{Event}
+use Rattle.md_engine.specs.declared.event.Name.{Name}
+use Rattle.md_seam.specs.Events.Nested.{is_enter, is_exit}
+use Rattle.md_frame.specs.Resolving.{is_own, resolved}
+use Rattle.md_frame.proofs.EachEvent.{Each, each-append}
+
+-- no part with such a name ends with an event
+abbrev pub IsNoEnd : (Name → Bool) → Event → Type 0
+IsNoEnd is_name e = (is_exit e.kind && is_name e.name) ≡ false
+
+abbrev pub NoEnds : (Name → Bool) → List Event → Type 0
+NoEnds is_name es = Each (IsNoEnd is_name) es
+
+-- no part begins with it that a resolver rewrites
+abbrev pub IsOutside : Event → Type 0
+IsOutside e = (is_enter e.kind && is_own e.name) ≡ false
+
+abbrev pub AreOutside : List Event → Type 0
+AreOutside es = Each IsOutside es
+
+pub outside-append : (xs ys : List Event) → AreOutside xs → AreOutside ys → AreOutside (xs ++ ys)
+outside-append xs ys h k = each-append IsOutside xs ys h k
+
+-- resolvers pass them
+pub resolved-outside : (xs ys : List Event) → AreOutside xs → resolved (xs ++ ys) ≡ xs ++ resolved ys
+resolved-outside [] ys h = refl
+resolved-outside (e ∷ xs) ys h = rw h.0 (ap (λ (l : List Event). e ∷ l) (resolved-outside xs ys h.1))

@@ -1,0 +1,113 @@
+-- What is known of the events that stand in front of the content of a container on a line, from the point where they
+-- begin to the one where its content does: the frame needs no more of a container.
+use Rattle.std.proofs.Common.{◌≡◌, ◌≢◌, ℕ, ◌≤◌, Bool, true, false, List, [], ◌∷◌, ◌++◌}
+use Rattle.std.specs.Prelude.{◌==◌}
+use Rattle.md_engine.specs.declared.event.Event.{Event}
+use Rattle.md_engine.specs.declared.event.Point.{Point}
+use Rattle.md_containers.specs.ItemsStand.{is_item_shape}
+use Rattle.md_containers.proofs.UnlistedLemmas.{NoListing, StandsTo, Unlists, among}
+use Rattle.md_meaning.specs.State.{Container}
+use Rattle.md_seam.specs.Events.Grammar.{Expression, behind_block, blocks}
+use Rattle.md_seam.specs.Events.Nested.{enter}
+use Rattle.md_seam.specs.Events.Spelled.{ContainerRole, Reading, byte_at, read}
+use Rattle.md_meaning.specs.Rest.{is_blank}
+use Rattle.md_meaning.specs.Tree.{End}
+use Rattle.std.specs.Prelude.{None}
+use Rattle.md_frame.specs.Around.{around_of}
+use Rattle.md_frame.proofs.CollectFacts.{Collects}
+use Rattle.md_seam.proofs.EndingsLemmas.{AreOthers}
+use Rattle.md_seam.proofs.GrammarLemmas as grammar
+use Rattle.md_outline.specs.Between.{is_between}
+use Rattle.md_frame.specs.ContainerNames.{container_name, shape_of}
+use Rattle.md_frame.proofs.BetweenFacts.{AreBetween}
+use Rattle.md_seam.specs.declared.inline.PartKind.{PartKind}
+use Rattle.md_frame.proofs.PartsStand.{Inside}
+use Rattle.md_frame.proofs.PiecesLemmas.{Covered}
+use Rattle.md_frame.proofs.PrefixNames.{AreFront, ArePrefixes}
+use Rattle.md_frame.proofs.SpanLemmas.{Nested_in}
+use Rattle.md_frame.proofs.PieceFacts.{PiecesValid}
+use Rattle.md_frame.proofs.PartedFacts.{PrefixesAtLineStart, clear}
+use Rattle.md_frame.proofs.PlainFacts.{ArePlain}
+use Rattle.md_frame.proofs.PartFacts.{NoLinks, NoParts}
+use Rattle.md_frame.proofs.Reached.{PartsText}
+use Rattle.md_frame.proofs.ReadAs.{ReadAs, Same}
+use Rattle.md_frame.proofs.ContainerNames.{TakesData, TakesPrefixes}
+use Rattle.md_outline.specs.Roles.{is_plain}
+
+-- a container begins in what is read
+abbrev pub begins : Container → Reading → Reading
+begins c r = record r { outer = around_of c r.here ∷ r.outer; here = End }
+
+-- where it goes on, and where it opens
+pub record PrefixFacts (bytes : List ℕ) (p q : Point) (es : List Event) : Type 0 where
+  -- they nest, go forward, and stay on one line
+  pub nested : Nested_in p q es
+  pub line : q.line ≡ p.line
+  -- they cover what stands there
+  pub tiled : Covered p q es
+  -- their pieces are over what their names say
+  pub stood : PiecesValid bytes es
+  -- no ending stands in them, and no begin or end of a leaf
+  pub others : AreOthers es
+  -- they begin where no tab of a character is cut, if they end so
+  pub clear : clear bytes q ≡ true → clear bytes p ≡ true
+  -- they stand between characters, if they begin so
+  pub between : is_between bytes p.index ≡ true → AreBetween bytes es × (is_between bytes q.index ≡ true)
+
+-- whether there are none
+abbrev pub is_bare : List Event → Bool
+is_bare [] = true
+is_bare (e ∷ es) = false
+
+-- where it goes on
+pub record Continues (bytes : List ℕ) (p q : Point) (es : List Event) : Type 0 where
+  pub common : PrefixFacts bytes p q es
+  -- they take columns, if there are any
+  pub onward : p.column ≤ q.column
+  pub bare : is_bare es ≡ (q.column == p.column)
+  -- they have names of prefixes
+  pub names : ArePrefixes es
+  -- they keep the grammar, in front of blocks and of a further line of a leaf
+  pub stays : (text x : Expression) → TakesPrefixes x → grammar.Leads text (x ∷ []) (x ∷ []) es
+  -- a text goes on behind them
+  pub parted : PartsText bytes p q es
+  -- they may stand in a text part
+  pub inside : (kind : PartKind) → Inside bytes kind [] es
+  -- of a text that goes on behind them, they leave whitespace alone
+  pub collects : (ys : List Event) (end : ℕ) (all : List ℕ) → Collects bytes ys (byte_at q) end all →
+      (white : List ℕ) × (is_blank white ≡ true) × Collects bytes (es ++ ys) (byte_at p) end (white ++ all)
+
+-- where it opens, behind its begin, be the text parts of these events read or not
+pub record Opens (bytes : List ℕ) (c : Container) (p q : Point) (es : List Event) : Type 0 where
+  pub common : PrefixFacts bytes p q es
+  pub names : AreFront es
+  -- an outline knows them, and a text that begins in them ends in them
+  pub plain : ArePlain bytes es
+  pub sits : PrefixesAtLineStart bytes es
+  -- with the begin of the container, they keep the grammar of events without lists
+  pub leads : (text : Expression) → TakesData text →
+      Unlists text (blocks ∷ []) (blocks ∷ behind_block ∷ []) (enter (container_name c) p ∷ es)
+  -- blocks may stand in it behind them, and an item tells its marker
+  pub stands : (held : List Bool) →
+      StandsTo bytes (among held) (among (is_item_shape (shape_of c) ∷ held)) (enter (container_name c) p ∷ es)
+  -- no item and no list is among them
+  pub unlisted : NoListing es
+  -- the container is read, and they are not
+  pub read : (r : Reading) → r.text ≡ None → read bytes r (enter (container_name c) p ∷ es) ≡ begins c r
+  -- an outline shows the container
+  pub shown : is_plain (ContainerRole (shape_of c)) ≡ true
+  -- there are some
+  pub some : es ≢ []
+
+-- where it opens, before its text parts are read, and once they are
+pub record OpensRead (bytes : List ℕ) (c : Container) (p q : Point) (es : List Event) : Type 0 where
+  pub unread : Opens bytes c p q es
+  pub done : List Event
+  pub read : Opens bytes c p q done
+  pub reads : ReadAs bytes es done
+
+-- where none of them is read later
+pub opens-same : (bytes : List ℕ) (c : Container) (p q : Point) (es : List Event) → Opens bytes c p q es →
+    NoLinks es → NoParts es → OpensRead bytes c p q es
+opens-same bytes c p q es is unlinked no_parts =
+    record { unread = is; done = es; read = is; reads = Same es unlinked no_parts }

@@ -1,0 +1,7 @@
+-- The room of frontmatter: what its rule takes of the cells of a line, and what is known of its events.
+pub mod Found
+pub mod Lines
+pub mod Parts
+pub mod Shifted
+pub mod Taken
+pub mod Whole

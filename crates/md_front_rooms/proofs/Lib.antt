@@ -1,0 +1,2 @@
+pub mod FrontAgrees
+pub mod Frontmatter

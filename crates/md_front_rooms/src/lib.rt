@@ -1,0 +1,2 @@
+// The room of frontmatter.
+#![tactic(auto)]

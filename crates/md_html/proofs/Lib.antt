@@ -1,0 +1,15 @@
+pub mod HtmlBytes
+pub mod HtmlContinuation
+pub mod HtmlEnds
+pub mod HtmlTermination
+pub mod HtmlKinds
+pub mod HtmlLines
+pub mod HtmlMoves
+pub mod HtmlNames
+pub mod HtmlOpening
+pub mod HtmlSpread
+pub mod HtmlMeaning
+pub mod HtmlTag
+pub mod HtmlTagName
+pub mod HtmlTags
+pub mod HtmlWhole

@@ -1,0 +1,27 @@
+use Rattle.std.proofs.Common.{rules, ◌≡◌, ℕ, Some, false, refl, ap, sym, ◌∙◌, nat_eq}
+use Rattle.std.proofs.lemmas.Bool.{eq-eqb}
+use Rattle.md_engine.specs.World.{World, world}
+use Rattle.md_html.specs.Html.{continuation_transition, moved, stop_move}
+use Rattle.md_html.proofs.html_flow.continuation.Goals as goal
+use Rattle.md_seam.specs.Transition.{Transition}
+
+-- at the byte with which an end may begin
+at-stop : (w : World) (b : ℕ) → w.current ≡ Some b → nat_eq b 10 ≡ false → b ≡ w.scratch.marker →
+    continuation_transition w ≡ moved w (stop_move w.scratch)
+at-stop w b e k m = rw (e, k, eq-eqb b w.scratch.marker m) refl
+
+pub returns-then-byte-tokenizer-clause-to : goal.returns-then-byte-tokenizer-clause-to
+returns-then-byte-tokenizer-clause-to c fine =
+    let line : nat_eq c.in-Some.byte 10 ≡ false = search rules in
+    c.at_stop.ensures.to
+    ∙ sym
+    (ap (λ (t : Transition). t.to)
+    (at-stop (world c.args.tokenizer.now) c.in-Some.byte c.in-Some.is line c.if-byte-tokenizer.true))
+
+pub returns-then-byte-tokenizer-clause-world : goal.returns-then-byte-tokenizer-clause-world
+returns-then-byte-tokenizer-clause-world c fine =
+    let line : nat_eq c.in-Some.byte 10 ≡ false = search rules in
+    c.at_stop.ensures.world
+    ∙ sym
+    (ap (λ (t : Transition). t.world)
+    (at-stop (world c.args.tokenizer.now) c.in-Some.byte c.in-Some.is line c.if-byte-tokenizer.true))

@@ -1,0 +1,123 @@
+-- The laws of ATX headings.
+use Rattle.md_engine.specs.declared.tokenizer.held_leaf.HeldLeaf.TheVariants as held_leaf
+use Rattle.std.proofs.Common.{◌≡◌, ℕ, true, List, ◌&&◌, refl, sym, ap, ◌∙◌, subst}
+use Rattle.std.specs.Prelude.{Some}
+use Rattle.std.proofs.lemmas.Bool.{and_parts}
+use Rattle.md_engine.specs.declared.configuration.ParseOptions.{ParseOptions}
+use Rattle.md_engine.specs.declared.event.Event.{Event}
+use Rattle.md_engine.specs.declared.event.Name.TheVariants as n
+use Rattle.md_engine.specs.declared.event.Point.{Point}
+use Rattle.md_leaves.specs.HeadingRule.{is_heading}
+use Rattle.md_leaves.specs.HeadingTitle.{title_of, unread_title}
+use Rattle.md_seam.specs.Events.Places.{past_text}
+use Rattle.md_seam.specs.Events.Spelled.{OfHeadingAtx}
+use Rattle.md_meaning.specs.Rest.{Rest, has_small_indent, trim_start}
+use Rattle.md_frame.specs.RestLine.{rest_line}
+use Rattle.md_leaf_rooms.specs.Leaf.HeadingAtx.{heading_leaf, read_title}
+use Rattle.md_frame.proofs.FillFacts.{fill-around}
+use Rattle.md_leaf_rooms.proofs.HeadingAtx.Between.{heading-between}
+use Rattle.md_leaf_rooms.proofs.HeadingAtx.Cells.{heading-adds, heading-fits}
+use Rattle.md_leaf_rooms.proofs.HeadingAtx.Endings.{read-ending, unread-ending}
+use Rattle.md_leaf_rooms.proofs.HeadingAtx.Nested.{read-nested, unread-nested}
+use Rattle.md_leaf_rooms.proofs.HeadingAtx.NoContent.{heading-no_content}
+use Rattle.md_leaf_rooms.proofs.HeadingAtx.Parted.{heading-sits}
+use Rattle.md_leaf_rooms.proofs.HeadingAtx.Pieces.{read-stood, unread-stood}
+use Rattle.md_leaf_rooms.proofs.HeadingAtx.Plain.{heading-plain}
+use Rattle.md_leaf_rooms.proofs.HeadingAtx.Spelled.{heading-reads}
+use Rattle.md_leaf_rooms.proofs.HeadingAtx.Stands.{read-parts, unread-parts}
+use Rattle.md_leaf_rooms.proofs.HeadingAtx.Texts.{fill-title, heading-resolved, stands-title}
+use Rattle.md_leaf_rooms.proofs.HeadingAtx.Tiled.{heading-tiled}
+use Rattle.md_leaf_rooms.proofs.HeadingAtx.Trial.{trial-looked, trial-refused, trial-shrinks, trial-took}
+use Rattle.md_leaf_rooms.proofs.HeadingAtx.Names.{heading-unspanned, heading-unturned}
+use Rattle.md_leaf_rooms.proofs.HeadingAtx.Words.{read-word, unread-word}
+use Rattle.md_frame.proofs.LeafFacts.{LeafFacts, LineAt}
+use Rattle.md_frame.proofs.LeafLaws.{LeafLaws}
+use Rattle.md_frame.proofs.LeafStands.{around-unlisted, leaf-stands}
+use Rattle.md_frame.proofs.PartsStand.{stands-around}
+use Rattle.md_frame.proofs.PiecesLemmas.{Covered}
+use Rattle.md_frame.proofs.RestFacts.{rest-trim}
+use Rattle.md_frame.proofs.SpanLemmas.{Nested_in}
+use Rattle.md_leaf_rooms.proofs.HeadingAtx.Outside.{heading-own}
+
+-- the line of a heading begins with its markers, behind whitespace
+line-begins : (options : ParseOptions) (r : Rest) → heading_leaf.starts options held_leaf.None r ≡ true →
+    is_heading (trim_start (rest_line r)) ≡ true
+line-begins options r starts =
+    ap is_heading (rest-trim r)
+    ∙ (and_parts (options.constructs.heading_atx && has_small_indent options r)
+    (is_heading (trim_start r.bytes)) starts).1
+
+-- what is known of its events
+heading-facts : (options : ParseOptions) (bytes : List ℕ) (r : Rest) (p q : Point) →
+    heading_leaf.starts options held_leaf.None r ≡ true → LineAt bytes r (rest_line r) p q →
+    LeafFacts bytes (Some (heading_leaf.block r)) true p q (heading_leaf.unread (rest_line r) p)
+    (heading_leaf.done bytes (rest_line r) p)
+heading-facts options bytes r p q starts is = record {
+  unread_nested = subst (λ (e : Point). Nested_in p e unread) (sym is.end) (unread-nested line p);
+  nested = subst (λ (e : Point). Nested_in p e done) (sym is.end) (read-nested bytes line p);
+  tiled = subst (λ (e : Point). Covered p e unread) (sym is.end) (heading-tiled line p);
+  unread_stood = unread-stood bytes r line p q is begins;
+  stood = read-stood bytes r line p q is begins;
+  behind = true;
+  unread_word = unread-word line p begins;
+  word = read-word bytes line p begins;
+  unread_ending = unread-ending line p;
+  ending = read-ending bytes r line p q is;
+  unread_unlisted =
+      around-unlisted n.HeadingAtx p (past_text line p) (unread_title (title_of line p)) refl (unread-parts line p);
+  unlisted =
+      around-unlisted n.HeadingAtx p (past_text line p) (read_title bytes (title_of line p)) refl
+      (read-parts bytes line p);
+  stands =
+      λ held. leaf-stands bytes held n.HeadingAtx OfHeadingAtx p (past_text line p)
+      (read_title bytes (title_of line p)) refl (read-parts bytes line p);
+  parts =
+      stands-around bytes n.HeadingAtx p (past_text line p) (unread_title (title_of line p)) refl
+      (stands-title bytes r line p q is);
+  filled =
+      fill-around bytes n.HeadingAtx p (past_text line p) (unread_title (title_of line p))
+      (read_title bytes (title_of line p)) refl (fill-title bytes line p);
+  between = λ first last. heading-between bytes r line p q is first last;
+  parted = heading-sits bytes line p;
+  plain = λ h. heading-plain bytes line p h;
+  reads = λ o text leaf. heading-reads bytes r line p q o is begins text leaf;
+}
+  where
+    line : List ℕ
+    line = rest_line r
+
+    unread : List Event
+    unread = heading_leaf.unread line p
+
+    done : List Event
+    done = heading_leaf.done bytes line p
+
+    begins : is_heading (trim_start (rest_line r)) ≡ true
+    begins = line-begins options r starts
+
+-- All that the frame asks of headings.
+pub heading-laws : LeafLaws heading_leaf
+heading-laws = record {
+  looked = λ options on. trial-looked options;
+  took = λ options cells h is few. trial-took options cells h is;
+  refused = λ options cells h asked. trial-refused options cells h;
+  meets = λ options on r starts further. cc;
+  shrinks = trial-shrinks;
+  fits = λ options on. heading-fits options;
+  adds_is = λ options on. heading-adds options;
+  keeps_is = λ options on said text behind r p stop at none ends short starts. refl;
+  shut = λ ends options on. (λ cells p. refl, λ r. refl);
+  finishes = λ ends options leaf r. refl;
+  holds_is = λ options leaf r starts. refl;
+  not_lazy = λ options on. (λ cells p. refl, λ r. refl);
+  no_content = λ wants only options on. heading-no_content wants only.text options;
+  set =
+      λ ends options on r p es starts. heading-resolved (rest_line r) p (past_text (rest_line r) p) es
+      (line-begins options r starts);
+  own = λ options on. heading-own options;
+  outside = λ open_leaf options on r p starts. cc;
+  unturned_line = λ open_leaf options on r p starts lines. absurd (cc);
+  unturned = λ ends options on r p starts. heading-unturned (rest_line r) p;
+  unspanned = λ ends options on r p starts. heading-unspanned (rest_line r) p;
+  facts = λ ends options on. heading-facts options;
+}

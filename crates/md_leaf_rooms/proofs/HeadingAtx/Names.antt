@@ -1,0 +1,93 @@
+-- The names of the events of a heading: it is no leaf of several lines, no text and no underline, nor is any of its
+-- parts.
+use Rattle.std.proofs.Common.{◌≡◌, ℕ, ◌+◌, Bool, true, false, cond, List, [], ◌∷◌, ◌++◌, drop, length, refl, take}
+use Rattle.std.specs.Prelude.{Option, Some, None}
+use Rattle.md_engine.specs.declared.event.Event.{Event}
+use Rattle.md_engine.specs.declared.event.Name.TheVariants as n
+use Rattle.md_engine.specs.declared.event.Point.{Point}
+use Rattle.md_leaves.specs.HeadingRule.{Apart, Hashes, Run, Text as TextRun, White, begun, closes, goes_on, opens}
+use Rattle.md_leaves.specs.HeadingText.{linked_text}
+use Rattle.md_leaves.specs.HeadingTitle.{Title, front_len, line_runs, text_of, title_of, unread_title}
+use Rattle.md_seam.specs.declared.inline.Chunk.{Chunk}
+use Rattle.md_seam.specs.Events.Nested.{exit}
+use Rattle.md_seam.specs.Events.Places.{past_byte, past_text}
+use Rattle.md_leaf_rooms.specs.Leaf.HeadingAtx.{heading_leaf}
+use Rattle.md_frame.proofs.EachEvent.{Each, each-append}
+use Rattle.md_leaf_rooms.proofs.HeadingAtx.Places.{text_end}
+use Rattle.md_frame.proofs.SpannedFacts.{AreUnspanned, IsUnspanned}
+use Rattle.md_frame.proofs.UnturnedFacts.{AreUnturned, IsUnturned}
+
+-- what holds of an event of each of these names, whatever else it is
+record OfNames (P : Event → Type 0) : Type 0 where
+  heading : (e : Event) → e.name ≡ n.HeadingAtx → P e
+  white : (e : Event) → e.name ≡ n.SpaceOrTab → P e
+  hashes : (e : Event) → e.name ≡ n.HeadingAtxSequence → P e
+  text : (e : Event) → e.name ≡ n.HeadingAtxText → P e
+  chunk : (e : Event) → e.name ≡ n.Data → P e
+
+closes-each : (P : Event → Type 0) → OfNames P → (run : Run) (p : Point) → Each P (closes run p)
+closes-each P of Apart p = tt
+closes-each P of White p = (of.white _ refl, tt)
+closes-each P of Hashes p = (of.hashes _ refl, tt)
+closes-each P of TextRun p = (of.chunk _ refl, tt)
+
+opens-each : (P : Event → Type 0) → OfNames P → (run : Run) (p : Point) → Each P (opens run p)
+opens-each P of Apart p = tt
+opens-each P of White p = (of.white _ refl, tt)
+opens-each P of Hashes p = (of.hashes _ refl, tt)
+opens-each P of TextRun p = (of.chunk _ refl, tt)
+
+runs-each : (P : Event → Type 0) → OfNames P → (run : Run) (bs : List ℕ) (p : Point) → Each P (line_runs run bs p)
+runs-each P of run [] p = closes-each P of run p
+runs-each P of run (b ∷ bs) p =
+    go (goes_on run b) (runs-each P of run bs (past_byte b p)) (runs-each P of (begun b) bs (past_byte b p))
+  where
+    next : List Event
+    next = line_runs (begun b) bs (past_byte b p)
+
+    go : (more : Bool) → Each P (line_runs run bs (past_byte b p)) → Each P next →
+        Each P (cond more (line_runs run bs (past_byte b p)) (closes run p ++ opens (begun b) p ++ next))
+    go true same other = same
+    go false same other =
+        each-append P (closes run p ++ opens (begun b) p) next
+        (each-append P (closes run p) (opens (begun b) p) (closes-each P of run p) (opens-each P of (begun b) p)) other
+
+text-each : (P : Event → Type 0) → OfNames P → (text : Option Chunk) → Each P (linked_text text)
+text-each P of None = tt
+text-each P of (Some chunk) = (of.text _ refl, (of.chunk _ refl, (of.chunk _ refl, (of.text _ refl, tt))))
+
+title-each : (P : Event → Type 0) → OfNames P → (line : List ℕ) (p : Point) →
+    Each P (unread_title (title_of line p))
+title-each P of line p =
+    let title : Title = title_of line p in
+    each-append P (title.front ++ linked_text title.text) title.back
+    (each-append P title.front (linked_text title.text) (runs-each P of Apart (take (front_len line) line) p)
+    (text-each P of title.text))
+    (runs-each P of Apart (drop (front_len line + length (text_of line)) line) (text_end line p))
+
+heading-each : (P : Event → Type 0) → OfNames P → (line : List ℕ) (p : Point) → Each P (heading_leaf.unread line p)
+heading-each P of line p = (
+  of.heading _ refl,
+  each-append P (unread_title (title_of line p)) (exit n.HeadingAtx (past_text line p) ∷ []) (title-each P of line p)
+      (of.heading _ refl, tt),
+)
+
+pub heading-unspanned : (line : List ℕ) (p : Point) → AreUnspanned (heading_leaf.unread line p)
+heading-unspanned = heading-each IsUnspanned
+    (record {
+      heading = λ e is. rw is refl;
+      white = λ e is. rw is refl;
+      hashes = λ e is. rw is refl;
+      text = λ e is. rw is refl;
+      chunk = λ e is. rw is refl;
+    })
+
+pub heading-unturned : (line : List ℕ) (p : Point) → AreUnturned (heading_leaf.unread line p)
+heading-unturned = heading-each IsUnturned
+    (record {
+      heading = λ e is. rw is refl;
+      white = λ e is. rw is refl;
+      hashes = λ e is. rw is refl;
+      text = λ e is. rw is refl;
+      chunk = λ e is. rw is refl;
+    })

@@ -1,0 +1,96 @@
+-- Where the parts of a heading stand, on its line and in a text.
+use Rattle.std.proofs.Common.{◌≡◌, ℕ, ◌+◌, List, [], ◌∷◌, ◌++◌, length, take, drop, refl, ap, sym, ◌∙◌, subst, take-add}
+use Rattle.std.proofs.Common.{true, ◌<◌, slice_range, arith}
+use Rattle.std.specs.Prelude.{IsTrue}
+use Rattle.std.proofs.lemmas.Bool.{and_from}
+use Rattle.std.proofs.lemmas.List.{length-take-le, take-append-drop}
+use Rattle.md_engine.specs.declared.event.Point.{Point}
+use Rattle.md_leaves.specs.HeadingTitle.{front_len, text_of}
+use Rattle.md_leaves.proofs.TitleLemmas.{title-fits, title-text}
+use Rattle.md_seam.specs.Events.Inline.{are_lines, is_one_line}
+use Rattle.md_seam.specs.Events.Places.{at_or_before, past_text, same_place}
+use Rattle.md_meaning.specs.Rest.{Rest}
+use Rattle.md_meaning.specs.Texts.{split_lines}
+use Rattle.md_seam.proofs.FeedLines.{slice-inside}
+use Rattle.md_seam.proofs.InlineLemmas.{before-text, past-index, past_text-append, same-refl}
+use Rattle.md_meaning.proofs.TextsLemmas.{NoEnding, no_ending-drop}
+use Rattle.md_frame.proofs.LeafFacts.{LineAt}
+use Rattle.md_frame.proofs.LineTexts.{no_ending-parts, one-last}
+
+-- On its line.
+
+-- where its text begins, and where it ends
+abbrev pub text_begin : List ℕ → Point → Point
+text_begin line p = past_text (take (front_len line) line) p
+
+abbrev pub text_end : List ℕ → Point → Point
+text_end line p = past_text (take (front_len line + length (text_of line)) line) p
+
+-- the bytes of the text, and those behind it
+abbrev pub text_bytes : List ℕ → List ℕ
+text_bytes line = take (length (text_of line)) (drop (front_len line) line)
+
+abbrev pub back_bytes : List ℕ → List ℕ
+back_bytes line = drop (front_len line + length (text_of line)) line
+
+-- the text ends behind its bytes, and the line behind those that are left
+pub text-end-is : (line : List ℕ) (p : Point) → text_end line p ≡ past_text (text_bytes line) (text_begin line p)
+text-end-is line p =
+    ap (λ (l : List ℕ). past_text l p) (take-add (front_len line) (length (text_of line)) line)
+    ∙ past_text-append (take (front_len line) line) (text_bytes line) p
+
+pub line-end-is : (line : List ℕ) (p : Point) → past_text line p ≡ past_text (back_bytes line) (text_end line p)
+line-end-is line p =
+    let size : ℕ = front_len line + length (text_of line) in
+    ap (λ (l : List ℕ). past_text l p) (sym (take-append-drop size line))
+    ∙ past_text-append (take size line) (drop size line) p
+
+-- the text ends no earlier than it begins
+pub text-order : (line : List ℕ) (p : Point) → IsTrue (at_or_before (text_begin line p) (text_end line p))
+text-order line p =
+    subst (λ (q : Point). IsTrue (at_or_before (text_begin line p) q)) (sym (text-end-is line p))
+    (before-text (text_bytes line) (text_begin line p))
+
+-- In a text.
+
+-- the bytes between its begin and its end are the text of the heading
+pub record IsTitle (bytes line : List ℕ) (p : Point) : Type 0 where
+  pub slice : slice_range bytes (text_begin line p).index (text_end line p).index ≡ text_of line
+  pub no_ending : NoEnding (text_of line)
+
+-- so it is in a line with a heading
+pub title-is : (bytes : List ℕ) (r : Rest) (line : List ℕ) (p q : Point) → LineAt bytes r line p q →
+    IsTitle bytes line p
+title-is bytes r line p q is =
+    let first : ℕ = front_len line in
+    let text : List ℕ = text_of line in
+    let size : ℕ = length text in
+    let fits = title-fits line in
+    let from : (text_begin line p).index ≡ p.index + first = past-index (take first line) p
+    ∙ ap (λ (k : ℕ). p.index + k) (length-take-le first line (omega (arith, fits))) in
+    let to : (text_end line p).index ≡ p.index + (first + size) = past-index (take (first + size) line) p
+    ∙ ap (λ (k : ℕ). p.index + k) (length-take-le (first + size) line fits) in
+    let sum : p.index + (first + size) ≡ p.index + first + size = omega arith in
+    let parts : drop first line ≡ text ++ drop size (drop first line) = sym (take-append-drop size (drop first line))
+    ∙ ap (λ (l : List ℕ). l ++ drop size (drop first line)) (title-text line) in
+    let behind : NoEnding (drop first line) = no_ending-drop first line is.no_ending in
+    record {
+      slice =
+          ap (λ (k : ℕ). slice_range bytes k (text_end line p).index) from
+          ∙ ap (slice_range bytes (p.index + first)) (to ∙ sum)
+          ∙ slice-inside bytes line p.index q.index first size is.text is.size fits
+          ∙ title-text line;
+      no_ending = (no_ending-parts text (drop size (drop first line)) (subst NoEnding parts behind)).0;
+    }
+
+-- and it is a line
+pub title-lines : (bytes : List ℕ) (r : Rest) (line : List ℕ) (p q : Point) → LineAt bytes r line p q →
+    0 < length (text_of line) →
+    are_lines bytes (text_end line p) (record { first = text_begin line p; after = text_end line p } ∷ []) ≡ true
+title-lines bytes r line p q is some =
+    let end : Point = text_end line p in
+    let title : IsTitle bytes line p = title-is bytes r line p q is in
+    and_from _ _
+    (ap (λ (l : List ℕ). is_one_line (split_lines l) (same_place end end)) title.slice
+    ∙ one-last (text_of line) some title.no_ending (same_place end end) (same-refl end))
+    refl

@@ -1,0 +1,51 @@
+-- The trial of a heading takes a line to its end, or refuses it.
+use Rattle.md_engine.specs.declared.tokenizer.held_leaf.HeldLeaf.TheVariants as held_leaf
+use Rattle.std.proofs.Common.{◌≡◌, ℕ, ◌≤◌, true, false, List, Some, length, refl, sym, ◌∙◌, arith}
+use Rattle.std.proofs.lemmas.Bool.Decides.{nat_tests}
+use Rattle.md_engine.specs.declared.configuration.ParseOptions.{ParseOptions}
+use Rattle.md_engine.specs.declared.event.Name.TheVariants.{HeadingAtx}
+use Rattle.md_engine.specs.Meaning.{Cell, Here, Refuses}
+use Rattle.md_leaves.specs.Heading.{may_begin}
+use Rattle.md_leaves.specs.HeadingRule.{before_opening, heading_at, in_heading, is_heading, is_heading_line}
+use Rattle.md_leaves.proofs.HeadingWhole.{heading-refused, heading-taken}
+use Rattle.md_leaves.proofs.LeafStart.{rule-refused}
+use Rattle.md_seam.specs.Ahead.{line_bytes}
+use Rattle.md_seam.specs.Look.{seen_behind}
+use Rattle.md_seam.specs.Spaces.{IsRest, small_indent}
+use Rattle.md_seam.proofs.SpacesTermination.{rest-calm}
+use Rattle.md_leaf_rooms.specs.Leaf.HeadingAtx.{heading_leaf}
+use Rattle.md_frame.proofs.FromEnding.{from_ending-again, from_ending-shrinks}
+use Rattle.md_frame.proofs.LeafLaws.{Shrinks, cond-shrinks, whole_line}
+use Rattle.md_frame.proofs.LeafStarts.{start-shrinks}
+
+-- a line where another byte than `#` stands first behind whitespace holds no heading
+pub trial-looked : (options : ParseOptions) (cells : List Cell) (b : ℕ) → seen_behind cells ≡ Some b →
+    may_begin b ≡ false → is_heading_line options cells ≡ false
+trial-looked options cells b seen e =
+    rule-refused may_begin options.constructs.heading_atx is_heading (small_indent options) cells b refl
+    (λ c bytes k. rw k refl) (λ c white. grind (arith, nat_tests)) seen e
+
+-- a line that holds a heading is taken
+pub trial-took : (options : ParseOptions) (cells : List Cell) (h : Here) → IsRest h.scratch →
+    is_heading_line options cells ≡ true →
+    heading_at options cells h ≡
+    whole_line (heading_leaf.adds options held_leaf.None cells h.point) h.flags.leaf false cells h
+trial-took options cells h is e = heading-taken options cells h (rest-calm h.scratch is ∙ sym is) e
+
+-- any other line is refused
+pub trial-refused : (options : ParseOptions) (cells : List Cell) (h : Here) → IsRest h.scratch →
+    is_heading_line options cells ≡ false →
+    heading_at options cells h ≡ Refuses h.scratch h.flags
+trial-refused options cells h is e = heading-refused options cells h (rest-calm h.scratch is ∙ sym is) e
+
+-- what is left of a line is no longer than it was, and begins with its ending
+before_opening-shrinks : (n : ℕ) (cells : List Cell) (h : Here) → length cells ≤ n → Shrinks n (before_opening cells h)
+unfolding before_opening in_heading
+before_opening-shrinks n cells h le =
+    let shorter = from_ending-shrinks cells in
+    cond-shrinks n (is_heading (line_bytes cells)) _ _ (omega arith, from_ending-again cells) tt
+
+pub trial-shrinks : (options : ParseOptions) (cells : List Cell) (h : Here) →
+    Shrinks (length cells) (heading_at options cells h)
+trial-shrinks options cells h =
+    start-shrinks HeadingAtx options.constructs.heading_atx before_opening options cells h before_opening-shrinks

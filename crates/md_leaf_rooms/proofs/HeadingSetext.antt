@@ -1,0 +1,10 @@
+-- The underline of a setext heading: what stands on its line, and its laws.
+pub mod Bytes
+pub mod Kinds
+pub mod Laws
+pub mod Line
+pub mod Registers
+pub mod Runs
+pub mod Span
+pub mod Trial
+pub mod Trimmed

@@ -1,0 +1,3 @@
+pub mod HeadingAtx
+pub mod HeadingSetext
+pub mod ThematicBreak

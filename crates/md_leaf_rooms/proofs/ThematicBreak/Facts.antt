@@ -1,0 +1,331 @@
+-- What is known of the events of a thematic break, by the bytes of its line.
+use Rattle.std.proofs.Common.{◌≡◌, ℕ, suc, ◌+◌, Bool, true, false, cond, ◌&&◌, ◌||◌, List, [], ◌∷◌, ◌++◌, drop}
+use Rattle.std.proofs.Common.{refl, ap, sym, ◌∙◌, subst, arith}
+use Rattle.std.specs.Prelude.{◌==◌, nat_le, count_by, Some}
+use Rattle.std.specs.List.{list_all, prefix_len}
+use Rattle.std.proofs.lemmas.Bool.{and_from, and_parts, eq-eqb, eqb-true, or_left, or_right}
+use Rattle.std.proofs.lemmas.Bool.Decides.{nat_tests}
+use Rattle.md_engine.specs.declared.configuration.ParseOptions.{ParseOptions}
+use Rattle.md_engine.specs.declared.event.Event.{Event}
+use Rattle.md_engine.specs.declared.event.Name.TheVariants as n
+use Rattle.md_engine.specs.declared.event.Point.{Point}
+use Rattle.md_containers.proofs.UnlistedLemmas.{NoListing}
+use Rattle.md_seam.specs.Events.Endings.{line_start, on_line}
+use Rattle.md_seam.specs.Events.Grammar.{Expression, Nothing, behind, blocks, inside, plain_text, unread_text}
+use Rattle.md_seam.specs.Events.Nested.{around}
+use Rattle.md_seam.specs.Events.Pieces.{is_run, stands_over}
+use Rattle.md_seam.specs.Events.Places.{past_byte, past_text}
+use Rattle.md_seam.specs.Events.Spelled.{OfBreak, role}
+use Rattle.md_meaning.specs.Leaves.{is_rule, is_rule_marker}
+use Rattle.md_meaning.specs.Rest.{Rest, is_white, trim_start}
+use Rattle.md_meaning.specs.Tree.{Break}
+use Rattle.md_seam.proofs.EndingsLemmas as ending
+use Rattle.md_seam.proofs.EndingsLemmas.{AreOthers, behind_leaf, in_leaf, is_other, leaf-leads, others-lead}
+use Rattle.md_seam.proofs.GrammarLemmas.{IsWord, leads-around}
+use Rattle.md_seam.proofs.SpelledLemmas.{Quiet, Roles}
+use Rattle.md_frame.proofs.EachEvent.{Each}
+use Rattle.md_frame.specs.RestLine.{rest_line}
+use Rattle.md_leaf_rooms.specs.Leaf.ThematicBreak.{break_line, first_byte}
+use Rattle.md_leaf_rooms.specs.Leaf.ThematicBreak.{is_ruled}
+use Rattle.md_frame.specs.MarkRuns.{Apart, Marks, Run, White, mark_runs}
+use Rattle.md_frame.specs.Resolving.{resolved}
+use Rattle.md_frame.proofs.BetweenFacts.{all-more, around-between, is_low, low-between, trim-low, white-low}
+use Rattle.md_frame.proofs.FillFacts.{fill-around, fill-same}
+use Rattle.md_frame.proofs.LeafFacts.{LeafFacts, LineAt}
+use Rattle.md_frame.proofs.LeafStands.{around-unlisted, leaf-stands, quiets-parts}
+use Rattle.md_frame.proofs.LineTexts.{line-stands}
+use Rattle.md_frame.proofs.MarkRuns.Each.{Holds, each-others, each-roles, line-holds, runs-hold}
+use Rattle.md_frame.proofs.OutsideFacts.{IsOutside, resolved-outside}
+use Rattle.md_frame.proofs.PartFacts.{NoLinks, NoParts, quiet-no_parts, IsUnlinked}
+use Rattle.md_frame.proofs.PartedFacts.{around-sits, quiets-still, sits-still}
+use Rattle.md_frame.proofs.PartsStand.{stands-around, stands-outside}
+use Rattle.md_frame.proofs.PieceFacts.{Starts, PiecesValid, stood-around}
+use Rattle.md_frame.proofs.PieceRuns.{AreMarks, IsMarker, marker-run, runs-nested, runs-stand, runs-start}
+use Rattle.md_frame.proofs.PieceRuns.{runs-tiled}
+use Rattle.md_frame.proofs.PiecesLemmas.{Covered, tiled-around}
+use Rattle.md_frame.proofs.PlainFacts.{plain-around, plain-quiet}
+use Rattle.md_frame.proofs.RestFacts.{rest-trim}
+use Rattle.md_frame.proofs.SpanLemmas.{Nested_in, around-nested, either}
+use Rattle.md_frame.proofs.SpannedFacts.{AreUnspanned, IsUnspanned}
+use Rattle.md_leaf_rooms.proofs.ThematicBreak.Kinds.{break-mark, first-behind, rule-first}
+use Rattle.md_seam.proofs.BreakReads.{read-break}
+
+-- its runs
+abbrev marks_of : Run → ℕ → List ℕ → Point → List Event
+marks_of run m bs p = mark_runs n.ThematicBreakSequence run m bs p
+
+-- Each event.
+
+-- what holds of its names holds of each event in it
+parts-hold : (P : Event → Type 0) → Holds P n.SpaceOrTab → Holds P n.ThematicBreakSequence → (m : ℕ) (bs : List ℕ)
+    (p : Point) → Each P (marks_of Apart m bs p)
+parts-hold P space mark m bs p = runs-hold P n.ThematicBreakSequence space mark Apart m bs p
+
+-- of each event of the whole break
+break-holds : (P : Event → Type 0) → Holds P n.ThematicBreak → Holds P n.SpaceOrTab → Holds P n.ThematicBreakSequence →
+    (line : List ℕ) (p : Point) → Each P (break_line line p)
+break-holds P around_it space mark line p =
+    line-holds P n.ThematicBreak n.ThematicBreakSequence around_it space mark (first_byte (trim_start line)) line p
+    (past_text line p)
+
+-- the tree shows none in it
+runs-quiet : (m : ℕ) (bs : List ℕ) (p : Point) → Roles Quiet (marks_of Apart m bs p)
+runs-quiet m bs p =
+    each-roles Quiet (marks_of Apart m bs p)
+    (parts-hold (λ (e : Event). Quiet (role e.name)) (λ q. tt, λ q. tt) (λ q. tt, λ q. tt) m bs p)
+
+-- none has a link
+runs-unlinked : (m : ℕ) (bs : List ℕ) (p : Point) → NoLinks (marks_of Apart m bs p)
+runs-unlinked m bs p = parts-hold IsUnlinked (λ q. refl, λ q. refl) (λ q. refl, λ q. refl) m bs p
+
+-- none ends a line
+runs-others : (m : ℕ) (bs : List ℕ) (p : Point) → AreOthers (marks_of Apart m bs p)
+runs-others m bs p =
+    each-others (marks_of Apart m bs p)
+    (parts-hold (λ (e : Event). is_other (on_line e.name) ≡ true) (λ q. refl, λ q. refl) (λ q. refl, λ q. refl) m bs p)
+
+-- none is a resolver's, so resolvers pass the break,
+pub break-set : (line : List ℕ) (p : Point) (es : List Event) →
+    resolved (break_line line p ++ es) ≡ break_line line p ++ resolved es
+break-set line p es =
+    resolved-outside (break_line line p) es
+    (break-holds IsOutside (λ q. refl, λ q. refl) (λ q. refl, λ q. refl) (λ q. refl, λ q. refl) line p)
+
+-- and so does the walk that joins the lines of leaves of several
+pub break-unspanned : (line : List ℕ) (p : Point) → AreUnspanned (break_line line p)
+break-unspanned line p =
+    break-holds IsUnspanned (λ q. refl, λ q. refl) (λ q. refl, λ q. refl) (λ q. refl, λ q. refl) line p
+
+-- What it is over.
+
+-- a marker of breaks
+rule-marker : (m : ℕ) → is_rule_marker m ≡ true → IsMarker n.ThematicBreakSequence m
+rule-marker m e ys some all = go (m == 42) refl (m == 45) refl (m == 95) refl e
+  where
+    run : (c : ℕ) → (m == c) ≡ true → is_run 1 c ys ≡ true
+    run c f = marker-run m c ys some all f
+
+    go : (x : Bool) → (m == 42) ≡ x → (y : Bool) → (m == 45) ≡ y → (z : Bool) → (m == 95) ≡ z → (x || y || z) ≡ true →
+        stands_over n.ThematicBreakSequence ys ≡ true
+    go true f y g z h e =
+        or_left (is_run 1 42 ys || is_run 1 45 ys) (is_run 1 95 ys)
+        (or_left (is_run 1 42 ys) (is_run 1 45 ys) (run 42 f))
+    go false f true g z h e =
+        or_left (is_run 1 42 ys || is_run 1 45 ys) (is_run 1 95 ys)
+        (or_right (is_run 1 42 ys) (is_run 1 45 ys) (run 45 g))
+    go false f false g true h e = or_right (is_run 1 42 ys || is_run 1 45 ys) (is_run 1 95 ys) (run 95 h)
+    go false f false g false h e = cc
+
+-- the bytes of a rule
+marks-are : (m : ℕ) (bs : List ℕ) → list_all (λ b. (b == m) || is_white b) bs ≡ true → AreMarks m bs
+marks-are m [] h = tt
+marks-are m (b ∷ bs) h =
+    let both = and_parts ((b == m) || is_white b) (list_all (λ b. (b == m) || is_white b) bs) h in
+    (both.0, marks-are m bs both.1)
+
+rule-marks : (bs : List ℕ) → is_rule bs ≡ true → AreMarks (first_byte bs) bs
+rule-marks [] e = tt
+rule-marks (m ∷ bs) e =
+    let both = (and_parts (is_rule_marker m && list_all (λ b. (b == m) || is_white b) bs)
+    (nat_le 2 (count_by (λ b. b == m) bs)) e).0 in
+    let all = (and_parts (is_rule_marker m) (list_all (λ b. (b == m) || is_white b) bs) both).1 in
+    (ap (λ (x : Bool). x || is_white m) (eq-eqb m m refl), marks-are m bs all)
+
+-- with an indent
+indent-marks : (m : ℕ) (line : List ℕ) → AreMarks m (trim_start line) → AreMarks m line
+indent-marks m [] h = tt
+indent-marks m (b ∷ line) h = go (is_white b) refl (indent-marks m line) h
+  where
+    go : (x : Bool) → is_white b ≡ x → (AreMarks m (trim_start line) → AreMarks m line) →
+        AreMarks m (drop (cond x (1 + prefix_len is_white line) 0) (b ∷ line)) → AreMarks m (b ∷ line)
+    go false e rest h = h
+    go true e rest h =
+        let next : 1 + prefix_len is_white line ≡ suc (prefix_len is_white line) = omega arith in
+        (or_right (b == m) (is_white b) e, rest (subst (λ (i : ℕ). AreMarks m (drop i (b ∷ line))) next h))
+
+-- a marker is a byte of ASCII
+marker-low : (b : ℕ) → is_rule_marker b ≡ true → is_low b ≡ true
+marker-low b h = grind (arith, nat_tests)
+
+-- and so are all bytes of a rule
+rule-low : (bytes : List ℕ) → is_rule bytes ≡ true → list_all is_low bytes ≡ true
+rule-low [] h = refl
+rule-low (m ∷ bytes) h =
+    let outer : (is_rule_marker m && list_all (λ (b : ℕ). (b == m) || is_white b) bytes ≡ true) ×
+    (nat_le 2 (count_by (λ (b : ℕ). b == m) bytes) ≡ true) =
+    and_parts (is_rule_marker m && list_all (λ (b : ℕ). (b == m) || is_white b) bytes)
+    (nat_le 2 (count_by (λ (b : ℕ). b == m) bytes)) h in
+    let inner : (is_rule_marker m ≡ true) ×
+    (list_all (λ (b : ℕ). (b == m) || is_white b) bytes ≡ true) = and_parts (is_rule_marker m)
+    (list_all (λ (b : ℕ). (b == m) || is_white b) bytes) outer.0 in
+    let low : is_low m ≡ true = marker-low m inner.0 in
+    and_from (is_low m) (list_all is_low bytes) low
+    (all-more (λ (b : ℕ). (b == m) || is_white b) is_low bytes (either low) inner.1)
+  where
+    either : is_low m ≡ true → (b : ℕ) → ((b == m) || is_white b) ≡ true → is_low b ≡ true
+    either low b h = go (b == m) refl h
+      where
+        go : (x : Bool) → (b == m) ≡ x → (x || is_white b) ≡ true → is_low b ≡ true
+        go true e h = subst (λ (c : ℕ). is_low c ≡ true) (sym (eqb-true b m e)) low
+        go false e h = white-low b h
+
+-- The grammar.
+
+-- a run that has begun, and what is left of a break behind it
+abbrev run_of : Bool → Run
+run_of true = Marks
+run_of false = White
+
+abbrev behind_run : Bool → Expression
+behind_run true = behind n.ThematicBreakSequence (inside Nothing n.ThematicBreak)
+behind_run false = behind n.SpaceOrTab (behind n.ThematicBreakSequence (inside Nothing n.ThematicBreak))
+
+runs-word : (text : Expression) (m : ℕ) (marks : Bool) (bs : List ℕ) (p : Point) →
+    IsWord text (Nothing ∷ behind_run marks ∷ []) (marks_of (run_of marks) m bs p)
+runs-word text m true [] p = record { left = behind_run true; leads = λ outer. refl; ends = refl }
+runs-word text m false [] p = record { left = behind_run false; leads = λ outer. refl; ends = refl }
+runs-word text m true (b ∷ bs) p =
+    let on = runs-word text m false bs (past_byte b p) in
+    either (IsWord text (Nothing ∷ behind_run true ∷ [])) (b == m) _ _ (runs-word text m true bs (past_byte b p))
+    (record { left = on.left; leads = on.leads; ends = on.ends })
+runs-word text m false (b ∷ bs) p =
+    let on = runs-word text m true bs (past_byte b p) in
+    either (IsWord text (Nothing ∷ behind_run false ∷ [])) (b == m) _ _
+    (record { left = on.left; leads = on.leads; ends = on.ends }) (runs-word text m false bs (past_byte b p))
+
+-- in its indent
+indent-word : (text : Expression) (m : ℕ) (bs : List ℕ) (p : Point) → is_rule_marker m ≡ true →
+    first_byte (trim_start bs) ≡ m →
+    IsWord text (Nothing ∷ behind n.SpaceOrTab (inside text n.ThematicBreak) ∷ []) (marks_of White m bs p)
+indent-word text m [] p mark first = absurd (none m mark first)
+  where
+    none : (m : ℕ) → is_rule_marker m ≡ true → 0 ≡ m → ⊥
+    none m mark first = grind (arith, nat_tests)
+indent-word text m (b ∷ bs) p mark first = go (b == m) refl (indent-word text m bs (past_byte b p) mark)
+  where
+    stack : List Expression
+    stack = Nothing ∷ behind n.SpaceOrTab (inside text n.ThematicBreak) ∷ []
+
+    go : (x : Bool) → (b == m) ≡ x →
+        (first_byte (trim_start bs) ≡ m → IsWord text stack (marks_of White m bs (past_byte b p))) →
+        IsWord text stack (marks_of White m (b ∷ bs) p)
+    go true e more =
+        let on = runs-word text m true bs (past_byte b p) in
+        rw e (record { left = on.left; leads = on.leads; ends = on.ends })
+    go false e more = rw e (more (first-behind b bs m first e))
+
+-- all of it
+break-word : (text : Expression) (m : ℕ) (bs : List ℕ) (p : Point) → is_rule_marker m ≡ true →
+    first_byte (trim_start bs) ≡ m → IsWord text (inside text n.ThematicBreak ∷ []) (marks_of Apart m bs p)
+break-word text m [] p mark first = absurd (none m mark first)
+  where
+    none : (m : ℕ) → is_rule_marker m ≡ true → 0 ≡ m → ⊥
+    none m mark first = grind (arith, nat_tests)
+break-word text m (b ∷ bs) p mark first = go (b == m) refl
+  where
+    go : (x : Bool) → (b == m) ≡ x → IsWord text (inside text n.ThematicBreak ∷ []) (marks_of Apart m (b ∷ bs) p)
+    go true e =
+        let on = runs-word text m true bs (past_byte b p) in
+        rw e (record { left = on.left; leads = on.leads; ends = on.ends })
+    go false e =
+        let on = indent-word text m bs (past_byte b p) mark (first-behind b bs m first e) in
+        rw e (record { left = on.left; leads = on.leads; ends = on.ends })
+
+-- The whole break.
+pub break-facts : (options : ParseOptions) (bytes : List ℕ) (r : Rest) (p q : Point) →
+    is_ruled options r ≡ true → LineAt bytes r (rest_line r) p q →
+    LeafFacts bytes (Some Break) true p q (break_line (rest_line r) p) (break_line (rest_line r) p)
+break-facts options bytes r p q starts at =
+    subst
+    (λ (x : Point).
+    LeafFacts bytes (Some Break) true p q (around n.ThematicBreak p x inside_of) (around n.ThematicBreak p x inside_of))
+    at.end facts
+  where
+    line : List ℕ
+    line = rest_line r
+
+    m : ℕ
+    m = first_byte (trim_start (rest_line r))
+
+    inside_of : List Event
+    inside_of = marks_of Apart (first_byte (trim_start (rest_line r))) (rest_line r) p
+
+    rule : is_rule (trim_start (rest_line r)) ≡ true
+    rule = ap is_rule (rest-trim r) ∙ (and_parts _ (is_rule (trim_start r.bytes)) starts).1
+
+    mark : is_rule_marker m ≡ true
+    mark = rule-first (trim_start (rest_line r)) rule
+
+    nested : Nested_in p q inside_of
+    nested = subst (λ (x : Point). Nested_in p x inside_of) (sym at.end) (runs-nested n.ThematicBreakSequence m line p)
+
+    tiled : Covered p q inside_of
+    tiled = subst (λ (x : Point). Covered p x inside_of) (sym at.end) (runs-tiled n.ThematicBreakSequence m line p)
+
+    quiet : Roles Quiet inside_of
+    quiet = runs-quiet m line p
+
+    unlisted : NoListing (around n.ThematicBreak p q inside_of)
+    unlisted = around-unlisted n.ThematicBreak p q inside_of refl (quiets-parts inside_of quiet)
+
+    outside : NoParts inside_of
+    outside = quiet-no_parts inside_of quiet
+
+    unlinked : NoLinks inside_of
+    unlinked = runs-unlinked m line p
+
+    text : drop p.index bytes ≡ line ++ drop q.index bytes
+    text = line-stands bytes r line p q at
+
+    first : (line : List ℕ) → is_rule (trim_start line) ≡ true → (m : ℕ) → Starts (marks_of Apart m line p)
+    first [] e m = cc
+    first (b ∷ bs) e m = runs-start n.ThematicBreakSequence m b bs p
+
+    stood : PiecesValid bytes (around n.ThematicBreak p q inside_of)
+    stood =
+        stood-around bytes n.ThematicBreak p q inside_of (first line rule m) (record {
+          ends = tiled.ends;
+          stand =
+              runs-stand bytes n.ThematicBreakSequence m line (drop q.index bytes) p (rule-marker m mark)
+              (break-mark m mark).dark (indent-marks m line (rule-marks (trim_start line) rule)) text at.cut_first;
+        })
+
+    word : (text : Expression) → IsWord text (inside text n.ThematicBreak ∷ []) inside_of
+    word text = break-word text m line p mark refl
+
+    ends : ending.Leads line_start behind_leaf (around n.ThematicBreak p q inside_of)
+    ends =
+        leaf-leads n.ThematicBreak p q inside_of refl
+        (others-lead (in_leaf true) inside_of refl (runs-others m line p))
+
+    facts :
+        LeafFacts bytes (Some Break) true p q (around n.ThematicBreak p q inside_of)
+        (around n.ThematicBreak p q inside_of)
+    facts = record {
+      unread_nested = around-nested n.ThematicBreak p q inside_of nested;
+      nested = around-nested n.ThematicBreak p q inside_of nested;
+      tiled = tiled-around n.ThematicBreak p q inside_of tiled;
+      unread_stood = stood;
+      stood = stood;
+      behind = true;
+      unread_word = leads-around unread_text blocks n.ThematicBreak p q inside_of (word unread_text);
+      word = leads-around plain_text blocks n.ThematicBreak p q inside_of (word plain_text);
+      unread_ending = ends;
+      ending = ends;
+      unread_unlisted = unlisted;
+      unlisted = unlisted;
+      stands =
+          λ held. leaf-stands bytes held n.ThematicBreak OfBreak p q inside_of refl (quiets-parts inside_of quiet);
+      parts = stands-around bytes n.ThematicBreak p q inside_of refl (stands-outside bytes inside_of outside unlinked);
+      filled =
+          fill-around bytes n.ThematicBreak p q inside_of inside_of refl (fill-same bytes inside_of unlinked outside);
+      between =
+          λ begin end. around-between bytes n.ThematicBreak p q inside_of begin end
+          (low-between bytes line p q inside_of at.text at.size
+          (trim-low line (rule-low (trim_start line) rule)) nested.1.0 nested.1.1 end);
+      parted =
+          around-sits bytes n.ThematicBreak p q inside_of tt (sits-still bytes inside_of (quiets-still inside_of quiet));
+      plain =
+          λ whole. plain-around bytes n.ThematicBreak p q inside_of refl refl refl (plain-quiet bytes inside_of quiet);
+      reads = λ r none shut. read-break bytes r p q inside_of shut quiet;
+    }

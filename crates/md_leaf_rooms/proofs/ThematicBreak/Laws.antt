@@ -1,0 +1,50 @@
+-- The laws of thematic breaks.
+use Rattle.std.proofs.Common.{refl}
+use Rattle.std.proofs.Common.{◌≡◌, true}
+use Rattle.std.proofs.lemmas.Bool.{and_parts}
+use Rattle.std.specs.Prelude.{◌&&◌, not}
+use Rattle.md_frame.specs.RestLine.{rest_line}
+use Rattle.md_leaf_rooms.specs.Leaf.ThematicBreak.{break_leaf}
+use Rattle.md_frame.proofs.LeafLaws.{LeafLaws}
+use Rattle.md_leaf_rooms.proofs.ThematicBreak.Facts.{break-facts, break-set, break-unspanned}
+use Rattle.md_leaf_rooms.proofs.ThematicBreak.Kinds.{break-fits}
+use Rattle.md_leaf_rooms.proofs.ThematicBreak.Runs.{break-adds, break-no_content, break-own}
+use Rattle.md_leaf_rooms.proofs.ThematicBreak.Trial.{break-looked, break-refused, break-shrinks, break-took}
+use Rattle.md_leaf_rooms.proofs.ThematicBreak.Unturned.{break-unturned}
+use Rattle.md_leaf_rooms.specs.Leaf.ThematicBreak.{is_ruled}
+use Rattle.md_engine.specs.declared.configuration.ParseOptions.{ParseOptions}
+use Rattle.md_engine.specs.declared.tokenizer.held_leaf.HeldLeaf.{HeldLeaf}
+use Rattle.md_meaning.specs.Rest.{Rest, trim_start}
+use Rattle.md_leaves.specs.HeadingSetext.{turns_nothing}
+use Rattle.md_leaves.specs.HeadingSetextRule.{is_underline}
+
+-- a rule stands where one starts
+ruled : (options : ParseOptions) (on : HeldLeaf) (r : Rest) → break_leaf.starts options on r ≡ true →
+    is_ruled options r ≡ true
+ruled options on r starts =
+    (and_parts (is_ruled options r) (not (turns_nothing options on && is_underline (trim_start r.bytes))) starts).0
+
+pub break-laws : LeafLaws break_leaf
+break-laws = record {
+  looked = break-looked;
+  took = λ options cells h is few. break-took options cells h is;
+  refused = λ options cells h asked. break-refused options cells h;
+  meets = λ options on r starts further. cc;
+  shrinks = break-shrinks;
+  fits = break-fits;
+  adds_is = λ options on said text behind r p stop at none ends short starts.
+      break-adds options said text behind r p stop at none ends short (ruled options on r starts);
+  keeps_is = λ options on said text behind r p stop at none ends short starts. refl;
+  shut = λ ends options on. (λ cells p. refl, λ r. refl);
+  finishes = λ ends options leaf r. refl;
+  holds_is = λ options leaf r starts. refl;
+  not_lazy = λ options on. (λ cells p. refl, λ r. refl);
+  no_content = λ wants only options on. break-no_content wants options;
+  own = λ options on cells p none. break-own options cells p;
+  outside = λ open_leaf options on r p starts. cc;
+  unturned_line = λ open_leaf options on r p starts lines. absurd (cc);
+  unturned = λ ends options on r p starts. break-unturned (rest_line r) p;
+  unspanned = λ ends options on r p starts. break-unspanned (rest_line r) p;
+  set = λ ends options on r p es starts. break-set (rest_line r) p es;
+  facts = λ ends options on bytes r p q starts. break-facts options bytes r p q (ruled options on r starts);
+}

@@ -1,0 +1,329 @@
+// Definitions, of what links refer to (CommonMark 4.7).
+//
+//     definition ::= *space_or_tab label ':' ?gap destination ?( gap title ) *space_or_tab
+//     gap        ::= 1*space_or_tab | *space_or_tab eol *space_or_tab
+//
+// The line ends behind it. A title that something else follows on its line is none, and the definition then ends with
+// the line of the destination, if nothing else follows that. It adds `Definition`, from the `[` to the end of the line,
+// around the parts of the label, `DefinitionMarker`, those of the destination and of the title, and what stands between
+// them; its indent stands in front of it. That it may not interrupt a paragraph, the caller knows.
+
+ghost use Rattle.std.specs.Prelude.{◌≡◌, ◌≢◌};
+ghost use Rattle.md_engine.specs.World.{world};
+ghost use Rattle.md_engine.specs.declared.state.Name.{Name as StateName};
+ghost use Rattle.md_engine.specs.declared.state.State.{State};
+ghost use Rattle.md_engine.specs.declared.state.definition.State.{State as DefinitionState};
+ghost use Rattle.md_link_definitions.specs.Definition.{after_transition, after_whitespace_transition, before_transition};
+ghost use Rattle.md_link_definitions.specs.Definition.{behind_white, definition_transition, destination_after_transition};
+ghost use Rattle.md_link_definitions.specs.Definition.{destination_before_transition, label_after_transition};
+ghost use Rattle.md_link_definitions.specs.Definition.{marker_after_transition, start_transition, title_after_transition};
+ghost use Rattle.md_link_definitions.specs.Definition.{title_before_marker_transition, title_before_transition};
+ghost use Rattle.md_link_definitions.specs.Definition.{title_end_transition, tries_part};
+ghost use Rattle.md_seam.specs.Spaces.{ends_line, sees_white};
+ghost use Rattle.md_seam.specs.Transition.{IsAt, NeedsNothing};
+
+use md_engine::event::Name;
+use md_engine::or_error;
+use md_engine::state::definition::State as DefinitionState;
+use md_engine::state::destination::State as DestinationState;
+use md_engine::state::label::State as LabelState;
+use md_engine::state::space_or_tab_eol::State as GapState;
+use md_engine::state::title::State as TitleState;
+use md_engine::state::{Name as StateName, State};
+use md_engine::tokenizer::Tokenizer;
+use md_seam::space_or_tab::{is_space_or_tab, space_or_tab};
+
+/// Whether the line ends here.
+fn ends_line(current: Option<u8>) -> bool
+    ensures { result ≡ ends_line current }
+{
+    matches!(current, None | Some(b'\n'))
+}
+
+/// Tries a part, from this state on.
+fn try_part(tokenizer: &mut Tokenizer, first: StateName, ok: State, nok: State) -> State
+    ensures to { result ≢ State.Error → result ≡ (tries_part (world tokenizer.old) first ok nok).to }
+    ensures world { result ≢ State.Error →
+        world tokenizer.new ≡ (tries_part (world tokenizer.old) first ok nok).world }
+{
+    or_error!(tokenizer.attempt(ok, nok));
+    State::Retry(first)
+}
+
+/// Takes whitespace, if some stands here, and goes on behind it.
+fn behind_white(tokenizer: &mut Tokenizer, next: DefinitionState) -> State
+    ensures to { result ≢ State.Error →
+        result ≡ (behind_white (world tokenizer.old) next (sees_white (world tokenizer.old).current)).to }
+    ensures world { result ≢ State.Error →
+        world tokenizer.new ≡
+        (behind_white (world tokenizer.old) next (sees_white (world tokenizer.old).current)).world }
+{
+    if is_space_or_tab(tokenizer.current) {
+        space_or_tab(
+            tokenizer,
+            State::Next(StateName::Definition(next)),
+            State::Nok,
+        )
+    } else {
+        State::Retry(StateName::Definition(next))
+    }
+}
+
+/// Before a definition.
+///
+/// ```markdown
+/// > |   [a]: b "c"
+///     ^
+/// ```
+pub fn start(tokenizer: &mut Tokenizer) -> State
+    requires { IsAt NeedsNothing (StateName.Definition DefinitionState.Start) (world tokenizer.old) }
+    ensures to { result ≢ State.Error → result ≡ (start_transition (world tokenizer.old)).to }
+    ensures world { result ≢ State.Error → world tokenizer.new ≡ (start_transition (world tokenizer.old)).world }
+{
+    if tokenizer.options.constructs.definition {
+        behind_white(tokenizer, DefinitionState::Before)
+    } else {
+        State::Nok
+    }
+}
+
+/// Behind the indent, at `[`.
+///
+/// ```markdown
+/// > |   [a]: b "c"
+///       ^
+/// ```
+pub fn before(tokenizer: &mut Tokenizer) -> State
+    requires { IsAt NeedsNothing (StateName.Definition DefinitionState.Before) (world tokenizer.old) }
+    ensures to { result ≢ State.Error → result ≡ (before_transition (world tokenizer.old)).to }
+    ensures world { result ≢ State.Error → world tokenizer.new ≡ (before_transition (world tokenizer.old)).world }
+{
+    if tokenizer.current != Some(b'[') {
+        return State::Nok;
+    }
+    or_error!(tokenizer.enter(Name::Definition));
+    try_part(
+        tokenizer,
+        StateName::Label(LabelState::Start),
+        State::Next(StateName::Definition(DefinitionState::LabelAfter)),
+        State::Next(StateName::Definition(DefinitionState::LabelNok)),
+    )
+}
+
+/// Behind the label.
+///
+/// ```markdown
+/// > | [a]: b "c"
+///        ^
+/// ```
+pub fn label_after(tokenizer: &mut Tokenizer) -> State
+    requires { IsAt NeedsNothing (StateName.Definition DefinitionState.LabelAfter) (world tokenizer.old) }
+    ensures to { result ≢ State.Error → result ≡ (label_after_transition (world tokenizer.old)).to }
+    ensures world { result ≢ State.Error → world tokenizer.new ≡ (label_after_transition (world tokenizer.old)).world }
+{
+    if tokenizer.current != Some(b':') {
+        return State::Nok;
+    }
+    or_error!(tokenizer.enter(Name::DefinitionMarker));
+    tokenizer.consume();
+    or_error!(tokenizer.exit(Name::DefinitionMarker));
+    State::Next(StateName::Definition(DefinitionState::MarkerAfter))
+}
+
+/// Behind the colon.
+///
+/// ```markdown
+/// > | [a]: b "c"
+///         ^
+/// ```
+pub fn marker_after(tokenizer: &mut Tokenizer) -> State
+    requires { IsAt NeedsNothing (StateName.Definition DefinitionState.MarkerAfter) (world tokenizer.old) }
+    ensures to { result ≢ State.Error → result ≡ (marker_after_transition (world tokenizer.old)).to }
+    ensures world { result ≢ State.Error →
+        world tokenizer.new ≡ (marker_after_transition (world tokenizer.old)).world }
+{
+    try_part(
+        tokenizer,
+        StateName::SpaceOrTabEol(GapState::Start),
+        State::Next(StateName::Definition(DefinitionState::DestinationBefore)),
+        State::Next(StateName::Definition(DefinitionState::DestinationBefore)),
+    )
+}
+
+/// Before the destination.
+///
+/// ```markdown
+/// > | [a]: b "c"
+///          ^
+/// ```
+pub fn destination_before(tokenizer: &mut Tokenizer) -> State
+    requires { IsAt NeedsNothing (StateName.Definition DefinitionState.DestinationBefore) (world tokenizer.old) }
+    ensures to { result ≢ State.Error → result ≡ (destination_before_transition (world tokenizer.old)).to }
+    ensures world { result ≢ State.Error →
+        world tokenizer.new ≡ (destination_before_transition (world tokenizer.old)).world }
+{
+    try_part(
+        tokenizer,
+        StateName::Destination(DestinationState::Start),
+        State::Next(StateName::Definition(DefinitionState::DestinationAfter)),
+        State::Next(StateName::Definition(DefinitionState::DestinationMissing)),
+    )
+}
+
+/// Behind the destination.
+///
+/// ```markdown
+/// > | [a]: b "c"
+///           ^
+/// ```
+pub fn destination_after(tokenizer: &mut Tokenizer) -> State
+    requires { IsAt NeedsNothing (StateName.Definition DefinitionState.DestinationAfter) (world tokenizer.old) }
+    ensures to { result ≢ State.Error → result ≡ (destination_after_transition (world tokenizer.old)).to }
+    ensures world { result ≢ State.Error →
+        world tokenizer.new ≡ (destination_after_transition (world tokenizer.old)).world }
+{
+    try_part(
+        tokenizer,
+        StateName::Definition(DefinitionState::TitleBefore),
+        State::Next(StateName::Definition(DefinitionState::After)),
+        State::Next(StateName::Definition(DefinitionState::After)),
+    )
+}
+
+/// Before the gap in front of a title.
+///
+/// ```markdown
+/// > | [a]: b "c"
+///           ^
+/// ```
+pub fn title_before(tokenizer: &mut Tokenizer) -> State
+    requires { IsAt NeedsNothing (StateName.Definition DefinitionState.TitleBefore) (world tokenizer.old) }
+    ensures to { result ≢ State.Error → result ≡ (title_before_transition (world tokenizer.old)).to }
+    ensures world { result ≢ State.Error →
+        world tokenizer.new ≡ (title_before_transition (world tokenizer.old)).world }
+{
+    if is_space_or_tab(tokenizer.current) || tokenizer.current == Some(b'\n') {
+        try_part(
+            tokenizer,
+            StateName::SpaceOrTabEol(GapState::Start),
+            State::Next(StateName::Definition(DefinitionState::TitleBeforeMarker)),
+            State::Nok,
+        )
+    } else {
+        State::Nok
+    }
+}
+
+/// Before a title.
+///
+/// ```markdown
+/// > | [a]: b "c"
+///            ^
+/// ```
+pub fn title_before_marker(tokenizer: &mut Tokenizer) -> State
+    requires { IsAt NeedsNothing (StateName.Definition DefinitionState.TitleBeforeMarker) (world tokenizer.old) }
+    ensures to { result ≢ State.Error → result ≡ (title_before_marker_transition (world tokenizer.old)).to }
+    ensures world { result ≢ State.Error →
+        world tokenizer.new ≡ (title_before_marker_transition (world tokenizer.old)).world }
+{
+    try_part(
+        tokenizer,
+        StateName::Title(TitleState::Start),
+        State::Next(StateName::Definition(DefinitionState::TitleAfter)),
+        State::Nok,
+    )
+}
+
+/// Behind a title.
+///
+/// ```markdown
+/// > | [a]: b "c"
+///               ^
+/// ```
+pub fn title_after(tokenizer: &mut Tokenizer) -> State
+    requires { IsAt NeedsNothing (StateName.Definition DefinitionState.TitleAfter) (world tokenizer.old) }
+    ensures to { result ≢ State.Error → result ≡ (title_after_transition (world tokenizer.old)).to }
+    ensures world { result ≢ State.Error → world tokenizer.new ≡ (title_after_transition (world tokenizer.old)).world }
+{
+    behind_white(tokenizer, DefinitionState::TitleAfterOptionalWhitespace)
+}
+
+/// Behind a title and the whitespace that follows it.
+///
+/// ```markdown
+/// > | [a]: b "c"
+///               ^
+/// ```
+pub fn title_end(tokenizer: &mut Tokenizer) -> State
+    requires { IsAt NeedsNothing
+        (StateName.Definition DefinitionState.TitleAfterOptionalWhitespace) (world tokenizer.old) }
+    ensures to { result ≡ (title_end_transition (world tokenizer.old)).to }
+    ensures world { world tokenizer.new ≡ (title_end_transition (world tokenizer.old)).world }
+{
+    if ends_line(tokenizer.current) {
+        State::Ok
+    } else {
+        State::Nok
+    }
+}
+
+/// Behind the parts of the definition.
+///
+/// ```markdown
+/// > | [a]: b
+///           ^
+/// > | [a]: b "c"
+///               ^
+/// ```
+pub fn after(tokenizer: &mut Tokenizer) -> State
+    requires { IsAt NeedsNothing (StateName.Definition DefinitionState.After) (world tokenizer.old) }
+    ensures to { result ≢ State.Error → result ≡ (after_transition (world tokenizer.old)).to }
+    ensures world { result ≢ State.Error → world tokenizer.new ≡ (after_transition (world tokenizer.old)).world }
+{
+    behind_white(tokenizer, DefinitionState::AfterWhitespace)
+}
+
+/// Behind the parts of the definition and the whitespace that follows them.
+///
+/// ```markdown
+/// > | [a]: b
+///           ^
+/// > | [a]: b "c"
+///               ^
+/// ```
+pub fn after_whitespace(tokenizer: &mut Tokenizer) -> State
+    requires { IsAt NeedsNothing (StateName.Definition DefinitionState.AfterWhitespace) (world tokenizer.old) }
+    ensures to { result ≢ State.Error → result ≡ (after_whitespace_transition (world tokenizer.old)).to }
+    ensures world { result ≢ State.Error →
+        world tokenizer.new ≡ (after_whitespace_transition (world tokenizer.old)).world }
+{
+    if !ends_line(tokenizer.current) {
+        return State::Nok;
+    }
+    or_error!(tokenizer.exit(Name::Definition));
+    State::Ok
+}
+
+/// Calls a state of a definition.
+pub fn call(tokenizer: &mut Tokenizer, state: DefinitionState) -> State
+    requires { IsAt NeedsNothing (StateName.Definition state) (world tokenizer.old) }
+    ensures to { result ≢ State.Error → result ≡ (definition_transition state (world tokenizer.old)).to }
+    ensures world { result ≢ State.Error →
+        world tokenizer.new ≡ (definition_transition state (world tokenizer.old)).world }
+{
+    match state {
+        DefinitionState::Start => start(tokenizer),
+        DefinitionState::Before => before(tokenizer),
+        DefinitionState::LabelAfter => label_after(tokenizer),
+        DefinitionState::LabelNok | DefinitionState::DestinationMissing => State::Nok,
+        DefinitionState::MarkerAfter => marker_after(tokenizer),
+        DefinitionState::DestinationBefore => destination_before(tokenizer),
+        DefinitionState::DestinationAfter => destination_after(tokenizer),
+        DefinitionState::TitleBefore => title_before(tokenizer),
+        DefinitionState::TitleBeforeMarker => title_before_marker(tokenizer),
+        DefinitionState::TitleAfter => title_after(tokenizer),
+        DefinitionState::TitleAfterOptionalWhitespace => title_end(tokenizer),
+        DefinitionState::After => after(tokenizer),
+        DefinitionState::AfterWhitespace => after_whitespace(tokenizer),
+    }
+}

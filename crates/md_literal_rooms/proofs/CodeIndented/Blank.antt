@@ -1,0 +1,135 @@
+-- A blank line where code was open, as the resolver that joins lines gives it: between two lines of code as it is, and
+-- behind the code as whitespace, which shows no block.
+use Rattle.std.proofs.Common.{◌≡◌, ℕ, Bool, true, false, cond, List, [], ◌∷◌, ◌++◌, refl, ◌∙◌, ap}
+use Rattle.std.specs.Prelude.{map, nat_lt, None}
+use Rattle.md_engine.specs.declared.event.Event.{Event}
+use Rattle.md_engine.specs.declared.event.Name.{Name}
+use Rattle.md_engine.specs.declared.event.Name.TheVariants as n
+use Rattle.md_engine.specs.declared.event.Point.{Point}
+use Rattle.md_meaning.specs.Rest.{Rest, indent, is_blank, lose}
+use Rattle.md_leaves.specs.declared.spans.Place.{Place}
+use Rattle.md_leaves.specs.declared.spans.Place.TheVariants.{Between, Inside, Outside}
+use Rattle.md_leaves.specs.Spanned.{name_at, renamed}
+use Rattle.md_leaves.proofs.SpannedLines.{NoBlocks}
+use Rattle.md_code.proofs.CodeLines.{blank-line}
+use Rattle.md_seam.specs.Events.Endings.{line_start}
+use Rattle.md_seam.specs.Events.Grammar.{blocks, plain_text, unread_text}
+use Rattle.md_seam.specs.Events.Nested.{pair}
+use Rattle.md_seam.proofs.EndingsLemmas.{AreOthers, others-lead}
+use Rattle.md_seam.proofs.GrammarLemmas as grammar
+use Rattle.md_seam.proofs.SpelledLemmas as spelled
+use Rattle.md_seam.proofs.SpelledLemmas.{Quiet, Roles, read-quiet}
+use Rattle.md_frame.specs.RestLine.{rest_line}
+use Rattle.md_literal_rooms.specs.Leaf.CodeIndented.{code_parts}
+use Rattle.md_frame.specs.LineColumns.{lost_line, part_over, past_columns}
+use Rattle.md_literal_rooms.proofs.CodeIndented.Parts.{code-inside}
+use Rattle.md_frame.proofs.LeafFacts.{LeafFacts}
+use Rattle.md_frame.proofs.LeafStands.{between-stand}
+use Rattle.md_frame.proofs.IndentRemoved.Names.{AreInside, lost-inside}
+use Rattle.md_frame.proofs.IndentRemoved.Parts.{inside-blocks, inside-filled, inside-others, inside-stands}
+use Rattle.md_frame.proofs.IndentRemoved.Parts.{inside-unlisted}
+use Rattle.md_frame.proofs.IndentRemoved.Placed.{Placed, lost-placed}
+use Rattle.md_frame.proofs.IndentRemoved.Places.{FurtherAt}
+use Rattle.md_frame.proofs.IndentRemoved.Shown.{lost-between, lost-sits, white-sits}
+use Rattle.md_frame.proofs.PlainFacts.{plain-quiet}
+use Rattle.md_frame.proofs.RestRows.{line-blank}
+
+-- No block begins or ends on it.
+pub blank-blocks : (r : Rest) (p q : Point) → NoBlocks (code_parts r p q)
+blank-blocks r p q = inside-blocks (code_parts r p q) (code-inside r p q)
+
+-- What stands on a line with a part of this name, by whether whitespace comes first, and whether anything is left.
+abbrev line_by : Name → Bool → List ℕ → Point → Point → Point → List Event
+line_by name white line p at q = cond white (pair n.SpaceOrTab p at) [] ++ part_over name line at q
+
+-- Behind the code this is whitespace.
+abbrev pub blank_behind : Rest → Point → Point → List Event
+blank_behind r p q = lost_line n.SpaceOrTab 4 r p q
+
+-- It has the name that its place gives it: between two lines of code it stays as it is, and behind them it is whitespace.
+pub blank-placed : (place : Place) (r : Rest) (p q : Point) →
+    map (renamed place) (code_parts r p q) ≡ lost_line (name_at place n.CodeFlowChunk) 4 r p q
+blank-placed place r p q =
+    go (nat_lt 0 (indent r)) (rest_line (lose 4 r))
+    ∙ ap
+    (λ (name : Name).
+    cond (nat_lt 0 (indent r)) (pair name p at) []
+    ++ part_over (name_at place n.CodeFlowChunk) (rest_line (lose 4 r)) at q)
+    (white place)
+  where
+    at : Point
+    at = past_columns 4 r p
+
+    white : (place : Place) → name_at place n.SpaceOrTab ≡ n.SpaceOrTab
+    white Inside = refl
+    white Between = refl
+    white Outside = refl
+
+    go : (some : Bool) (line : List ℕ) →
+        map (renamed place) (line_by n.CodeFlowChunk some line p (past_columns 4 r p) q) ≡
+        (cond some (pair (name_at place n.SpaceOrTab) p (past_columns 4 r p)) []
+        ++ part_over (name_at place n.CodeFlowChunk) line (past_columns 4 r p) q)
+    go true [] = refl
+    go true (b ∷ bs) = refl
+    go false [] = refl
+    go false (b ∷ bs) = refl
+
+-- nothing, a piece of it, or two
+white-shape : (P : List Event → Type 0) → P [] → ((p q : Point) → P (pair n.SpaceOrTab p q)) →
+    ((p q r s : Point) → P (pair n.SpaceOrTab p q ++ pair n.SpaceOrTab r s)) → (r : Rest) (p q : Point) →
+    P (blank_behind r p q)
+white-shape P none one two r p q = go (nat_lt 0 (indent r)) (rest_line (lose 4 r))
+  where
+    go : (white : Bool) (line : List ℕ) → P (line_by n.SpaceOrTab white line p (past_columns 4 r p) q)
+    go true [] = one p (past_columns 4 r p)
+    go true (b ∷ bs) = two p (past_columns 4 r p) (past_columns 4 r p) q
+    go false [] = none
+    go false (b ∷ bs) = one (past_columns 4 r p) q
+
+-- All that the frame asks of it there.
+pub behind-facts : (bytes : List ℕ) (r : Rest) (p q : Point) → is_blank r.bytes ≡ true → FurtherAt bytes r p q →
+    LeafFacts bytes None false p q (blank_behind r p q) (blank_behind r p q)
+behind-facts bytes r p q blank is = record {
+  unread_nested = placed.nested;
+  nested = placed.nested;
+  tiled = placed.tiled;
+  unread_stood = placed.stood;
+  stood = placed.stood;
+  behind = false;
+  unread_word =
+      white-shape (λ es. grammar.Leads unread_text (blocks ∷ []) (blocks ∷ []) es) (λ outer. refl)
+      (λ a b outer. refl) (λ a b c d outer. refl) r p q;
+  word =
+      white-shape (λ es. grammar.Leads plain_text (blocks ∷ []) (blocks ∷ []) es) (λ outer. refl)
+      (λ a b outer. refl) (λ a b c d outer. refl) r p q;
+  unread_ending = others-lead line_start white refl others;
+  ending = others-lead line_start white refl others;
+  unread_unlisted = inside-unlisted white all;
+  unlisted = inside-unlisted white all;
+  stands =
+      λ held. between-stand bytes held white
+      (white-shape (Roles spelled.Between) tt (λ a b. (tt, (tt, tt))) (λ a b c d. (tt, (tt, (tt, (tt, tt))))) r p q);
+  parts = inside-stands bytes white all;
+  filled = inside-filled bytes white all;
+  between = λ first last. lost-between bytes n.SpaceOrTab 4 r p q is first last;
+  parted = lost-sits bytes n.SpaceOrTab 4 r p q (white-sits bytes);
+  plain = λ whole. plain-quiet bytes white quiet;
+  reads = λ rd none shut. read-quiet bytes rd white quiet;
+}
+  where
+    white : List Event
+    white = blank_behind r p q
+
+    all : AreInside (blank_behind r p q)
+    all = lost-inside n.SpaceOrTab 4 r p q refl
+
+    others : AreOthers (blank_behind r p q)
+    others = inside-others white all
+
+    quiet : Roles Quiet (blank_behind r p q)
+    quiet =
+        white-shape (Roles Quiet) tt (λ a b. (tt, (tt, tt))) (λ a b c d. (tt, (tt, (tt, (tt, tt))))) r p q
+
+    placed : Placed bytes p q (blank_behind r p q)
+    placed =
+        lost-placed bytes n.SpaceOrTab 4 r p q refl (λ none. line-blank (lose 4 r) ∙ blank-line r ∙ blank) is

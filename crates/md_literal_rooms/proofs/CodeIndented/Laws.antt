@@ -1,0 +1,70 @@
+-- The laws of indented code, of its first line and of a further one, as the frame asks for them.
+use Rattle.std.proofs.Common.{◌≡◌, true, refl}
+use Rattle.md_engine.specs.declared.tokenizer.held_leaf.HeldLeaf.{HeldLeaf}
+use Rattle.md_engine.specs.declared.tokenizer.held_leaf.HeldLeaf.TheVariants as held_leaf
+use Rattle.md_frame.specs.HeldLeaf.{may_go_on}
+use Rattle.md_frame.specs.RestLine.{rest_line}
+use Rattle.md_literal_rooms.specs.Leaf.CodeIndented.{code_further, code_leaf, is_code}
+use Rattle.md_literal_rooms.proofs.CodeIndented.Cells.{code-adds, code-fits, code_further-adds, code_further-fits}
+use Rattle.md_literal_rooms.proofs.CodeIndented.Look.{code-looked, code_further-looked}
+use Rattle.md_literal_rooms.proofs.CodeIndented.Outside.{code-no_content, code-outside, code-own, code-unturned}
+use Rattle.md_literal_rooms.proofs.CodeIndented.Outside.{code_further-no_content, code_further-outside}
+use Rattle.md_literal_rooms.proofs.CodeIndented.Outside.{code_further-own, code_further-unturned}
+use Rattle.md_literal_rooms.proofs.CodeIndented.Trial.{code-refused, code-shrinks, code-took}
+use Rattle.md_literal_rooms.proofs.CodeIndented.Trial.{code_further-refused, code_further-shrinks, code_further-took}
+use Rattle.md_frame.proofs.LeafLaws.{LeafLaws}
+
+-- All that the frame asks of the line that begins code,
+pub code-laws : LeafLaws code_leaf
+code-laws = record {
+  looked = code-looked;
+  meets = λ options on r starts further. cc;
+  took = λ options cells h is few. code-took options cells h is;
+  refused = λ options cells h asked. code-refused options cells h;
+  shrinks = code-shrinks;
+  fits = code-fits;
+  adds_is = code-adds;
+  keeps_is = λ options on said text behind r p stop at none ends short starts. refl;
+  shut = λ ends options on. absurd (cc);
+  finishes = λ ends options leaf r. cc;
+  holds_is = λ options leaf r starts. refl;
+  not_lazy = λ options on. (λ cells p. refl, λ r. refl);
+  no_content = λ wants only. code-no_content wants;
+  own = λ options on cells p none. code-own options on cells p;
+  outside = λ stays options on r p starts. code-outside options on (rest_line r) p;
+  unturned_line = λ stays options on r p starts lines. code-unturned options on (rest_line r) p;
+  unturned = λ ends options on r p starts. absurd (cc);
+  set = λ ends options on r p es starts. cc;
+  unspanned = λ ends options on r p starts. absurd (cc);
+  facts = λ ends options on bytes r p q starts is. absurd (cc);
+}
+
+-- a line may go on open code
+code-lines : (on : HeldLeaf) → is_code on ≡ true → may_go_on on ≡ true
+code-lines held_leaf.Code e = refl
+code-lines _ e = cc
+
+-- and of a further line: it goes on the code that it meets.
+pub code_further-laws : LeafLaws code_further
+code_further-laws = record {
+  looked = code_further-looked;
+  meets = λ options on r starts further. code-lines on further;
+  took = λ options cells h is few. code_further-took options cells h is;
+  refused = code_further-refused;
+  shrinks = code_further-shrinks;
+  fits = code_further-fits;
+  adds_is = code_further-adds;
+  keeps_is = λ options on said text behind r p stop at none ends short starts. refl;
+  shut = λ ends options on. absurd (cc);
+  finishes = λ ends options leaf r. cc;
+  holds_is = λ options leaf r starts. refl;
+  not_lazy = λ options on. (λ cells p. refl, λ r. refl);
+  no_content = λ wants only. code_further-no_content wants only.flow;
+  own = λ options on cells p none. code_further-own options on cells p;
+  outside = λ stays options on r p starts. code_further-outside options on (rest_line r) p;
+  unturned_line = λ stays options on r p starts lines. code_further-unturned options on (rest_line r) p;
+  unturned = λ ends options on r p starts. absurd (cc);
+  set = λ ends options on r p es starts. cc;
+  unspanned = λ ends options on r p starts. absurd (cc);
+  facts = λ ends options on bytes r p q starts is. absurd (cc);
+}

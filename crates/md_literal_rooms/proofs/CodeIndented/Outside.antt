@@ -1,0 +1,124 @@
+-- Nothing stands on a line of code that a resolver rewrites, and no content.
+use Rattle.std.proofs.Common.{◌≡◌, ℕ, Bool, true, false, cond, List, [], ◌∷◌, refl, ap}
+use Rattle.std.specs.Prelude.{Some, None}
+use Rattle.md_engine.specs.declared.configuration.ParseOptions.{ParseOptions}
+use Rattle.md_engine.specs.declared.event.Content.{Content}
+use Rattle.md_engine.specs.declared.event.Content.TheVariants as content
+use Rattle.md_engine.specs.declared.event.Event.{Event}
+use Rattle.md_engine.specs.declared.event.Kind.TheVariants.{Enter, Exit}
+use Rattle.md_engine.specs.declared.event.Name.TheVariants as n
+use Rattle.md_engine.specs.declared.event.Point.{Point}
+use Rattle.md_engine.specs.declared.tokenizer.held_leaf.HeldLeaf.{HeldLeaf}
+use Rattle.md_engine.specs.Meaning.{Cell}
+use Rattle.md_meaning.specs.Bytes.{is_end}
+use Rattle.md_meaning.specs.Rest.{Rest, is_blank}
+use Rattle.md_code.specs.CodeRule.{blank_adds, line_adds}
+use Rattle.md_leaves.specs.Further.{further_link}
+use Rattle.md_seam.specs.Ahead.{begins_white, line_bytes, line_end, white_end, white_rest}
+use Rattle.md_seam.specs.Events.Nested.{enter, enter_link, exit, pair}
+use Rattle.md_seam.specs.Events.Places.{past_text}
+use Rattle.md_seam.specs.Substituted.{wanted}
+use Rattle.md_literal_rooms.specs.Leaf.CodeIndented.{code_further, code_leaf, code_parts, line_parts}
+use Rattle.md_frame.specs.LineColumns.{rest_of}
+use Rattle.md_literal_rooms.proofs.CodeIndented.Parts.{code-inside}
+use Rattle.md_frame.proofs.ContentFacts.{NoContent, is_told}
+use Rattle.md_frame.proofs.EachEvent.{each-append}
+use Rattle.md_frame.proofs.IndentRemoved.Names.{AreInside, More, either-part, inside-no_content, inside-outside}
+use Rattle.md_frame.proofs.IndentRemoved.Names.{inside-unturned}
+use Rattle.md_frame.proofs.OutsideFacts.{AreOutside, IsOutside, outside-append}
+use Rattle.md_frame.proofs.UnturnedFacts.{AreUnturned, IsUnturned}
+
+-- On a blank line whitespace stands, and a part of a leaf.
+blank-inside : (cells : List Cell) (p : Point) → AreInside (blank_adds cells p)
+blank-inside cells p = λ P none more.
+    either-part P more (begins_white cells) n.SpaceOrTab p (white_end 4 cells p) _ refl
+    (chunk P none more (is_end (line_bytes (white_rest 4 cells))))
+  where
+    chunk : (P : List Event → Type 0) → P [] → More P → (x : Bool) →
+        P (cond x [] (pair n.CodeFlowChunk (white_end 4 cells p) (line_end cells p)))
+    chunk P none more true = none
+    chunk P none more false =
+        more Enter n.CodeFlowChunk (white_end 4 cells p) _ refl
+        (more Exit n.CodeFlowChunk (line_end cells p) [] refl none)
+
+-- A further line is blank, or not.
+either : (P : List Event → Type 0) (blank : Bool) (xs ys : List Event) → P xs → P ys → P (cond blank xs ys)
+either P true xs ys a b = a
+either P false xs ys a b = b
+
+-- No part of it is rewritten.
+
+line-own : (begin : Event) (cells : List Cell) (p : Point) → IsOutside begin → AreOutside (line_adds begin cells p)
+line-own begin cells p is = (is, (refl, (refl, (refl, (refl, (refl, tt))))))
+
+pub code-own : (options : ParseOptions) (on : HeldLeaf) (cells : List Cell) (p : Point) →
+    AreOutside (code_leaf.adds options on cells p)
+code-own options on cells p = line-own (enter n.CodeIndented p) cells p refl
+
+pub code_further-own : (options : ParseOptions) (on : HeldLeaf) (cells : List Cell) (p : Point) →
+    AreOutside (code_further.adds options on cells p)
+code_further-own options on cells p =
+    let begin : Event = enter_link n.CodeIndented p further_link in
+    either AreOutside (is_blank (line_bytes cells)) (blank_adds cells p) (line_adds begin cells p)
+    (inside-outside (blank_adds cells p) (blank-inside cells p)) (line-own begin cells p refl)
+
+parts-outside : (r : Rest) (p q : Point) → AreOutside (code_parts r p q)
+parts-outside r p q = inside-outside (code_parts r p q) (code-inside r p q)
+
+line-outside : (begin : Event) (r : Rest) (p q : Point) → IsOutside begin → AreOutside (line_parts begin r p q)
+line-outside begin r p q is =
+    (is, outside-append (code_parts r p q) (exit n.CodeIndented q ∷ []) (parts-outside r p q) (refl, tt))
+
+pub code-outside : (options : ParseOptions) (on : HeldLeaf) (line : List ℕ) (p : Point) →
+    AreOutside (code_leaf.added options on line p)
+code-outside options on line p = line-outside (enter n.CodeIndented p) (rest_of p line) p (past_text line p) refl
+
+pub code_further-outside : (options : ParseOptions) (on : HeldLeaf) (line : List ℕ) (p : Point) →
+    AreOutside (code_further.added options on line p)
+code_further-outside options on line p =
+    let r : Rest = rest_of p line in
+    let q : Point = past_text line p in
+    let begin : Event = enter_link n.CodeIndented p further_link in
+    either AreOutside (is_blank r.bytes) (code_parts r p q) (line_parts begin r p q) (parts-outside r p q)
+    (line-outside begin r p q refl)
+
+-- No part of it is a text or an underline.
+
+line-unturned : (begin : Event) (r : Rest) (p q : Point) → IsUnturned begin → AreUnturned (line_parts begin r p q)
+line-unturned begin r p q is = (
+  is,
+  each-append IsUnturned (code_parts r p q) (exit n.CodeIndented q ∷ [])
+      (inside-unturned (code_parts r p q) (code-inside r p q)) (refl, tt),
+)
+
+pub code-unturned : (options : ParseOptions) (on : HeldLeaf) (line : List ℕ) (p : Point) →
+    AreUnturned (code_leaf.added options on line p)
+code-unturned options on line p = line-unturned (enter n.CodeIndented p) (rest_of p line) p (past_text line p) refl
+
+pub code_further-unturned : (options : ParseOptions) (on : HeldLeaf) (line : List ℕ) (p : Point) →
+    AreUnturned (code_further.added options on line p)
+code_further-unturned options on line p =
+    let r : Rest = rest_of p line in
+    let q : Point = past_text line p in
+    let begin : Event = enter_link n.CodeIndented p further_link in
+    either AreUnturned (is_blank r.bytes) (code_parts r p q) (line_parts begin r p q)
+    (inside-unturned (code_parts r p q) (code-inside r p q)) (line-unturned begin r p q refl)
+
+-- No content stands in it, and its link is to none that is read later.
+
+line-no_content : (wants : Content → Bool) (begin : Event) (cells : List Cell) (p : Point) →
+    wanted wants begin ≡ None → is_told begin.name ≡ false → NoContent wants (line_adds begin cells p)
+line-no_content wants begin cells p unwanted none =
+    (unwanted, none, (refl, refl, (refl, refl, (refl, refl, (refl, refl, (refl, refl, tt))))))
+
+pub code-no_content : (wants : Content → Bool) (options : ParseOptions) (on : HeldLeaf) (cells : List Cell)
+    (p : Point) → NoContent wants (code_leaf.adds options on cells p)
+code-no_content wants options on cells p = line-no_content wants (enter n.CodeIndented p) cells p refl refl
+
+pub code_further-no_content : (wants : Content → Bool) → wants content.Flow ≡ false → (options : ParseOptions)
+    (on : HeldLeaf) (cells : List Cell) (p : Point) → NoContent wants (code_further.adds options on cells p)
+code_further-no_content wants flow options on cells p =
+    let begin : Event = enter_link n.CodeIndented p further_link in
+    either (NoContent wants) (is_blank (line_bytes cells)) (blank_adds cells p) (line_adds begin cells p)
+    (inside-no_content wants (blank_adds cells p) (blank-inside cells p))
+    (line-no_content wants begin cells p (ap (λ (x : Bool). cond x (Some content.Flow) None) flow) refl)

@@ -1,0 +1,35 @@
+-- The laws of opening fences.
+use Rattle.std.proofs.Common.{refl}
+use Rattle.md_frame.specs.RestLine.{rest_line}
+use Rattle.md_literal_rooms.specs.Leaf.Fence.{fence_keeps, fence_leaf}
+use Rattle.md_literal_rooms.proofs.Fence.Adds.{fence-adds}
+use Rattle.md_literal_rooms.proofs.Fence.Cells.{fence-fits, fence-keeps}
+use Rattle.md_literal_rooms.proofs.Fence.Outside.{fence-lazy, fence-no_content, fence-outside, fence-own, fence-unturned}
+use Rattle.md_literal_rooms.proofs.Fence.Trial.{fence-looked, fence-took, trial-refused, trial-shrinks}
+use Rattle.md_frame.proofs.LeafLaws.{LeafLaws}
+
+-- All that the frame asks of the line that begins fenced code or math: it goes on no leaf, and never ends its block.
+pub fence-laws : LeafLaws fence_leaf
+fence-laws = record {
+  looked = λ options on. fence-looked options;
+  meets = λ options on r starts further. cc;
+  took = fence-took;
+  refused = λ options cells h asked. trial-refused options cells h;
+  shrinks = trial-shrinks;
+  fits = λ options on. fence-fits options;
+  adds_is = λ options on. fence-adds options;
+  keeps_is = λ options on. fence-keeps options;
+  shut = λ ends options on. absurd (cc);
+  finishes = λ ends options leaf r. cc;
+  holds_is = λ options leaf r starts. refl;
+  not_lazy = λ options on. (fence-lazy options, λ r. refl);
+  no_content = λ wants only options on cells p.
+      fence-no_content wants only.string options (fence_keeps options cells p) cells p;
+  own = λ options on cells p none. fence-own options (fence_keeps options cells p) cells p;
+  outside = λ open_leaf options on r p starts. fence-outside (rest_line r) p;
+  unturned_line = λ open_leaf options on r p starts lines. fence-unturned (rest_line r) p;
+  unturned = λ ends options on r p starts. absurd (cc);
+  set = λ ends options on r p es starts. cc;
+  unspanned = λ ends options on r p starts. absurd (cc);
+  facts = λ ends options on bytes r p q starts at. absurd (cc);
+}

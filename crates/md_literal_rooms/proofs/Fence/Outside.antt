@@ -1,0 +1,124 @@
+-- Nothing stands in a fence that a resolver rewrites, and no content; its links are to strings.
+use Rattle.std.proofs.Common.{◌≡◌, ℕ, Bool, true, false, cond, List, [], ◌∷◌, refl, ap}
+use Rattle.std.specs.Prelude.{◌-◌, ◌==◌, Option, Some, None}
+use Rattle.md_engine.specs.declared.configuration.ParseOptions.{ParseOptions}
+use Rattle.md_engine.specs.declared.event.Content.{Content}
+use Rattle.md_engine.specs.declared.event.Content.TheVariants as content
+use Rattle.md_engine.specs.declared.event.Event.{Event}
+use Rattle.md_engine.specs.declared.event.Name.{Name}
+use Rattle.md_engine.specs.declared.event.Name.TheVariants as n
+use Rattle.md_engine.specs.declared.event.Point.{Point}
+use Rattle.md_engine.specs.declared.tokenizer.held_leaf.HeldLeaf.{HeldLeaf}
+use Rattle.md_engine.specs.declared.tokenizer.held_leaf.HeldLeaf.TheVariants as held_leaf
+use Rattle.md_engine.specs.Meaning.{Cell}
+use Rattle.md_leaves.specs.Turned.{is_paragraph, is_underline}
+use Rattle.md_code.specs.FenceLine.{fence_adds, fence_opened, is_opening, marker_at}
+use Rattle.md_code.specs.FenceRule.{run_size}
+use Rattle.md_code.specs.Fence.{is_on}
+use Rattle.md_seam.specs.Ahead.{white_end, white_rest}
+use Rattle.md_seam.specs.Spaces.{small_indent}
+use Rattle.md_seam.specs.Substituted.{wanted}
+use Rattle.md_frame.specs.HeldLeaf.{takes_lazy}
+use Rattle.md_literal_rooms.specs.Leaf.Fence.{fence_keeps, fence_line, linked, or_none}
+use Rattle.md_frame.specs.Resolving.{is_own}
+use Rattle.md_frame.proofs.ContentFacts.{NoContent, is_told}
+use Rattle.md_frame.proofs.EachEvent.{Each}
+use Rattle.md_literal_rooms.proofs.Fence.Each.{adds-each, is_block_name, is_fence_name, line-each}
+use Rattle.md_frame.proofs.OutsideFacts.{AreOutside, IsOutside}
+use Rattle.md_frame.proofs.UnturnedFacts.{AreUnturned, IsUnturned}
+
+-- Its names.
+
+name-own : (name : Name) → is_fence_name name ≡ true → is_own name ≡ false
+name-own n.SpaceOrTab e = refl
+name-own _ e = cc
+
+block-own : (name : Name) → is_block_name name ≡ true → is_own name ≡ false
+block-own n.CodeFenced e = refl
+block-own _ e = cc
+
+block-content : (name : Name) → is_block_name name ≡ true → is_told name ≡ false
+block-content n.Content e = cc
+block-content n.DefinitionLabelString e = cc
+block-content _ e = refl
+
+name-content : (name : Name) → is_fence_name name ≡ true → is_told name ≡ false
+name-content n.Content e = cc
+name-content n.DefinitionLabelString e = cc
+name-content _ e = refl
+
+-- No part of it is rewritten.
+
+pub fence-own : (options : ParseOptions) (leaf : HeldLeaf) (cells : List Cell) (p : Point) →
+    AreOutside (fence_adds options leaf cells p)
+fence-own options leaf cells p =
+    adds-each IsOutside (λ name is q. (name-own name is, refl)) (λ name is q. (block-own name is, refl))
+    (λ q. (refl, refl)) options leaf cells p
+
+pub fence-outside : (line : List ℕ) (p : Point) → AreOutside (fence_line linked line p)
+fence-outside line p =
+    line-each IsOutside (λ name is q. (name-own name is, refl)) (λ name is q. (block-own name is, refl)) linked
+    (λ p q. (refl, (refl, tt))) line p
+
+-- No part of it is a text or an underline.
+
+name-unturned : (name : Name) → is_fence_name name ≡ true →
+    cond (is_paragraph name) false (cond (is_underline name) false true) ≡ true
+name-unturned n.Paragraph e = cc
+name-unturned n.HeadingSetextUnderline e = cc
+name-unturned _ e = refl
+
+block-unturned : (name : Name) → is_block_name name ≡ true →
+    cond (is_paragraph name) false (cond (is_underline name) false true) ≡ true
+block-unturned n.Paragraph e = cc
+block-unturned n.HeadingSetextUnderline e = cc
+block-unturned _ e = refl
+
+pub fence-unturned : (line : List ℕ) (p : Point) → AreUnturned (fence_line linked line p)
+fence-unturned line p =
+    line-each IsUnturned (λ name is q. (name-unturned name is, name-unturned name is))
+    (λ name is q. (block-unturned name is, block-unturned name is)) linked (λ p q. (refl, (refl, tt))) line p
+
+-- No content stands in it.
+
+abbrev IsNoContent : (Content → Bool) → Event → Type 0
+IsNoContent wants e = (wanted wants e ≡ None) × (is_told e.name ≡ false)
+
+each-none : (wants : Content → Bool) (es : List Event) → Each (IsNoContent wants) es → NoContent wants es
+each-none wants [] h = tt
+each-none wants (e ∷ es) h = (h.0.0, h.0.1, each-none wants es h.1)
+
+pub fence-no_content : (wants : Content → Bool) → wants content.String ≡ false →
+    (options : ParseOptions) (leaf : HeldLeaf) (cells : List Cell) (p : Point) →
+    NoContent wants (fence_adds options leaf cells p)
+fence-no_content wants w options leaf cells p =
+    each-none wants (fence_adds options leaf cells p)
+    (adds-each (IsNoContent wants)
+    (λ name is q. ((refl, name-content name is), (refl, name-content name is)))
+    (λ name is q. ((refl, block-content name is), (refl, block-content name is)))
+    (λ q. ((ap (λ (x : Bool). cond x (Some content.String) None) w, refl), (refl, refl))) options leaf cells p)
+
+-- No line goes on it lazily.
+
+pub fence-lazy : (options : ParseOptions) (cells : List Cell) (p : Point) →
+    takes_lazy (fence_keeps options cells p) ≡ false
+fence-lazy options cells p = go (is_on options)
+  where
+    rest : List Cell
+    rest = white_rest (small_indent options) cells
+
+    leaf : ℕ → HeldLeaf
+    leaf m =
+        held_leaf.Fence m (run_size (λ b. b == m) rest) ((white_end (small_indent options) cells p).column - p.column)
+
+    held : (m : ℕ) (x : Bool) → takes_lazy (or_none (cond x (Some (leaf m)) None)) ≡ false
+    held m true = refl
+    held m false = refl
+
+    opened : (o : Option ℕ) → takes_lazy (or_none (fence_opened options cells p o)) ≡ false
+    opened None = refl
+    opened (Some m) = held m (is_opening m rest)
+
+    go : (x : Bool) → takes_lazy (or_none (cond x (fence_opened options cells p (marker_at options rest)) None)) ≡ false
+    go true = opened (marker_at options rest)
+    go false = refl

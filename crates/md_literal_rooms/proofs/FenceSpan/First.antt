@@ -1,0 +1,245 @@
+-- The opening line of fenced code or math as the first line of its block: what is known of what stands in it behind its
+-- begin.
+use Rattle.std.proofs.Common.{◌≡◌, ℕ, Bool, true, false, cond, List, [], ◌∷◌, length, take, drop, refl, sym, ap, ◌∙◌}
+use Rattle.std.proofs.Common.{◌||◌, not, suc, subst, arith}
+use Rattle.std.specs.Prelude.{◌==◌, Option, Some, None}
+use Rattle.std.proofs.lemmas.Bool.Decides.{nat_tests}
+use Rattle.md_engine.specs.declared.configuration.ParseOptions.{ParseOptions}
+use Rattle.md_engine.specs.declared.event.Event.{Event}
+use Rattle.md_engine.specs.declared.event.Name.{Name}
+use Rattle.md_engine.specs.declared.event.Name.TheVariants as n
+use Rattle.md_engine.specs.declared.event.Point.{Point}
+use Rattle.md_meaning.specs.Leaves.{behind_word, first_word, nonempty, opening}
+use Rattle.md_meaning.specs.Rest.{run_len, trim_start}
+use Rattle.md_meaning.specs.State.{Opening}
+use Rattle.md_meaning.specs.Texts.{first_byte}
+use Rattle.md_code.specs.Fence.{fence_name, sequence_name}
+use Rattle.md_seam.specs.Events.Grammar.{Expression, plain_text, unread_text}
+use Rattle.md_seam.specs.Events.Nested.{around}
+use Rattle.md_seam.specs.Events.Pieces.{stands_over}
+use Rattle.md_seam.specs.Events.Places.{past_text}
+use Rattle.md_seam.specs.Events.Spelled.{OpenLeaf, Reading, fresh, read, role}
+use Rattle.md_seam.proofs.FeedLines.{past_text-whole}
+use Rattle.md_seam.proofs.EndingsLemmas.{AreOthers, stays-others}
+use Rattle.md_seam.proofs.GrammarLemmas.{Leads, leads-around}
+use Rattle.md_outline.specs.LinesStand.{AtEnding, begun_site}
+use Rattle.md_outline.specs.Roles.{is_told, is_unlisted}
+use Rattle.md_literal_rooms.specs.Leaf.Fence.{Inner, fence_parts, linked, past_white, read_inner}
+use Rattle.md_frame.proofs.BetweenFacts.{AreBetween, around-between}
+use Rattle.md_literal_rooms.proofs.Fence.Between as place
+use Rattle.md_frame.proofs.PlaceBetween as place_between
+use Rattle.md_literal_rooms.proofs.Fence.Each.{by-math}
+use Rattle.md_literal_rooms.proofs.Fence.Kept as kept
+use Rattle.md_frame.proofs.OtherNames as other_names
+use Rattle.md_literal_rooms.proofs.Fence.Laid.{Laid, Walked, line-walk}
+use Rattle.md_literal_rooms.proofs.Fence.Nested as nest
+use Rattle.md_literal_rooms.proofs.Fence.Pieces as piece
+use Rattle.md_literal_rooms.proofs.Fence.Reads as reading
+use Rattle.md_literal_rooms.proofs.Fence.Texts as texts
+use Rattle.md_literal_rooms.proofs.Fence.Walk.{Anywhere, parts-walk, sequence-over}
+use Rattle.md_literal_rooms.proofs.Fence.Words.{Word, fence-word, linked-word, read-word}
+use Rattle.md_literal_rooms.proofs.FenceFurther.Grammar.{behind_line}
+use Rattle.md_frame.proofs.IndentRemoved.Shown.{whole-clear}
+use Rattle.md_literal_rooms.proofs.FenceSpan.Open.{AreMarks, begin_of, kind_of, leaf_by, leaf_of}
+use Rattle.md_literal_rooms.proofs.FenceSpan.Plain.{walks-known}
+use Rattle.md_literal_rooms.proofs.FenceSpan.OutlineSites.{first-passes}
+use Rattle.md_frame.proofs.FillFacts.{PartsRead, fill-around}
+use Rattle.md_frame.proofs.PartedFacts.{PrefixesAtLineStart, Still, around-sits, clear}
+use Rattle.md_frame.proofs.PartsStand.{PartsWhole, stands-around}
+use Rattle.md_frame.proofs.PieceFacts.{stood-around}
+use Rattle.md_frame.proofs.PiecesLemmas.{Covered, tiled-around}
+use Rattle.md_frame.proofs.PlainFacts.{AreKnown, known-around}
+use Rattle.md_frame.proofs.LeafLines.Inside.{InsideFacts}
+use Rattle.md_frame.proofs.SpanLemmas.{around-nested}
+
+-- What a fence opens, by what stands behind its whitespace.
+abbrev pub opened_by : ℕ → List ℕ → Opening
+opened_by columns text =
+    let m = first_byte text in
+    let size = run_len m text in
+    opening m size columns (trim_start (drop size text))
+
+-- its markers
+abbrev pub marks_of : List ℕ → List ℕ
+marks_of text = take (run_len (first_byte text) text) text
+
+pub marks-are : (options : ParseOptions) (bytes line rest : List ℕ) (p : Point) (columns : ℕ) →
+    Laid options bytes line p rest → AreMarks (opened_by columns (trim_start line)) (marks_of (trim_start line))
+marks-are options bytes line rest p columns is =
+    go (marks_of text) (sequence-over options text is.fence) (reading.take-first (run_len (first_byte text) text) text)
+  where
+    text : List ℕ
+    text = trim_start line
+
+    positive : (k : ℕ) → (suc k == 0) ≡ false
+    positive k = grind (arith, nat_tests)
+
+    go : (ys : List ℕ) → stands_over (sequence_name (first_byte text)) ys ≡ true →
+        reading.FirstIs ys (first_byte text) → AreMarks (opened_by columns text) ys
+    go [] over first = absurd (reading.sequence-some (first_byte text) over)
+    go (c ∷ cs) over first = record { some = positive (length cs); first = first }
+
+-- as it is read
+leaf-same : (columns : ℕ) (text : List ℕ) →
+    reading.leaf_by (first_byte text == 36) (marks_of text) (trim_start (drop (run_len (first_byte text) text) text)) ≡
+    leaf_of (opened_by columns text) (marks_of text) [] false
+leaf-same columns text = go (first_byte text == 36)
+  where
+    xs : List ℕ
+    xs = trim_start (drop (run_len (first_byte text) text) text)
+
+    go : (x : Bool) →
+        reading.leaf_by x (marks_of text) xs ≡
+        leaf_by x (record { markers = marks_of text; lines = []; closed = false })
+        (cond x None (nonempty (first_word xs))) (nonempty (cond x xs (behind_word xs)))
+    go true = refl
+    go false = refl
+
+-- What stands behind its begin.
+abbrev pub first_inside : Inner → List ℕ → Point → Point → List Event
+first_inside inner line p e =
+    let text = trim_start line in
+    let m = first_byte text in
+    let q = past_white line p in
+    around (fence_name m) q e (fence_parts inner m text q)
+
+first-leads : (text : Expression) (inner : Inner) → Word text inner → (line : List ℕ) (p e : Point) →
+    let m = first_byte (trim_start line) in
+    Leads text (begin_of m ∷ []) (behind_line plain_text m ∷ []) (first_inside inner line p e)
+first-leads text inner word line p e =
+    let xs = trim_start line in
+    let m = first_byte xs in
+    let q = past_white line p in
+    let size = run_len m xs in
+    leads-around text (begin_of m) (fence_name m) q e (fence_parts inner m xs q)
+    (fence-word text inner word (m == 36) (drop size xs) q (past_text (take size xs) q))
+
+fence-known : (m : ℕ) → is_unlisted (role (fence_name m)) ≡ true
+fence-known m =
+    by-math (λ x. is_unlisted (role x) ≡ true) (m == 36) n.MathFlowFence n.CodeFencedFence refl refl
+
+fence-untold : (m : ℕ) → is_told (role (fence_name m)) ≡ false
+fence-untold m = by-math (λ x. is_told (role x) ≡ false) (m == 36) n.MathFlowFence n.CodeFencedFence refl refl
+
+pub first-facts : (options : ParseOptions) (bytes line rest : List ℕ) (p : Point) (columns : ℕ) →
+    Laid options bytes line p rest →
+    let text = trim_start line in
+    let m = first_byte text in
+    let e = past_text line p in
+    InsideFacts bytes (past_white line p) e (begin_of m) (behind_line plain_text m) (fresh (kind_of m))
+    (leaf_of (opened_by columns text) (marks_of text) [] false) (begun_site (kind_of m)) (AtEnding (kind_of m))
+    (first_inside linked line p e) (first_inside (read_inner bytes) line p e)
+first-facts options bytes line rest p columns is = record {
+  unread_nested = around-nested name q e unread nested.parts.0;
+  nested = around-nested name q e done nested.parts.1;
+  tiled = tiled-around name q e unread tiled.parts;
+  unread_stood = stood-around bytes name q e unread refl stood.parts.0;
+  stood = stood-around bytes name q e done refl stood.parts.1;
+  unread_word = first-leads unread_text linked linked-word line p e;
+  word = first-leads plain_text (read_inner bytes) (read-word bytes) line p e;
+  unread_stays = stays-others (around name q e unread) (other_names.others-around name q e unread other others.parts.0);
+  stays = stays-others (around name q e done) (other_names.others-around name q e done other others.parts.1);
+  unread_roles = kept.inside-parts linked kept.linked-parts m text q e;
+  roles = kept.inside-parts (read_inner bytes) (kept.read-parts bytes) m text q e;
+  parts = stands-around bytes name q e unread (texts.fence-kind m) stand.parts;
+  filled = fill-around bytes name q e unread done (texts.fence-kind m) filled.parts;
+  between = λ first last. around-between bytes name q e done first last (between first last);
+  parted =
+      around-sits bytes name q e done
+      (by-math (λ x. Still (role x)) (m == 36) n.MathFlowFence n.CodeFencedFence tt tt) sits.parts;
+  plain = λ first. record {
+    known = known-around bytes name q e done (fence-known m) (untold q) (untold e) (known first);
+    lines = first-passes options bytes line rest p e is;
+  };
+  reads = λ s none at.
+      ap (λ (o : Option OpenLeaf). read bytes (record s { leaf = o }) (around name q e done)) at
+      ∙ reading.fence-opened options bytes line rest p e s is none
+      ∙ ap (λ (l : OpenLeaf). let x : Reading = record s { leaf = Some l } in x) (leaf-same columns text);
+}
+  where
+    text : List ℕ
+    text = trim_start line
+
+    m : ℕ
+    m = first_byte (trim_start line)
+
+    q : Point
+    q = past_white line p
+
+    e : Point
+    e = past_text line p
+
+    name : Name
+    name = fence_name (first_byte (trim_start line))
+
+    unread : List Event
+    unread = fence_parts linked (first_byte (trim_start line)) (trim_start line) (past_white line p)
+
+    done : List Event
+    done = fence_parts (read_inner bytes) (first_byte (trim_start line)) (trim_start line) (past_white line p)
+
+    other : other_names.Other (fence_name (first_byte (trim_start line)))
+    other =
+        by-math other_names.Other (first_byte (trim_start line) == 36) n.MathFlowFence n.CodeFencedFence refl refl
+
+    nested : Walked linked (read_inner bytes) Anywhere nest.Both line p
+    nested =
+        line-walk options bytes linked (read_inner bytes) Anywhere nest.Both (nest.walks-nested bytes) line rest p is tt tt
+
+    tiled : Walked linked linked Anywhere (λ p q es ds. Covered p q es) line p
+    tiled =
+        line-walk options bytes linked linked Anywhere (λ p q es ds. Covered p q es) (nest.walks-tiled bytes) line rest p is
+        tt tt
+
+    stood : Walked linked (read_inner bytes) Anywhere (piece.Both bytes) line p
+    stood =
+        line-walk options bytes linked (read_inner bytes) Anywhere (piece.Both bytes) (piece.walks-stood bytes) line rest
+        p is tt tt
+
+    others : Walked linked (read_inner bytes) Anywhere kept.Both line p
+    others =
+        line-walk options bytes linked (read_inner bytes) Anywhere kept.Both (kept.walks-others bytes) line rest p is tt tt
+
+    stand : Walked linked linked Anywhere (λ p q es ds. PartsWhole bytes es) line p
+    stand =
+        line-walk options bytes linked linked Anywhere (λ p q es ds. PartsWhole bytes es) (texts.walks-stand bytes) line rest
+        p is tt tt
+
+    filled : Walked linked (read_inner bytes) Anywhere (λ p q es ds. PartsRead bytes es ds) line p
+    filled =
+        line-walk options bytes linked (read_inner bytes) Anywhere (λ p q es ds. PartsRead bytes es ds)
+        (texts.walks-filled bytes) line rest p is tt tt
+
+    sits : Walked (read_inner bytes) (read_inner bytes) Anywhere (λ p q es ds. PrefixesAtLineStart bytes es) line p
+    sits =
+        line-walk options bytes (read_inner bytes) (read_inner bytes) Anywhere (λ p q es ds. PrefixesAtLineStart bytes es)
+        (place.walks-sit bytes) line rest p is tt tt
+
+    between : place_between.IsPlace bytes q → place_between.IsPlace bytes e → AreBetween bytes done
+    between first last =
+        parts-walk options bytes (read_inner bytes) (read_inner bytes) (place_between.IsPlace bytes)
+        (λ p q es ds. AreBetween bytes es) (place.walks-between bytes) text rest q is.fence first
+        (subst (place_between.IsPlace bytes) (sym is.ends) last) is.at
+
+    known : clear bytes q ≡ true → AreKnown bytes done
+    known first =
+        parts-walk options bytes (read_inner bytes) (read_inner bytes) (λ p. clear bytes p ≡ true)
+        (λ p q es ds. AreKnown bytes es) (walks-known bytes) text rest q is.fence first
+        (whole-clear bytes (past_text text q) (past_text-whole text q is.at.whole)) is.at
+
+    untold : (x : Point) → (not (is_told (role (fence_name (first_byte (trim_start line))))) || clear bytes x) ≡ true
+    untold x = ap (λ (b : Bool). not b || clear bytes x) (fence-untold (first_byte (trim_start line)))
+
+-- No ending stands there, and no begin or end of a leaf.
+pub first-others : (options : ParseOptions) (bytes line rest : List ℕ) (p e : Point) → Laid options bytes line p rest →
+    AreOthers (first_inside linked line p e) × AreOthers (first_inside (read_inner bytes) line p e)
+first-others options bytes line rest p e is =
+    let m = first_byte (trim_start line) in
+    let q = past_white line p in
+    let walked = line-walk options bytes linked (read_inner bytes) Anywhere kept.Both (kept.walks-others bytes) line rest p
+    is tt tt in
+    let other : other_names.Other (fence_name m) =
+    by-math other_names.Other (m == 36) n.MathFlowFence n.CodeFencedFence refl refl in (
+      other_names.others-around (fence_name m) q e (fence_parts linked m (trim_start line) q) other walked.parts.0,
+      other_names.others-around (fence_name m) q e (fence_parts (read_inner bytes) m (trim_start line) q) other walked.parts.1,
+    )

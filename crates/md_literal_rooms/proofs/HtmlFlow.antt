@@ -1,0 +1,7 @@
+-- HTML: what its lines come to, the line that begins it and further ones, and their laws.
+pub mod Cells
+pub mod Found
+pub mod Laws
+pub mod Outside
+pub mod Registers
+pub mod Trial

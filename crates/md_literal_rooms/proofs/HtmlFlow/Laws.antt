@@ -1,0 +1,62 @@
+-- The laws of HTML, of its first line and of a further one, as the frame asks for them.
+use Rattle.md_frame.specs.RestLine.{rest_line}
+use Rattle.md_frame.specs.HeldLeaf.{kind_of_leaf}
+use Rattle.md_literal_rooms.specs.Leaf.HtmlFlow.{html_further, html_leaf}
+use Rattle.md_literal_rooms.proofs.HtmlFlow.Cells.{further-adds, further-fits, further-keeps, html-adds, html-fits}
+use Rattle.md_literal_rooms.proofs.HtmlFlow.Cells.{html-keeps}
+use Rattle.md_literal_rooms.proofs.HtmlFlow.Found.{further-held, further-not_lazy, html-held, html-lines, html-not_lazy}
+use Rattle.md_literal_rooms.proofs.HtmlFlow.Outside.{further-no_content, further-outside, further-own, further-unturned}
+use Rattle.md_literal_rooms.proofs.HtmlFlow.Outside.{html-no_content, html-outside, html-own, html-unturned}
+use Rattle.md_literal_rooms.proofs.HtmlFlow.Trial.{further-looked, further-refused, further-shrinks, further-took}
+use Rattle.md_literal_rooms.proofs.HtmlFlow.Trial.{html-looked, html-refused, html-shrinks, html-took}
+use Rattle.md_frame.proofs.LeafLaws.{LeafLaws}
+
+-- All that the frame asks of the line that begins HTML,
+pub html-laws : LeafLaws html_leaf
+html-laws = record {
+  looked = html-looked;
+  meets = λ options on r starts further. cc;
+  took = λ options cells h is few. html-took options cells h is;
+  refused = λ options cells h asked. html-refused options cells h;
+  shrinks = html-shrinks;
+  fits = html-fits;
+  adds_is = html-adds;
+  keeps_is = html-keeps;
+  shut = λ ends options on. absurd (cc);
+  finishes = λ ends options leaf r. cc;
+  holds_is = λ options leaf r starts. html-held options (kind_of_leaf leaf) leaf r;
+  not_lazy = html-not_lazy;
+  no_content = λ wants only. html-no_content wants;
+  own = λ options on cells p none. html-own options on cells p;
+  outside = λ stays options on r p starts. html-outside options on (rest_line r) p;
+  unturned_line = λ stays options on r p starts lines. html-unturned options on (rest_line r) p;
+  unturned = λ ends options on r p starts. absurd (cc);
+  set = λ ends options on r p es starts. cc;
+  unspanned = λ ends options on r p starts. absurd (cc);
+  facts = λ ends options on bytes r p q starts is. absurd (cc);
+}
+
+-- and of a further line: it goes on the HTML that it meets.
+pub html_further-laws : LeafLaws html_further
+html_further-laws = record {
+  looked = further-looked;
+  meets = λ options on r starts further. html-lines on further;
+  took = λ options cells h is few. further-took options cells h is;
+  refused = further-refused;
+  shrinks = further-shrinks;
+  fits = further-fits;
+  adds_is = further-adds;
+  keeps_is = further-keeps;
+  shut = λ ends options on. absurd (cc);
+  finishes = λ ends options leaf r. cc;
+  holds_is = λ options leaf r starts. further-held options leaf r;
+  not_lazy = further-not_lazy;
+  no_content = λ wants only. further-no_content wants only.flow;
+  own = λ options on cells p none. further-own options on cells p;
+  outside = λ stays options on r p starts. further-outside options on (rest_line r) p;
+  unturned_line = λ stays options on r p starts lines. further-unturned options on (rest_line r) p;
+  unturned = λ ends options on r p starts. absurd (cc);
+  set = λ ends options on r p es starts. cc;
+  unspanned = λ ends options on r p starts. absurd (cc);
+  facts = λ ends options on bytes r p q starts is. absurd (cc);
+}

@@ -1,0 +1,83 @@
+-- Nothing stands on a line of HTML that a resolver rewrites, and no content.
+use Rattle.std.proofs.Common.{◌≡◌, ℕ, Bool, true, false, cond, List, [], ◌∷◌, ◌++◌, refl, ap}
+use Rattle.std.specs.Prelude.{Some, None}
+use Rattle.md_engine.specs.declared.configuration.ParseOptions.{ParseOptions}
+use Rattle.md_engine.specs.declared.event.Content.{Content}
+use Rattle.md_engine.specs.declared.event.Content.TheVariants as content
+use Rattle.md_engine.specs.declared.event.Event.{Event}
+use Rattle.md_engine.specs.declared.event.Name.TheVariants as n
+use Rattle.md_engine.specs.declared.event.Point.{Point}
+use Rattle.md_engine.specs.declared.tokenizer.held_leaf.HeldLeaf.{HeldLeaf}
+use Rattle.md_engine.specs.Meaning.{Cell}
+use Rattle.md_meaning.specs.Bytes.{is_end}
+use Rattle.md_leaves.specs.Further.{further_link}
+use Rattle.md_seam.specs.Ahead.{line_bytes, line_end}
+use Rattle.md_seam.specs.Events.Nested.{around, enter_link, exit, pair}
+use Rattle.md_seam.specs.Events.Places.{past_text}
+use Rattle.md_literal_rooms.specs.Leaf.HtmlFlow.{html_further, html_leaf}
+use Rattle.md_frame.proofs.ContentFacts.{NoContent}
+use Rattle.md_frame.proofs.OutsideFacts.{AreOutside}
+use Rattle.md_frame.proofs.UnturnedFacts.{AreUnturned}
+
+-- A first line between two points, and a further one, by whether it is empty.
+
+abbrev first_line : Point → Point → List Event
+first_line p q = around n.HtmlFlow p q (pair n.HtmlFlowData p q)
+
+abbrev further_line : Bool → Point → Point → List Event
+further_line empty p q =
+    enter_link n.HtmlFlow p further_link ∷ cond empty [] (pair n.HtmlFlowData p q) ++ exit n.HtmlFlow q ∷ []
+
+-- No part of them is rewritten.
+
+first-outside : (p q : Point) → AreOutside (first_line p q)
+first-outside p q = (refl, (refl, (refl, (refl, tt))))
+
+line-outside : (empty : Bool) (p q : Point) → AreOutside (further_line empty p q)
+line-outside true p q = (refl, (refl, tt))
+line-outside false p q = (refl, (refl, (refl, (refl, tt))))
+
+pub html-own : (options : ParseOptions) (on : HeldLeaf) (cells : List Cell) (p : Point) →
+    AreOutside (html_leaf.adds options on cells p)
+html-own options on cells p = first-outside p (line_end cells p)
+
+pub further-own : (options : ParseOptions) (on : HeldLeaf) (cells : List Cell) (p : Point) →
+    AreOutside (html_further.adds options on cells p)
+further-own options on cells p = line-outside (is_end (line_bytes cells)) p (line_end cells p)
+
+pub html-outside : (options : ParseOptions) (on : HeldLeaf) (line : List ℕ) (p : Point) →
+    AreOutside (html_leaf.added options on line p)
+html-outside options on line p = first-outside p (past_text line p)
+
+pub further-outside : (options : ParseOptions) (on : HeldLeaf) (line : List ℕ) (p : Point) →
+    AreOutside (html_further.added options on line p)
+further-outside options on line p = line-outside (is_end line) p (past_text line p)
+
+-- No part of them is a text or an underline.
+
+pub html-unturned : (options : ParseOptions) (on : HeldLeaf) (line : List ℕ) (p : Point) →
+    AreUnturned (html_leaf.added options on line p)
+html-unturned options on line p = (refl, (refl, (refl, (refl, tt))))
+
+line-unturned : (empty : Bool) (p q : Point) → AreUnturned (further_line empty p q)
+line-unturned true p q = (refl, (refl, tt))
+line-unturned false p q = (refl, (refl, (refl, (refl, tt))))
+
+pub further-unturned : (options : ParseOptions) (on : HeldLeaf) (line : List ℕ) (p : Point) →
+    AreUnturned (html_further.added options on line p)
+further-unturned options on line p = line-unturned (is_end line) p (past_text line p)
+
+-- No content stands in them, and the link is to none that is read later.
+
+pub html-no_content : (wants : Content → Bool) (options : ParseOptions) (on : HeldLeaf) (cells : List Cell)
+    (p : Point) → NoContent wants (html_leaf.adds options on cells p)
+html-no_content wants options on cells p = (refl, refl, (refl, refl, (refl, refl, (refl, refl, tt))))
+
+pub further-no_content : (wants : Content → Bool) → wants content.Flow ≡ false → (options : ParseOptions)
+    (on : HeldLeaf) (cells : List Cell) (p : Point) → NoContent wants (html_further.adds options on cells p)
+further-no_content wants flow options on cells p = go (is_end (line_bytes cells))
+  where
+    go : (empty : Bool) → NoContent wants (further_line empty p (line_end cells p))
+    go true = (ap (λ (x : Bool). cond x (Some content.Flow) None) flow, refl, (refl, refl, tt))
+    go false =
+        (ap (λ (x : Bool). cond x (Some content.Flow) None) flow, refl, (refl, refl, (refl, refl, (refl, refl, tt))))

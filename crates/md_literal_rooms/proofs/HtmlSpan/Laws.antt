@@ -1,0 +1,156 @@
+-- The laws of HTML with all its lines, joined.
+use Rattle.std.proofs.Common.{◌≡◌, inl, ℕ, not, List, [], ◌∷◌, ◌++◌, refl, sym, ◌∙◌, ap, subst}
+use Rattle.std.specs.Prelude.{Option, Some}
+use Rattle.md_engine.specs.declared.configuration.ParseOptions.{ParseOptions}
+use Rattle.md_engine.specs.declared.event.Event.{Event}
+use Rattle.md_engine.specs.declared.event.Name.TheVariants as n
+use Rattle.md_engine.specs.declared.event.Point.{Point}
+use Rattle.md_meaning.specs.Html.{HtmlKind}
+use Rattle.md_meaning.specs.Leaves.{LeafResult}
+use Rattle.md_meaning.specs.Rest.{Rest, line_of}
+use Rattle.md_leaves.specs.Further.{further_link}
+use Rattle.md_leaves.proofs.SpannedLines.{IsFurther, IsBegin}
+use Rattle.md_outline.specs.LinesStand.{begun_site}
+use Rattle.md_html.specs.HtmlLine.{left_by}
+use Rattle.md_seam.specs.Events.Nested.{enter, enter_link, exit}
+use Rattle.md_seam.specs.Events.Spelled.{HtmlLeaf, OfHtml, fresh}
+use Rattle.md_frame.specs.RestLine.{rest_line}
+use Rattle.md_literal_rooms.specs.Leaf.HtmlFlow.{begins_as, html_further, html_leaf, kind_begun}
+use Rattle.md_frame.specs.Row.{Row, but_end, last_row, span_by, span_done}
+use Rattle.md_frame.proofs.IndentRemoved.Sites.{is_told_of}
+use Rattle.md_frame.proofs.FillFacts.{filled-read}
+use Rattle.md_literal_rooms.proofs.HtmlSpan.Lines.{behind_first, first-facts, html-inside, html_name, html_parts}
+use Rattle.md_literal_rooms.proofs.HtmlSpan.Lines.{html_site}
+use Rattle.md_literal_rooms.proofs.HtmlSpan.Rows.{first-done, first-full, first-inside, first-parts, further-inside}
+use Rattle.md_literal_rooms.proofs.HtmlSpan.Rows.{html-begun}
+use Rattle.md_literal_rooms.proofs.HtmlSpan.Walk.{rest-line}
+use Rattle.md_frame.proofs.LeafFacts.{LeafFacts}
+use Rattle.md_frame.proofs.IndentRemoved.Parts.{inside-lines, inside-others}
+use Rattle.md_frame.proofs.IndentRemoved.Places.{further-at}
+use Rattle.md_frame.proofs.PieceFacts.{Starts}
+use Rattle.md_frame.proofs.LeafLines.Cuts.{but_end-is}
+use Rattle.md_frame.proofs.LeafLines.Framed.{framed_by, line-spanned}
+use Rattle.md_frame.proofs.LeafLines.Lead.{lead-none}
+use Rattle.md_frame.proofs.LeafLines.Lines.{EndsLeaf, SpanFirst, ends-by}
+use Rattle.md_frame.proofs.LeafLines.Rest.{HasRest, block_by, came-shut, row_done, row_unread}
+use Rattle.md_frame.proofs.LeafLines.Whole.{rest-facts}
+use Rattle.md_frame.proofs.SpanLaws.{AreBehind, IsLineOf, IsNone, IsSpanned, SpanLaws, come_behind}
+use Rattle.md_frame.proofs.SpannedFacts.{AreUnspanned}
+
+-- Each line by itself.
+
+html-spanned : (Lead : List Event → Type 0) (Begins : Event → Type 0) (begin : Event) (r : Rest) (p q : Point)
+    (es : List Event) →
+    Lead [] → Begins begin → es ≡ begin ∷ html_parts r p q ++ exit n.HtmlFlow q ∷ [] → IsSpanned Lead Begins es
+html-spanned Lead Begins begin r p q es none is same =
+    line-spanned Lead Begins n.HtmlFlow begin q (html_parts r p q) es none is refl
+    (inside-lines (html_parts r p q) (html-inside r p q)) same
+
+first-spanned : (options : ParseOptions) (bytes : List ℕ) (row : Row) → IsLineOf options bytes html_leaf row →
+    IsSpanned AreUnspanned IsBegin row.inside
+first-spanned options bytes row is =
+    html-spanned AreUnspanned IsBegin (enter n.HtmlFlow row.first) is.rest row.first row.end row.inside tt
+    (record { kind = refl; lines = refl; link = refl }) (first-inside options bytes row is)
+
+further-spanned : (options : ParseOptions) (bytes : List ℕ) (row : Row) → IsLineOf options bytes html_further row →
+    IsSpanned IsNone IsFurther row.inside
+further-spanned options bytes row is =
+    html-spanned IsNone IsFurther (enter_link n.HtmlFlow row.first further_link) is.rest row.first row.end row.inside
+    refl (record { kind = refl; lines = refl; link = refl }) (further-inside options bytes row is)
+
+-- The first line.
+
+first-begins : (options : ParseOptions) (bytes : List ℕ) (row : Row) → (is : IsLineOf options bytes html_leaf row) →
+    but_end row.inside ≡ enter n.HtmlFlow row.first ∷ html_parts is.rest row.first row.end
+first-begins options bytes row is =
+    ap but_end (first-inside options bytes row is)
+    ∙ but_end-is (enter n.HtmlFlow row.first ∷ html_parts is.rest row.first row.end) (exit n.HtmlFlow row.end)
+
+first-ends : (options : ParseOptions) (bytes : List ℕ) (row : Row) → IsLineOf options bytes html_leaf row →
+    EndsLeaf row_unread (row_done bytes) n.HtmlFlow row
+first-ends options bytes row is =
+    let es = enter n.HtmlFlow row.first ∷ html_parts is.rest row.first row.end in
+    let same = first-inside options bytes row is in
+    ends-by row_unread (row_done bytes) n.HtmlFlow row es es is.at.end_whole same
+    (first-done options bytes row is ∙ same)
+
+abbrev first-line : (options : ParseOptions) (bytes : List ℕ) (row : Row) →
+    (is : IsLineOf options bytes html_leaf row) →
+    SpanFirst bytes row_unread (row_done bytes) n.HtmlFlow html_name.begin (fresh OfHtml) (begun_site OfHtml) row
+first-line options bytes row is = record {
+  ends = first-ends options bytes row is;
+  lead = [];
+  at = row.first;
+  lead_is = lead-none bytes row.first;
+  unread_inside = html_parts is.rest row.first row.end;
+  inside = html_parts is.rest row.first row.end;
+  unread_is = first-begins options bytes row is;
+  is = ap but_end (first-done options bytes row is) ∙ first-begins options bytes row is;
+  unread_starts = subst Starts (sym (first-parts options bytes row is)) refl;
+  starts = subst Starts (sym (first-parts options bytes row is)) refl;
+  left = behind_first;
+  leaf = HtmlLeaf (line_of is.rest ∷ []);
+  site = html_site is.rest;
+  facts =
+      first-facts bytes is.rest row.first row.end (further-at options bytes html_leaf row is)
+      (first-parts options bytes row is);
+}
+
+-- All lines.
+
+-- what the line definition comes to with the first, and with all
+abbrev first_came : Rest → LeafResult
+first_came r = begins_as (kind_begun r) r
+
+abbrev all_came : (options : ParseOptions) (bytes : List ℕ) (row : Row) (rows : List Row) →
+    IsLineOf options bytes html_leaf row → AreBehind options bytes html_further row rows → LeafResult
+all_came options bytes row rows is are = come_behind options bytes html_further row rows are (first_came is.rest)
+
+-- what stands behind the first
+rest-of : (options : ParseOptions) (bytes : List ℕ) (row : Row) (rows : List Row) →
+    (is : IsLineOf options bytes html_leaf row) → (are : AreBehind options bytes html_further row rows) →
+    HasRest bytes n.HtmlFlow behind_first (HtmlLeaf (line_of is.rest ∷ [])) (html_site is.rest) row rows
+    (all_came options bytes row rows is are)
+rest-of options bytes row rows is are =
+    let begun = html-begun options row.on is.rest is.starts in
+    subst
+    (λ (k : Option HtmlKind).
+    HasRest bytes n.HtmlFlow behind_first (HtmlLeaf (line_of is.rest ∷ [])) (html_site is.rest) row rows
+    (come_behind options bytes html_further row rows are (begins_as k is.rest))) (sym begun.1)
+    (rest-line options bytes begun.0 [] is.rest behind_first (is_told_of (rest_line is.rest)) row rows refl refl
+    (is.behind ∙ ap (λ (k : Option HtmlKind). left_by k is.rest.bytes) begun.1) are)
+
+all-facts : (options : ParseOptions) (bytes : List ℕ) (row : Row) (rows : List Row) →
+    (is : IsLineOf options bytes html_leaf row) → (are : AreBehind options bytes html_further row rows) →
+    LeafFacts bytes (Some (block_by (all_came options bytes row rows is are))) (not (last_row row rows).empty) row.first
+    (last_row row rows).end (span_by row_unread row rows) (framed_by (row_done bytes) row rows)
+all-facts options bytes row rows is are =
+    let others = inside-others (html_parts is.rest row.first row.end) (html-inside is.rest row.first row.end) in
+    rest-facts bytes n.HtmlFlow OfHtml row rows (all_came options bytes row rows is are) html_name tt
+    (first-line options bytes row is) (rest-of options bytes row rows is are) others others
+    (first-full options bytes row is)
+
+-- what is read of them all is read of each
+all-read : (options : ParseOptions) (bytes : List ℕ) (row : Row) (rows : List Row) →
+    IsLineOf options bytes html_leaf row → AreBehind options bytes html_further row rows →
+    framed_by (row_done bytes) row rows ≡ span_done bytes row rows
+all-read options bytes row rows is are =
+    sym
+    (filled-read bytes (span_by row_unread row rows) (framed_by (row_done bytes) row rows)
+    (all-facts options bytes row rows is are).filled)
+
+-- The laws.
+pub html-span : SpanLaws html_leaf html_further
+html-span = record {
+  first_spanned = λ options bytes row is first. first-spanned options bytes row is;
+  further_spanned = λ options bytes row is further. inl (further-spanned options bytes row is);
+  block = λ options bytes row rows is are. block_by (all_came options bytes row rows is are);
+  facts = λ options bytes row rows is first are.
+      subst
+      (λ (es : List Event).
+      LeafFacts bytes (Some (block_by (all_came options bytes row rows is are))) (not (last_row row rows).empty)
+      row.first (last_row row rows).end (span_by row_unread row rows) es) (all-read options bytes row rows is are)
+      (all-facts options bytes row rows is are);
+  shuts = λ options bytes row rows is first are bs.
+      came-shut options bs (all_came options bytes row rows is are) (rest-of options bytes row rows is are).came;
+}

@@ -1,0 +1,6 @@
+pub mod CodeIndented
+pub mod Fence
+pub mod FenceFurther
+pub mod FenceSpan
+pub mod HtmlFlow
+pub mod HtmlSpan

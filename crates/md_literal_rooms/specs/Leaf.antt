@@ -1,0 +1,5 @@
+-- The leaves, each with what the frame asks of it: those on one line (`LineLeaf`), and text (`TextLeaf`).
+pub mod CodeIndented
+pub mod Fence
+pub mod FenceFurther
+pub mod HtmlFlow

@@ -1,0 +1,7 @@
+use Rattle.std.proofs.lemmas.Bool.Decides.{same_from_decides}
+use Rattle.std.proofs.lemmas.Slice.Eq.{bytes_eq-Decides}
+use Rattle.md_meaning.proofs.html_names.is_name.Goals as goal
+
+pub returns : goal.returns
+returns c =
+    rw (← c.as_bytes.ensures.value) (same_from_decides _ _ c.eq_ignore_ascii_case.ensures.test (bytes_eq-Decides _ _))

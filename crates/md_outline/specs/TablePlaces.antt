@@ -1,0 +1,73 @@
+-- Tables as an outline can show them (GFM 4.10): a head row, behind that the delimiter row, and then further rows. A row
+-- has its cells one behind the other, and a cell has one text at the most. Line endings and container prefixes stand
+-- between the rows; a line ending in the text of a cell is a part of it.
+--
+-- Where in a table one is, and what may stand there, is a matter of the roles of the events alone.
+use Rattle.std.specs.Prelude.{Option, Some, None}
+use Rattle.md_engine.specs.declared.event.Kind.{Kind}
+use Rattle.md_engine.specs.declared.event.Kind.TheVariants.{Enter, Exit}
+use Rattle.md_seam.specs.Events.Spelled.{AsCell, AsDelimiter, ContainerRole, IsCell, IsEnding, IsPrefix, IsQuiet, IsRow}
+use Rattle.md_seam.specs.Events.Spelled.{OfTable, LeafRole, Role, TextRole}
+
+-- The rows of a table that have cells.
+pub data Row : Type 0 where
+  HeadRow : Row
+  BodyRow : Row
+
+-- Where in a table one is.
+pub data TablePlace : Type 0 where
+  -- in front of its head row
+  AtHead : TablePlace
+  -- in a row, between its cells
+  InRow : Row → TablePlace
+  -- in a cell of it: in front of its text, in that, and behind it
+  AtCell : Row → TablePlace
+  InCell : Row → TablePlace
+  BehindCell : Row → TablePlace
+  -- behind the head row, in front of the delimiter row, and in that
+  BehindHead : TablePlace
+  InDelimiter : TablePlace
+  -- behind the delimiter row, or behind a further row
+  BehindRow : TablePlace
+
+abbrev pub behind_row : Row → TablePlace
+behind_row HeadRow = BehindHead
+behind_row BodyRow = BehindRow
+
+-- where one is behind an event, if still in the table
+abbrev pub spot_by : TablePlace → Kind → Role → Option TablePlace
+spot_by spot kind IsQuiet = Some spot
+spot_by AtHead Enter IsRow = Some (InRow HeadRow)
+spot_by (InRow row) Enter IsCell = Some (AtCell row)
+spot_by (InRow row) Exit IsRow = Some (behind_row row)
+spot_by (AtCell row) Enter (TextRole x) = Some (InCell row)
+spot_by (AtCell row) Exit IsCell = Some (InRow row)
+spot_by (InCell row) Exit (TextRole x) = Some (BehindCell row)
+spot_by (BehindCell row) Exit IsCell = Some (InRow row)
+spot_by BehindHead Enter (TextRole x) = Some InDelimiter
+spot_by InDelimiter Exit (TextRole x) = Some BehindRow
+spot_by BehindRow Enter IsRow = Some (InRow BodyRow)
+spot_by BehindRow Exit (LeafRole x) = None
+spot_by spot kind x = Some spot
+
+-- what may stand there; no container begins or ends in a table
+abbrev pub MayBe : TablePlace → Kind → Role → Type 0
+MayBe spot kind IsQuiet = Unit {0}
+MayBe spot kind (ContainerRole shape) = ⊥
+MayBe AtHead Enter IsRow = Unit {0}
+MayBe (InRow row) Enter IsCell = Unit {0}
+MayBe (InRow row) Exit IsRow = Unit {0}
+MayBe (AtCell row) Enter (TextRole AsCell) = Unit {0}
+MayBe (AtCell row) Exit IsCell = Unit {0}
+MayBe (InCell row) kind IsEnding = Unit {0}
+MayBe (InCell row) Exit (TextRole AsCell) = Unit {0}
+MayBe (BehindCell row) Exit IsCell = Unit {0}
+MayBe BehindHead kind IsPrefix = Unit {0}
+MayBe BehindHead kind IsEnding = Unit {0}
+MayBe BehindHead Enter (TextRole AsDelimiter) = Unit {0}
+MayBe InDelimiter Exit (TextRole AsDelimiter) = Unit {0}
+MayBe BehindRow kind IsPrefix = Unit {0}
+MayBe BehindRow kind IsEnding = Unit {0}
+MayBe BehindRow Enter IsRow = Unit {0}
+MayBe BehindRow Exit (LeafRole OfTable) = Unit {0}
+MayBe spot kind x = ⊥

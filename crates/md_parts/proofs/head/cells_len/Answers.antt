@@ -1,6 +1,0 @@
-use Rattle.std.proofs.Common.{sym}
-use Rattle.md_parts.proofs.HeadLemmas.{cells-counted}
-use Rattle.md_parts.proofs.head.cells_len.Goals as goal
-
-pub returns : goal.returns
-returns c = rw (c.pieces_len.ensures, c.after_optional.ensures, c.trim.ensures) (sym (cells-counted c.args.line.now))

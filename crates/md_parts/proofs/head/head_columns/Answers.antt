@@ -1,5 +1,0 @@
-use Rattle.md_parts.proofs.HeadLemmas.{head-alone}
-use Rattle.md_parts.proofs.head.head_columns.Goals as goal
-
-pub returns-in-None : goal.returns-in-None
-returns-in-None c = head-alone c.args.line.now c.in-None.ensures

@@ -1,8 +1,0 @@
-use Rattle.std.specs.Option.{option_copied}
-use Rattle.md_plain.proofs.LineLemmas.{opening-math}
-use Rattle.md_plain.proofs.leaves.opening.Goals as goal
-
-pub returns-then-marker-eq36 : goal.returns-then-marker-eq36
-returns-then-marker-eq36 c =
-    opening-math c.args.marker c.args.size c.args.indent c.args.text.now (option_copied c.nonempty.result)
-    c.if-marker-eq36.true c.nonempty.ensures

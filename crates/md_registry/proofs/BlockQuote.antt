@@ -1,0 +1,2 @@
+-- Block quotes.
+pub mod Plain

@@ -1,0 +1,333 @@
+-- The states of the constructs that are built, in the table of flow: where each leaf and container is tried, and that
+-- each state ends, means its rule, and keeps what is known of resolvers.
+use Rattle.std.proofs.Common.{◌≡◌, ◌<◌, List, [], ◌∷◌, refl, ◌∙◌, ap, ℕ, arith}
+use Rattle.std.specs.Prelude.{Some}
+use Rattle.md_engine.specs.declared.configuration.ParseOptions.{ParseOptions}
+use Rattle.md_engine.specs.declared.state.Name.{Name as StateName}
+use Rattle.md_engine.specs.declared.state.Name.TheVariants as n
+use Rattle.md_engine.specs.declared.state.block_quote.State.TheVariants as its
+use Rattle.md_engine.specs.declared.state.document.State.{State as DocumentState}
+use Rattle.md_engine.specs.declared.state.document.State.TheVariants as document
+use Rattle.md_engine.specs.declared.state.flow.State.{State as FlowState}
+use Rattle.md_engine.specs.declared.state.flow.State.TheVariants as flow
+use Rattle.md_engine.specs.declared.state.gfm_footnote_definition.State.TheVariants as footnote
+use Rattle.md_engine.specs.declared.state.list_item.State.TheVariants as item
+use Rattle.md_engine.specs.declared.state.State.TheVariants.{Next}
+use Rattle.md_engine.specs.declared.tokenizer.container.name.ContainerKind.{ContainerKind}
+use Rattle.md_engine.specs.declared.tokenizer.container.name.ContainerKind.TheVariants as kind
+use Rattle.md_engine.specs.Meaning.{Cell, Feed, Here, Steps}
+use Rattle.md_engine.specs.Scheme.{After, Position, after_all, position}
+use Rattle.md_engine.specs.World.{World, looks}
+use Rattle.md_engine.proofs.Local.{fits}
+use Rattle.md_engine.proofs.StepOf.{Sees}
+use Rattle.md_containers.specs.Footnote.{footnote_scheme}
+use Rattle.md_containers.specs.Item.{item_scheme}
+use Rattle.md_containers.specs.Quote.{quote_scheme}
+use Rattle.md_containers.proofs.FootnoteTermination.{FootnoteFits, footnote_terminates}
+use Rattle.md_containers.proofs.FootnoteMeaning.{footnote_means}
+use Rattle.md_containers.proofs.ItemTermination.{ItemFits, item_terminates}
+use Rattle.md_containers.proofs.ItemMeaning.{item_means}
+use Rattle.md_containers.proofs.QuoteTermination.{QuoteFits, quote_terminates}
+use Rattle.md_containers.proofs.QuoteMeaning.{quote_means}
+use Rattle.md_leaves.proofs.BlankTermination.{BlankFits}
+use Rattle.md_leaves.proofs.BreakTermination.{BreakFits, break_terminates}
+use Rattle.md_leaves.proofs.BreakMeaning.{break_means}
+use Rattle.md_leaves.proofs.HeadingTermination.{HeadingFits, heading_terminates}
+use Rattle.md_leaves.proofs.HeadingMeaning.{heading_means}
+use Rattle.md_leaves.proofs.SetextTermination.{SetextFits, setext_terminates}
+use Rattle.md_leaves.proofs.SetextMeaning.{setext_means}
+use Rattle.md_seam.specs.Ahead.{HasWhite}
+use Rattle.md_seam.specs.Spaces.{rest_ready}
+use Rattle.md_code.proofs.CodeTermination.{CodeFits, code_terminates}
+use Rattle.md_code.proofs.CodeMeaning.{code_means}
+use Rattle.md_code.proofs.FenceTermination.{FenceFits, fence_terminates}
+use Rattle.md_code.proofs.FenceMeaning.{fence_means}
+use Rattle.md_seam.proofs.SpacesTermination.{Does, WhiteFits}
+use Rattle.md_frame.specs.Rule.{Rule}
+use Rattle.md_frame.specs.LeafName.{CodeFurther, CodeIndented, Fence, FenceFurther, HeadingAtx, HeadingSetext, GfmTable}
+use Rattle.md_frame.specs.LeafName.{HtmlFlow, HtmlFurther, LeafName, ThematicBreak}
+use Rattle.md_registry.specs.Registry.{behind, construct_owner, construct_transition, container_rules, leaf, opener_at}
+use Rattle.md_registry.specs.Registry.{openers_behind, tried_at}
+use Rattle.md_registry.specs.States.{flow_behaves_by, flow_owner, flow_table_scheme}
+use Rattle.md_container_rooms.proofs.BlockQuote.Registers.{quote-registers}
+use Rattle.md_literal_rooms.proofs.CodeIndented.Registers.{code-registers}
+use Rattle.md_literal_rooms.proofs.Fence.Registers.{fence-registers}
+use Rattle.md_container_rooms.proofs.GfmFootnoteDefinition.Registers.{footnote-registers}
+use Rattle.md_table_rooms.proofs.GfmTable.Registers.{table-registers}
+use Rattle.md_registry.proofs.Termination.{Anywhere, ContainerFits, IsWithin}
+use Rattle.md_literal_rooms.proofs.HtmlFlow.Registers.{html-registers}
+use Rattle.md_tables.proofs.GfmTableTermination.{TableFits, table_terminates}
+use Rattle.md_tables.proofs.GfmTableMeaning.{table_means}
+use Rattle.md_html.proofs.HtmlTermination.{HtmlFits, html_terminates}
+use Rattle.md_html.proofs.HtmlMeaning.{html_means}
+use Rattle.md_leaf_rooms.proofs.HeadingAtx.Registers.{heading-registers}
+use Rattle.md_leaf_rooms.proofs.HeadingSetext.Registers.{setext-registers}
+use Rattle.md_container_rooms.proofs.ListItem.Registers.{item-registers}
+use Rattle.md_frame.proofs.Registers.{Registers}
+use Rattle.md_leaf_rooms.proofs.ThematicBreak.Registers.{break-registers}
+
+-- a leaf is tried only at the state before it
+pub tried-before : (state : FlowState) (l : LeafName) → tried_at state ≡ Some l → (leaf l).before ≡ state
+tried-before flow.BeforeCodeIndented CodeIndented e = refl
+tried-before flow.BeforeRaw Fence e = refl
+tried-before flow.BeforeHtml HtmlFlow e = refl
+tried-before flow.BeforeHeadingAtx HeadingAtx e = refl
+tried-before flow.BeforeHeadingSetext HeadingSetext e = refl
+tried-before flow.BeforeThematicBreak ThematicBreak e = refl
+tried-before flow.BeforeGfmTable GfmTable e = refl
+tried-before _ _ e = cc
+
+-- whether a leaf is tried at the state before it: one that only takes further lines is not
+abbrev pub HasTrial : LeafName → Type 0
+HasTrial l = tried_at (leaf l).before ≡ Some l
+
+pub is-tried : (state : FlowState) (l : LeafName) → tried_at state ≡ Some l → HasTrial l
+is-tried state l e = ap tried_at (tried-before state l e) ∙ e
+
+-- the first of these leaves is tried, and the others are those that are tried after it
+abbrev pub NextIs : List LeafName → Type 0
+NextIs [] = Unit {0}
+NextIs (m ∷ ms) = HasTrial m × (behind m ≡ ms)
+
+pub leaf-next : (l : LeafName) → HasTrial l → NextIs (behind l)
+leaf-next CodeIndented is = (refl, refl)
+leaf-next CodeFurther is = absurd (cc)
+leaf-next Fence is = (refl, refl)
+leaf-next FenceFurther is = absurd (cc)
+leaf-next HtmlFlow is = (refl, refl)
+leaf-next HtmlFurther is = absurd (cc)
+leaf-next HeadingAtx is = (refl, refl)
+leaf-next HeadingSetext is = (refl, refl)
+leaf-next ThematicBreak is = (refl, refl)
+leaf-next GfmTable is = tt
+
+-- what the table has of a leaf: its first state is ready at rest, and of a lower level than flow; and what is left
+-- there is the trial of the leaf, whatever the text is
+pub record LeafStates (l : LeafName) : Type 1 where
+  pub level : (flow_owner (leaf l).start).level (leaf l).start < 3
+  pub ready : (x : Position) (K : After) → rest_ready x K → (flow_owner (leaf l).start).ready (leaf l).start x K
+  pub starts : (bytes : List ℕ) (options : ParseOptions) (next : Rule) (cells : List Cell) (h : Here) →
+      flow_behaves_by bytes options next (leaf l).start cells h ≡ (leaf l).trial options cells h
+
+pub leaf-states : (l : LeafName) → LeafStates l
+leaf-states CodeIndented =
+    record { level = omega arith; ready = λ x K is. is; starts = λ bytes options next cells h. refl }
+leaf-states CodeFurther =
+    record { level = omega arith; ready = λ x K is. is; starts = λ bytes options next cells h. refl }
+leaf-states Fence = record { level = omega arith; ready = λ x K is. is; starts = λ bytes options next cells h. refl }
+leaf-states FenceFurther =
+    record { level = omega arith; ready = λ x K is. is; starts = λ bytes options next cells h. refl }
+leaf-states HtmlFlow =
+    record { level = omega arith; ready = λ x K is. is; starts = λ bytes options next cells h. refl }
+leaf-states HtmlFurther =
+    record { level = omega arith; ready = λ x K is. is; starts = λ bytes options next cells h. refl }
+leaf-states HeadingAtx =
+    record { level = omega arith; ready = λ x K is. is; starts = λ bytes options next cells h. refl }
+leaf-states HeadingSetext =
+    record { level = omega arith; ready = λ x K is. is; starts = λ bytes options next cells h. refl }
+leaf-states ThematicBreak =
+    record { level = omega arith; ready = λ x K is. is; starts = λ bytes options next cells h. refl }
+leaf-states GfmTable =
+    record { level = omega arith; ready = λ x K is. is; starts = λ bytes options next cells h. refl }
+
+-- a container is tried only at the state before it
+pub opener-before : (state : DocumentState) (k : ContainerKind) → opener_at state ≡ Some k →
+    (container_rules k).before ≡ state
+opener-before document.ContainerNewBefore kind.BlockQuote e = refl
+opener-before document.ContainerNewBeforeNotBlockQuote kind.ListItem e = refl
+opener-before document.ContainerNewBeforeNotList kind.GfmFootnoteDefinition e = refl
+opener-before _ _ e = cc
+
+-- the other kinds are those that are tried after the first
+abbrev pub NextOpener : List ContainerKind → Type 0
+NextOpener [] = Unit {0}
+NextOpener (k ∷ ks) = openers_behind k ≡ ks
+
+-- what the table has of a container: its states have their place in it, and what is left at them is what the
+-- container says
+pub record ContainerStates (k : ContainerKind) : Type 1 where
+  -- where it is tried, and which is tried next
+  pub tried : opener_at (container_rules k).before ≡ Some k
+  pub next : NextOpener (openers_behind k)
+  pub begins : ContainerFits flow_table_scheme Anywhere (container_rules k).start
+  pub begins_is : (bytes : List ℕ) (options : ParseOptions) (next : Rule) (cells : List Cell) (h : Here) →
+      flow_behaves_by bytes options next (container_rules k).start cells h ≡ (container_rules k).begins options cells h
+  pub goes_on : ContainerFits flow_table_scheme IsWithin (container_rules k).further
+  pub goes_on_is : (bytes : List ℕ) (options : ParseOptions) (next : Rule) (cells : List Cell) (h : Here) →
+      flow_behaves_by bytes options next (container_rules k).further cells h ≡
+      (container_rules k).continues options cells h
+
+-- a further line of an item, and of a footnote definition
+item_further : ContainerFits flow_table_scheme IsWithin (n.ListItem item.ContStart)
+item_further = record {
+  own = item_scheme;
+  starts = fits flow_owner (n.ListItem item.ContStart);
+  level = omega arith;
+  ready = λ x K rest here ends. ((rest, ends), here);
+}
+
+pub container-states : (k : ContainerKind) → ContainerStates k
+container-states kind.BlockQuote = record {
+  tried = refl;
+  next = refl;
+  begins = record {
+    own = quote_scheme;
+    starts = fits flow_owner (n.BlockQuote its.Start);
+    level = omega arith;
+    ready = λ x K rest here ends. (rest, ends);
+  };
+  begins_is = λ bytes options next cells h. refl;
+  goes_on = record {
+    own = quote_scheme;
+    starts = fits flow_owner (n.BlockQuote its.ContStart);
+    level = omega arith;
+    ready = λ x K rest here ends. (rest, ends);
+  };
+  goes_on_is = λ bytes options next cells h. refl;
+}
+container-states kind.ListItem = record {
+  tried = refl;
+  next = refl;
+  begins = record {
+    own = item_scheme;
+    starts = fits flow_owner (n.ListItem item.Start);
+    level = omega arith;
+    ready = λ x K rest here ends. (rest, ends);
+  };
+  begins_is = λ bytes options next cells h. refl;
+  goes_on = item_further;
+  goes_on_is = λ bytes options next cells h. refl;
+}
+container-states kind.GfmFootnoteDefinition = record {
+  tried = refl;
+  next = tt;
+  begins = record {
+    own = footnote_scheme;
+    starts = fits flow_owner (n.GfmFootnoteDefinition footnote.Start);
+    level = omega arith;
+    ready = λ x K rest here ends. (rest, ends);
+  };
+  begins_is = λ bytes options next cells h. refl;
+  goes_on = item_further;
+  goes_on_is = λ bytes options next cells h. refl;
+}
+
+pub white_fits : WhiteFits flow_table_scheme
+white_fits = record { each = λ state. fits flow_owner (n.SpaceOrTab state) }
+
+pub blank_fits : BlankFits flow_table_scheme
+blank_fits = record { white = white_fits; each = λ state. fits flow_owner (n.BlankLine state) }
+
+break_fits : BreakFits flow_table_scheme
+break_fits = record { white = white_fits; each = λ state. fits flow_owner (n.ThematicBreak state) }
+
+heading_fits : HeadingFits flow_table_scheme
+heading_fits = record { white = white_fits; each = λ state. fits flow_owner (n.HeadingAtx state) }
+
+setext_fits : SetextFits flow_table_scheme
+setext_fits = record { white = white_fits; each = λ state. fits flow_owner (n.HeadingSetext state) }
+
+code_fits : CodeFits flow_table_scheme
+code_fits = record { white = white_fits; each = λ state. fits flow_owner (n.CodeIndented state) }
+
+fence_fits : FenceFits flow_table_scheme
+fence_fits = record { white = white_fits; each = λ state. fits flow_owner (n.RawFlow state) }
+
+table_fits : TableFits flow_table_scheme
+table_fits = record { white = white_fits; each = λ state. fits flow_owner (n.GfmTable state) }
+
+html_fits : HtmlFits flow_table_scheme
+html_fits = record { each = λ state. fits flow_owner (n.HtmlFlow state) }
+
+quote_fits : QuoteFits flow_table_scheme
+quote_fits = record { white = white_fits; each = λ state. fits flow_owner (n.BlockQuote state) }
+
+item_fits : ItemFits flow_table_scheme
+item_fits = record {
+  white = white_fits;
+  blank = blank_fits;
+  breaks = break_fits;
+  each = λ state. fits flow_owner (n.ListItem state);
+}
+
+footnote_fits : FootnoteFits flow_table_scheme
+footnote_fits = record { white = white_fits; each = λ state. fits flow_owner (n.GfmFootnoteDefinition state) }
+
+pub white_has : (bytes : List ℕ) (options : ParseOptions) (next : Rule) → HasWhite (flow_behaves_by bytes options next)
+white_has bytes options next = record { each = λ _ _ _. refl }
+
+-- each state ends,
+pub construct-does : (name : StateName) (w : World) →
+    w.current ≡ looks w → (construct_owner name).ready name (position w) (after_all flow_table_scheme w.frames) →
+    Does flow_table_scheme name w (construct_transition name w)
+construct-does (n.BlockQuote state) w c at = quote_terminates flow_table_scheme state w quote_fits c at
+construct-does (n.CodeIndented state) w c at = code_terminates flow_table_scheme state w code_fits c at
+construct-does (n.GfmFootnoteDefinition state) w c at =
+    footnote_terminates flow_table_scheme state w footnote_fits c at
+construct-does (n.GfmTable state) w c at = table_terminates flow_table_scheme state w table_fits c at
+construct-does (n.HeadingAtx state) w c at =
+    heading_terminates flow_table_scheme state w heading_fits c at
+construct-does (n.HeadingSetext state) w c at = setext_terminates flow_table_scheme state w setext_fits c at
+construct-does (n.HtmlFlow state) w c at = html_terminates flow_table_scheme state w html_fits c at
+construct-does (n.ListItem state) w c at = item_terminates flow_table_scheme state w item_fits c at
+construct-does (n.RawFlow state) w c at = fence_terminates flow_table_scheme state w fence_fits c at
+construct-does (n.ThematicBreak state) w c at = break_terminates flow_table_scheme state w break_fits c at
+construct-does name w c at = absurd at
+
+-- takes one step of its rule,
+pub construct-steps : (feed : Feed) (next : Rule) (name : StateName)
+    (w : World) →
+    Sees feed w → w.current ≡ looks w → (construct_owner name).ready name (position w) (after_all flow_table_scheme w.frames) →
+    Steps (flow_behaves_by w.setting.bytes w.setting.options next) feed (Next name) w
+    (construct_transition name w).to
+    (construct_transition name w).world
+construct-steps feed next (n.BlockQuote state) w s c at =
+    quote_means _ feed state w
+    (record { white = white_has w.setting.bytes w.setting.options next; each = λ _ _ _. refl }) s
+construct-steps feed next (n.CodeIndented state) w s c at =
+    code_means _ feed state w
+    (record { white = white_has w.setting.bytes w.setting.options next; each = λ _ _ _. refl }) s at.0
+construct-steps feed next (n.GfmFootnoteDefinition state) w s c at =
+    footnote_means _ feed state w _
+    (record { white = white_has w.setting.bytes w.setting.options next; each = λ _ _ _. refl }) s at
+construct-steps feed next (n.GfmTable state) w s c at =
+    table_means _ feed state w _
+    (record { white = white_has w.setting.bytes w.setting.options next; each = λ _ _ _. refl }) s at
+construct-steps feed next (n.HeadingAtx state) w s c at =
+    heading_means _ feed state w _
+    (record { white = white_has w.setting.bytes w.setting.options next; each = λ _ _ _. refl }) s at
+construct-steps feed next (n.HeadingSetext state) w s c at =
+    setext_means _ feed state w _
+    (record { white = white_has w.setting.bytes w.setting.options next; each = λ _ _ _. refl }) s at
+construct-steps feed next (n.HtmlFlow state) w s c at =
+    html_means _ feed state w _ (record { each = λ _ _ _. refl }) s c at
+construct-steps feed next (n.ListItem state) w s c at =
+    item_means _ feed state w _
+    (record {
+      white = white_has w.setting.bytes w.setting.options next;
+      blank = record { white = white_has w.setting.bytes w.setting.options next; each = λ _ _ _. refl };
+      breaks = record { white = white_has w.setting.bytes w.setting.options next; each = λ _ _ _. refl };
+      each = λ _ _ _. refl;
+    }) s at
+construct-steps feed next (n.RawFlow state) w s c at =
+    fence_means _ feed state w _
+    (record { white = white_has w.setting.bytes w.setting.options next; each = λ _ _ _. refl }) s at
+construct-steps feed next (n.ThematicBreak state) w s c at =
+    break_means _ feed state w _
+    (record { white = white_has w.setting.bytes w.setting.options next; each = λ _ _ _. refl }) s at
+construct-steps feed next name w s c at = absurd at
+
+-- and keeps what is known of resolvers
+pub construct-registers : (name : StateName) (w : World) → Registers w →
+    Registers (construct_transition name w).world
+construct-registers (n.BlockQuote state) w h = quote-registers state w h
+construct-registers (n.CodeIndented state) w h = code-registers state w h
+construct-registers (n.GfmFootnoteDefinition state) w h = footnote-registers state w h
+construct-registers (n.GfmTable state) w h = table-registers state w h
+construct-registers (n.HeadingAtx state) w h = heading-registers state w h
+construct-registers (n.HeadingSetext state) w h = setext-registers state w h
+construct-registers (n.HtmlFlow state) w h = html-registers state w h
+construct-registers (n.ListItem state) w h = item-registers state w h
+construct-registers (n.RawFlow state) w h = fence-registers state w h
+construct-registers (n.ThematicBreak state) w h = break-registers state w h
+construct-registers _ w h = h

@@ -1,0 +1,2 @@
+-- Footnote definitions.
+pub mod Plain

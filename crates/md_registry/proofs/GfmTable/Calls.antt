@@ -1,0 +1,109 @@
+-- Calls of the states of a table, several at once, are calls of the table of flow.
+use Rattle.std.proofs.Common.{◌≡◌, ◌≢◌, ◌<◌, ◌⊎◌, ap, inl, inr, refl, subst, sym}
+use Rattle.md_engine.specs.declared.state.Name.{Name as StateName}
+use Rattle.md_engine.specs.declared.state.State.{State}
+use Rattle.md_engine.specs.declared.state.State.TheVariants.{Error, Next, Retry}
+use Rattle.md_engine.specs.Going.{SeesOn}
+use Rattle.md_engine.specs.Run.{RunsHere, plain, reading}
+use Rattle.md_engine.specs.Scheme.{stands, work}
+use Rattle.md_engine.specs.World.{World, looks}
+use Rattle.md_engine.proofs.Loops.{CameHere, came-first, came-on, came-runs, came-stays, not_error}
+use Rattle.md_engine.proofs.Walks.{here-keeps}
+use Rattle.md_leaves.proofs.HeadingWords.{sees-from}
+use Rattle.md_tables.specs.GfmTable.{AnswersWith}
+use Rattle.md_tables.specs.GfmTable.AnswersWith.{ThatStays, ThatTook}
+use Rattle.md_tables.specs.Row.{name_at, row_transition}
+use Rattle.md_tables.specs.RowWords.{RowStep}
+use Rattle.md_tables.specs.RowWords.RowStep.{OfRow, OfWhite}
+use Rattle.md_tables.specs.declared.row.Place.{Place}
+use Rattle.md_tables.specs.declared.row.Place.TheVariants as place
+use Rattle.md_tables.specs.declared.row.Row.TheVariants.{Body}
+use Rattle.md_registry.specs.States.{FlowStep, flow_table_scheme}
+use Rattle.md_registry.proofs.FlowCalls.{flow-keeps}
+
+pub row-flows : (name : StateName) (w : World) (to : State)
+    (new : World) → RowStep Body name w to new → FlowStep name w to new
+row-flows name w to new (OfRow p named to_is new_is) =
+    subst (λ (x : StateName). FlowStep x w to new) (sym named) (at p to_is new_is)
+  where
+    at : (q : Place) → to ≡ (row_transition Body q w).to → new ≡ (row_transition Body q w).world →
+        FlowStep (name_at Body q) w to new
+    at place.Start e k = record { to_is = e; new_is = k }
+    at place.Break e k = record { to_is = e; new_is = k }
+    at place.Data e k = record { to_is = e; new_is = k }
+    at place.Escape e k = record { to_is = e; new_is = k }
+    at place.CellBefore e k = record { to_is = e; new_is = k }
+row-flows name w to new (OfWhite state named to_is new_is) =
+    subst (λ (x : StateName). FlowStep x w to new) (sym named) (record { to_is = to_is; new_is = new_is })
+
+-- From a state of flow one has come to another, where its table stands and sees what stands here.
+pub record Stood (first : StateName) (old : World) (name : StateName)
+    (w : World) : Type 0 where
+  pub came : CameHere FlowStep first old name w
+  pub current : w.current ≡ looks w
+  pub stands : stands flow_table_scheme w (Next name)
+  pub may : (w.point ≡ old.point) ⊎ (w.point.index < w.setting.limit)
+
+pub stood-first : (first : StateName) (w : World) →
+    w.current ≡ looks w → stands flow_table_scheme w (Next first) → Stood first w first w
+stood-first first w seen at = record {
+  came = came-first FlowStep first w;
+  current = seen;
+  stands = at;
+  may = inl refl;
+}
+
+-- it is called, and left with what it answers,
+pub stood-leaves : (first : StateName) (old : World) (name : StateName)
+    (w : World) (to : State) (new : World) →
+    Stood first old name w → RunsHere FlowStep name w to new → SeesOn to w new →
+    RunsHere FlowStep first old to new × SeesOn to old new
+stood-leaves first old name w to new h runs sees =
+    let kept = here-keeps FlowStep flow_table_scheme name w to new flow-keeps h.current h.stands
+    runs in (
+      λ is_end. came-runs FlowStep is_end first name old w to new (h.came is_end) (runs is_end),
+      sees-from to old w new sees kept.2 h.may,
+    )
+
+-- or goes on with the state that it answers
+pub stood-goes : (first : StateName) (old : World) (name : StateName)
+    (w : World) (to : State) (u : World) (next : StateName) (new : World) →
+    Stood first old name w → RunsHere FlowStep name w to u → SeesOn to w u →
+    AnswersWith to next u new →
+    Stood first old next new ×
+    (work flow_table_scheme new (Next next) < work flow_table_scheme w (Next name))
+stood-goes first old name w to u next _ h runs sees (ThatStays e) =
+    let there : RunsHere FlowStep name w (Retry next) u =
+    subst (λ (x : State). RunsHere FlowStep name w x u) e runs in
+    let here : SeesOn (Retry next) w u = subst (λ (x : State). SeesOn x w u) e sees in
+    let kept = here-keeps FlowStep flow_table_scheme name w (Retry next) u flow-keeps h.current
+    h.stands there in
+    let on = sees-from (Retry next) old w u here kept.2 h.may in (
+      record {
+        came = came-stays FlowStep first name next old w u h.came there here kept.2;
+        current = here.0;
+        stands = kept.0;
+        may = on.1;
+      },
+      kept.1,
+    )
+stood-goes first old name w to u next _ h runs sees (ThatTook e lt) =
+    let there : RunsHere FlowStep name w (Next next) u =
+    subst (λ (x : State). RunsHere FlowStep name w x u) e runs in
+    let kept = here-keeps FlowStep flow_table_scheme name w (Next next) u flow-keeps h.current
+    h.stands there in (
+      record {
+        came =
+            λ is_end. came-on FlowStep is_end first next old u (reading u)
+            (came-runs FlowStep is_end first name old w (Next next) u (h.came is_end) (there is_end))
+            (inr lt) refl;
+        current = refl;
+        stands = kept.0;
+        may = inr lt;
+      },
+      kept.1,
+    )
+
+pub answers-fine : (to : State) (name : StateName) (w new : World) → AnswersWith to name w new → to ≢ Error
+answers-fine to name w _ (ThatStays e) = not_error to name (ap plain e)
+answers-fine to name w _ (ThatTook e lt) = not_error to name (ap plain e)

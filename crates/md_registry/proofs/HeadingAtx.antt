@@ -1,0 +1,2 @@
+-- ATX headings: what stands on their lines, and their laws.
+pub mod Calls

@@ -1,0 +1,2 @@
+-- The underline of a setext heading: what stands on its line, and its laws.
+pub mod Found

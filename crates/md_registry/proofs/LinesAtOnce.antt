@@ -1,0 +1,418 @@
+-- Lines on which one look tells that no container opens and no leaf begins: what is passed at once is what the states
+-- refuse one after another.
+use Rattle.std.proofs.Common.{◌≡◌, ◌≢◌, ℕ, Bool, true, false, cond, ◌||◌, nat_eq, List, [], ◌∷◌, ◌++◌, Option, Some, None}
+use Rattle.md_registry.specs.Flow.{inside_code, inside_transition, leaf_front}
+use Rattle.md_registry.specs.Registry.{asked_first}
+use Rattle.std.specs.Option.{is_some}
+use Rattle.md_registry.specs.Flow.{leaf_end}
+use Rattle.std.proofs.Common.{◌<◌, ◌⊎◌, inl, length, refl, sym, ◌∙◌, ap, ap₂, subst}
+use Rattle.std.specs.List.{list_any}
+use Rattle.std.specs.Prelude.{slice_range}
+use Rattle.std.proofs.lemmas.Bool.{not-true, or_parts}
+use Rattle.md_meaning.specs.Rest.{is_white}
+use Rattle.md_engine.specs.declared.state.Name.{Name as StateName}
+use Rattle.md_engine.specs.declared.state.Name.TheVariants as n
+use Rattle.md_engine.specs.declared.state.document.State.{State as DocumentState}
+use Rattle.md_engine.specs.declared.state.document.State.TheVariants as document
+use Rattle.md_engine.specs.declared.state.blank_line.State.TheVariants as blank_line
+use Rattle.md_engine.specs.declared.state.flow.State.{State as FlowState}
+use Rattle.md_engine.specs.declared.state.flow.State.TheVariants as flow
+use Rattle.md_engine.specs.declared.state.State.{State}
+use Rattle.md_engine.specs.declared.state.State.TheVariants.{Error, Next, Nok, Retry}
+use Rattle.md_engine.specs.declared.tokenizer.container.name.ContainerKind.{ContainerKind}
+use Rattle.md_engine.specs.Going.{SeesOn}
+use Rattle.md_engine.specs.Run.{Remains, RunsHere}
+use Rattle.md_engine.specs.World.{World, closed, container_of, looks}
+use Rattle.md_engine.proofs.Keeps.{runs-setting}
+use Rattle.md_engine.proofs.Loops.{CameHere, CameTo, call-sees, came-calls, came-first, came-runs}
+use Rattle.md_engine.proofs.Loops.{came-stays, reading-same}
+use Rattle.md_engine.proofs.Walks.{Within, then-stays}
+use Rattle.md_content.specs.Chunks.{chunk_inside_code}
+use Rattle.md_leaves.specs.Blank as blank
+use Rattle.md_leaves.proofs.HeadingWords.{remains-of, sees-from}
+use Rattle.md_seam.specs.Look.{behind_code, first_behind, looks_behind, may_with}
+use Rattle.md_seam.specs.Spaces.{ends_line, sees_white}
+use Rattle.md_seam.specs.Transition.{Transition, entered, exited, taken}
+use Rattle.md_registry.specs.AtOnce.{all_asked, begins_at, left_to_try, opens_none, openers_passed}
+use Rattle.md_registry.specs.Document.{document_own_transition}
+use Rattle.md_registry.specs.Flow.{before_transition, blank_line_before_transition, blank_line_code}
+use Rattle.md_registry.specs.Flow.{flow_end_code, flow_end_transition}
+use Rattle.md_registry.specs.Flow.{flow_own_transition, leaf_transition, new_before_transition, opener_transition}
+use Rattle.md_registry.specs.Flow.{trial_code}
+use Rattle.md_frame.specs.EndingName.{ending_name}
+use Rattle.md_registry.specs.LineFlags.{asking, begun_line, blank_here, blanked, next_line}
+use Rattle.md_registry.specs.LineFlags.{nothing_stands, kept_containers}
+use Rattle.md_frame.specs.LeafName.{LeafName}
+use Rattle.md_registry.specs.Registry.{container_rules, front_of, leaf, may_open, next_of}
+use Rattle.md_registry.specs.Registry.{next_opener, opener_at, opener_front, openers, opens_with}
+use Rattle.md_registry.specs.Registry.{trials, tried_at}
+use Rattle.md_registry.specs.States.{FlowStep, flow_transition}
+use Rattle.md_registry.proofs.ConstructStates.{NextIs, NextOpener, container-states, leaf-next}
+
+-- a byte that is no whitespace stands first behind whitespace
+looks-dark : (w : World) (b : ℕ) → w.current ≡ Some b → is_white b ≡ false → looks_behind w ≡ Some b
+unfolding looks_behind
+looks-dark w b e dark =
+    let found : Option ℕ = first_behind (slice_range w.setting.bytes w.point.index w.setting.limit) in
+    ap (λ (o : Option ℕ). behind_code o found) e ∙ ap (λ (x : Bool). cond x found (Some b)) dark
+
+-- such a byte stands here, with which none of these may begin
+pub record Refused {K : Type 0} (may : K → ℕ → Bool) (ks : List K) (w : World) : Type 0 where
+  pub byte : ℕ
+  pub here : looks_behind w ≡ Some byte
+  pub none : list_any (λ (k : K). may k byte) ks ≡ false
+
+-- the first of these
+refused-first : {K : Type 0} → (may : K → ℕ → Bool) (k : K) (ks : List K) (w : World) → Refused may (k ∷ ks) w →
+    may_with (may k) (looks_behind w) ≡ false
+refused-first may k ks w r =
+    ap (may_with (may k)) r.here ∙ (or_parts (may k r.byte) (list_any (λ x. may x r.byte) ks) r.none).0
+
+-- and those behind it, wherever the same byte stands first
+refused-rest : {K : Type 0} → (may : K → ℕ → Bool) (k : K) (ks : List K) (w v : World) →
+    looks_behind v ≡ looks_behind w → Refused may (k ∷ ks) w → Refused may ks v
+refused-rest may k ks w v same r = record {
+  byte = r.byte;
+  here = same ∙ r.here;
+  none = (or_parts (may k r.byte) (list_any (λ x. may x r.byte) ks) r.none).1;
+}
+
+-- Containers that may open.
+
+-- a state where one is tried
+at-opener : (x : DocumentState) (k : ContainerKind) (w : World) → opener_at x ≡ Some k →
+    document_own_transition x w ≡ new_before_transition k w
+at-opener document.Start k w e = cc
+at-opener document.BeforeFrontmatter k w e = cc
+at-opener document.ContainerExistingBefore k w e = cc
+at-opener document.ContainerExistingAfter k w e = cc
+at-opener document.ContainerNewAfter k w e = cc
+at-opener document.ContainersAfter k w e = cc
+at-opener document.FlowInside k w e = cc
+at-opener document.FlowEnd k w e = cc
+at-opener _ k w e = ap (λ (o : Option ContainerKind). opener_transition o w) e
+
+-- none of these opens, so that one comes to those behind them
+pub openers-refuse : (is_end : Bool) (s : State) (v : World)
+    (ks js : List ContainerKind) (w : World) →
+    NextOpener (ks ++ js) → Refused may_open ks w → w.current ≡ looks w → Within w →
+    CameTo FlowStep is_end s v (n.Document (opener_front (ks ++ js))) w →
+    CameTo FlowStep is_end s v (n.Document (opener_front js)) (all_asked ks w)
+unfolding looks_behind
+openers-refuse is_end s v [] js w next none seen within came = came
+openers-refuse is_end s v (k ∷ ks) js w next none seen within came =
+    let a : World = asking (container_of k) w in
+    let x : DocumentState = (container_rules k).before in
+    let is : document_own_transition x w ≡ record { to = Retry (n.Document (opener_front (ks ++ js))); world = a } =
+    at-opener x k w (container-states k).tried
+    ∙ ap
+    (trial_code (opens_with k) (n.Document document.ContainerNewAfter) (n.Document (next_opener k)) a)
+    (refused-first may_open k ks w none)
+    ∙ ap (λ (ls : List ContainerKind). record { to = Retry (n.Document (opener_front ls)); world = a }) next in
+    openers-refuse is_end s v ks js a (subst NextOpener next (container-states k).next)
+    (refused-rest may_open k ks w a refl none) seen within
+    (then-stays FlowStep is_end s v (n.Document x) (n.Document (opener_front (ks ++ js))) w a came
+    (record { to_is = sym (ap (λ (y : Transition). y.to) is); new_is = sym (ap (λ (y : Transition). y.world) is) }) refl
+    within refl seen)
+
+-- Leaves that are tried.
+
+at-leaf : (x : FlowState) (l : LeafName) (w : World) → tried_at x ≡ Some l →
+    flow_own_transition x w ≡ before_transition l w
+at-leaf flow.Start l w e = cc
+at-leaf flow.BlankLineBefore l w e = cc
+at-leaf flow.BeforeContent l w e = cc
+at-leaf flow.BlankLineAfter l w e = cc
+at-leaf flow.LeafAfter l w e = cc
+at-leaf flow.After l w e = cc
+at-leaf _ l w e = ap (λ (o : Option LeafName). leaf_transition o w) e
+
+-- what is called where one is tried
+pub tried-calls : (x : FlowState) (w : World) → is_some (tried_at x) ≡ true →
+    flow_own_transition x w ≡ leaf_transition (tried_at x) w
+tried-calls x w some = go (tried_at x) refl some
+  where
+    go : (o : Option LeafName) → tried_at x ≡ o → is_some o ≡ true →
+        flow_own_transition x w ≡ leaf_transition (tried_at x) w
+    go None is e = cc
+    go (Some l) is e = at-leaf x l w is ∙ sym (ap (λ (o : Option LeafName). leaf_transition o w) is)
+
+-- those in front of the first that may begin with what stands here refuse
+leaves-refuse : (is_end : Bool) (s : State) (v : World) (b : ℕ)
+    (ls : List LeafName) (w : World) →
+    NextIs ls → sees_white w.current ≡ false → looks_behind w ≡ Some b → w.current ≡ looks w → Within w →
+    CameTo FlowStep is_end s v (n.Flow (front_of ls)) w →
+    CameTo FlowStep is_end s v (n.Flow (front_of (left_to_try w.flags.leaf b ls))) w
+leaves-refuse is_end s v b [] w next dark here seen within came = came
+leaves-refuse is_end s v b (l ∷ ls) w next dark here seen within came =
+    go ((leaf l).may_begin w.flags.leaf false b) refl
+    (leaves-refuse is_end s v b ls w (subst NextIs next.1 (leaf-next l next.0)) dark here seen within)
+  where
+    At : FlowState → Type 0
+    At x = CameTo FlowStep is_end s v (n.Flow x) w
+
+    go : (x : Bool) → (leaf l).may_begin w.flags.leaf false b ≡ x →
+        (At (front_of ls) → At (front_of (left_to_try w.flags.leaf b ls))) →
+        At (front_of (cond x (l ∷ ls) (left_to_try w.flags.leaf b ls)))
+    go true may others = came
+    go false may others =
+        let x : FlowState = (leaf l).before in
+        let is : flow_own_transition x w ≡ record { to = Retry (n.Flow (front_of ls)); world = w } =
+        at-leaf x l w next.0
+        ∙ ap (trial_code (leaf l).start (n.Flow (leaf_end (leaf l).ends)) (n.Flow (next_of l)) w)
+        (ap₂ (λ (white : Bool) (o : Option ℕ). may_with ((leaf l).may_begin w.flags.leaf white) o) dark here ∙ may)
+        ∙ ap (λ (ms : List LeafName). record { to = Retry (n.Flow (front_of ms)); world = w }) next.1 in
+        others
+        (then-stays FlowStep is_end s v (n.Flow x) (n.Flow (front_of ls)) w w came
+        (record { to_is = sym (ap (λ (y : Transition). y.to) is); new_is = sym (ap (λ (y : Transition). y.world) is) })
+        refl within refl seen)
+
+-- What one look tells.
+
+-- what stands here opens no container, and does not end the line
+record OpensNone (w : World) : Type 0 where
+  refused : Refused may_open openers w
+  not_end : ends_line w.current ≡ false
+  not_blank : may_with (λ (b : ℕ). nat_eq b 10) (looks_behind w) ≡ false
+
+opens-none : (w : World) → opens_none w.current ≡ true → OpensNone w
+opens-none w e = go w.current refl e
+  where
+    go : (o : Option ℕ) → w.current ≡ o → opens_none o ≡ true → OpensNone w
+    go None here is = cc
+    go (Some b) here is =
+        let any : Bool = list_any (λ (k : ContainerKind). may_open k b) openers in
+        let parts = or_parts (is_white b || nat_eq b 10) any (not-true (is_white b || nat_eq b 10 || any) is) in
+        let dark = or_parts (is_white b) (nat_eq b 10) parts.0 in
+        let first : looks_behind w ≡ Some b = looks-dark w b here dark.0 in
+        record {
+          refused = record { byte = b; here = first; none = parts.1 };
+          not_end = ap ends_line here ∙ dark.1;
+          not_blank = ap (may_with (λ (x : ℕ). nat_eq x 10)) first ∙ dark.1;
+        }
+
+-- Behind all containers a leaf that is open may be asked first,
+pub line-front : (is_end : Bool) (s : State) (v w : World) →
+    w.current ≡ looks w → Within w → CameTo FlowStep is_end s v (n.Document document.ContainersAfter) w →
+    CameTo FlowStep is_end s v (leaf_front (is_some (asked_first (begun_line w.flags).leaf)))
+    (record w { flags = begun_line w.flags })
+line-front is_end s v w seen within came =
+    then-stays FlowStep is_end s v (n.Document document.ContainersAfter)
+    (leaf_front (is_some (asked_first (begun_line w.flags).leaf))) w (record w { flags = begun_line w.flags }) came
+    (record { to_is = refl; new_is = refl }) refl within refl seen
+
+-- and else the line may be blank,
+pub line-begun : (is_end : Bool) (s : State) (v w : World) →
+    is_some (asked_first (begun_line w.flags).leaf) ≡ false → w.current ≡ looks w → Within w →
+    CameTo FlowStep is_end s v (n.Document document.ContainersAfter) w →
+    CameTo FlowStep is_end s v (n.Flow flow.BlankLineBefore) (record w { flags = begun_line w.flags })
+line-begun is_end s v w none seen within came =
+    let T = FlowStep in
+    let u : World = record w { flags = begun_line w.flags } in
+    let begun = subst (λ (x : Bool). CameTo T is_end s v (leaf_front x) u) none
+    (line-front is_end s v w seen within came) in
+    then-stays T is_end s v (n.Flow flow.Start) (n.Flow flow.BlankLineBefore) u u begun
+    (record { to_is = refl; new_is = refl }) refl within refl seen
+
+-- and it is, and ends, where nothing is left of it
+pub line-over : (is_end : Bool) (s : State) (v w : World) →
+    ends_line w.current ≡ true → w.current ≡ looks w → Within w →
+    CameTo FlowStep is_end s v (n.Flow flow.BlankLineBefore) w →
+    CameTo FlowStep is_end s v (n.Document document.FlowEnd) (record w { flags = blanked w.flags })
+line-over is_end s v w ends seen within came =
+    let T = FlowStep in
+    let is : blank_line_before_transition w ≡ record { to = Retry (n.Flow flow.BlankLineAfter); world = w } =
+    ap (λ (x : Bool). blank_line_code w x (may_with blank.may_begin (looks_behind w))) ends in
+    let blank = then-stays T is_end s v (n.Flow flow.BlankLineBefore) (n.Flow flow.BlankLineAfter) w w came
+    (record { to_is = sym (ap (λ (y : Transition). y.to) is); new_is = sym (ap (λ (y : Transition). y.world) is) }) refl
+    within refl seen in
+    then-stays T is_end s v (n.Flow flow.BlankLineAfter) (n.Document document.FlowEnd) w
+    (record w { flags = blanked w.flags }) blank (record { to_is = refl; new_is = refl }) refl within refl seen
+
+-- So one comes to the leaf that is asked first,
+pub passes-front : (is_end : Bool) (s : State) (v w : World) →
+    opens_none w.current ≡ true → w.current ≡ looks w → Within w →
+    CameTo FlowStep is_end s v (n.Document (opener_front openers)) w →
+    CameTo FlowStep is_end s v (leaf_front (is_some (asked_first (openers_passed w).flags.leaf))) (openers_passed w)
+unfolding looks_behind
+passes-front is_end s v w e seen within came =
+    let is = opens-none w e in
+    line-front is_end s v (all_asked openers w) seen within
+    (openers-refuse is_end s v openers [] w refl is.refused seen within came)
+
+-- to the leaf of the line,
+pub passes-openers : (is_end : Bool) (s : State) (v w : World) →
+    is_some (asked_first (openers_passed w).flags.leaf) ≡ false →
+    opens_none w.current ≡ true → w.current ≡ looks w → Within w →
+    CameTo FlowStep is_end s v (n.Document (opener_front openers)) w →
+    CameTo FlowStep is_end s v (n.Flow (front_of trials)) (openers_passed w)
+unfolding looks_behind
+passes-openers is_end s v w none e seen within came =
+    let T = FlowStep in
+    let is = opens-none w e in
+    let u : World = openers_passed w in
+    let behind = openers-refuse is_end s v openers [] w refl is.refused seen within came in
+    let start = line-begun is_end s v (all_asked openers w) none seen within behind in
+    let no : blank_line_before_transition u ≡ record { to = Retry (n.Flow (front_of trials)); world = u } =
+    ap₂ (λ (x y : Bool). blank_line_code u x y) is.not_end is.not_blank in
+    then-stays T is_end s v (n.Flow flow.BlankLineBefore) (n.Flow (front_of trials)) u u start
+    (record { to_is = sym (ap (λ (y : Transition). y.to) no); new_is = sym (ap (λ (y : Transition). y.world) no) }) refl
+    within refl seen
+
+-- and to the first leaf that may begin, or to content
+pub passes-leaves : (is_end : Bool) (s : State) (v w : World) →
+    w.current ≡ looks w → Within w → CameTo FlowStep is_end s v (n.Flow (front_of trials)) w →
+    CameTo FlowStep is_end s v (n.Flow (begins_at w.flags.leaf w.current)) w
+passes-leaves is_end s v w seen within came = go w.current refl
+  where
+    At : FlowState → Type 0
+    At x = CameTo FlowStep is_end s v (n.Flow x) w
+
+    white : (b : ℕ) → w.current ≡ Some b → (x : Bool) → is_white b ≡ x →
+        At (front_of (cond x trials (left_to_try w.flags.leaf b trials)))
+    white b here true is = came
+    white b here false is =
+        leaves-refuse is_end s v b trials w (refl, refl) (ap sees_white here ∙ is) (looks-dark w b here is) seen
+        within came
+
+    go : (o : Option ℕ) → w.current ≡ o → At (begins_at w.flags.leaf o)
+    go None here = came
+    go (Some b) here = white b here (is_white b) refl
+
+-- What a call leaves: where it kept_containers, it has gone nowhere, and the text is the same.
+abbrev pub Leaves : Transition → World → Type 0
+Leaves a w = Remains a.to w a.world × (a.world.setting ≡ w.setting)
+
+trial-leaves : (start ok nok : StateName) (w u : World) (x : Bool) → u.point ≡ w.point → u.current ≡ w.current →
+    u.setting ≡ w.setting → Leaves (trial_code start ok nok u x) w
+trial-leaves start ok nok w u true there same text = ((there, same), text)
+trial-leaves start ok nok w u false there same text = ((there, same), text)
+
+opener-leaves : (k : ContainerKind) (w : World) → Leaves (new_before_transition k w) w
+opener-leaves k w =
+    trial-leaves (opens_with k) (n.Document document.ContainerNewAfter) (n.Document (next_opener k)) w
+    (asking (container_of k) w) (may_with (may_open k) (looks_behind w)) refl refl refl
+
+-- so does the one that is tried at a state, if one is
+pub tried-opener-leaves : (o : Option ContainerKind) (w : World) → Leaves (opener_transition o w) w
+tried-opener-leaves None w = (tt, refl)
+tried-opener-leaves (Some k) w = opener-leaves k w
+
+pub blank-leaves : (w : World) → Leaves (blank_line_before_transition w) w
+blank-leaves w = go (ends_line w.current)
+  where
+    go : (x : Bool) → Leaves (blank_line_code w x (may_with blank.may_begin (looks_behind w))) w
+    go true = ((refl, refl), refl)
+    go false =
+        trial-leaves (n.BlankLine blank_line.Start) (n.Flow flow.BlankLineAfter) (n.Flow (front_of trials)) w w
+        (may_with blank.may_begin (looks_behind w)) refl refl refl
+
+pub inside-leaves : (w : World) → Leaves (inside_transition w) w
+inside-leaves w = go (asked_first w.flags.leaf)
+  where
+    go : (o : Option LeafName) → Leaves (inside_code w o) w
+    go None = ((refl, refl), refl)
+    go (Some l) =
+        trial-leaves (leaf l).start (n.Flow flow.After) (n.Flow flow.Start)
+        (record w { flags = blank_here (nothing_stands w.current w.point) w.flags }) w true refl refl refl
+
+pub leaf-leaves : (l : LeafName) (w : World) → Leaves (before_transition l w) w
+leaf-leaves l w =
+    trial-leaves (leaf l).start (n.Flow (leaf_end (leaf l).ends)) (n.Flow (next_of l)) w w
+    (may_with ((leaf l).may_begin w.flags.leaf (sees_white w.current)) (looks_behind w)) refl refl refl
+
+pub tried-leaf-leaves : (o : Option LeafName) (w : World) → Leaves (leaf_transition o w) w
+tried-leaf-leaves None w = (tt, refl)
+tried-leaf-leaves (Some l) w = leaf-leaves l w
+
+pub chunk-leaves : (w : World) (x : Bool) → Leaves (chunk_inside_code w x) w
+chunk-leaves w true = (tt, refl)
+chunk-leaves w false = (tt, refl)
+
+-- at the end of a line no state kept_containers
+ends-anywhere : (u w : World) (o : Option ℕ) → u.setting ≡ w.setting → Leaves (flow_end_code u o) w
+ends-anywhere u w None same = (tt, same)
+ends-anywhere u w (Some b) same = go (nat_eq b 10)
+  where
+    a : Bool → Transition
+    a x = cond x
+        (record {
+          to = Next (n.Document document.ContainerExistingBefore);
+          world =
+              record (exited (taken (entered u (ending_name u.flags.blank))) (ending_name u.flags.blank)) {
+                flags = next_line (length u.events) u.flags;
+              };
+        })
+        (record { to = Nok; world = u })
+
+    go : (x : Bool) → Leaves (a x) w
+    go true = (tt, same)
+    go false = (tt, same)
+
+pub line-leaves : (w : World) → Leaves (flow_end_transition w) w
+line-leaves w = ends-anywhere (closed w (kept_containers w.flags) w.flags.line_end) w w.current refl
+
+-- One has come to a state, where one was or something may be read, and it is called last.
+pub ends-behind : (first name : StateName) (old w : World) (to : State)
+    (new : World) →
+    CameHere FlowStep first old name w → Leaves (flow_transition name w) w →
+    to ≡ (flow_transition name w).to → new ≡ (flow_transition name w).world → to ≢ Error →
+    w.current ≡ looks w → Within w → (w.point ≡ old.point) ⊎ (w.point.index < w.setting.limit) →
+    RunsHere FlowStep first old to new × SeesOn to old new
+ends-behind first name old w to new came leaves to_is new_is fine seen within there =
+    let same : new.setting ≡ w.setting = ap (λ (x : World). x.setting) new_is ∙ leaves.1 in
+    let remains = remains-of (flow_transition name w) to w new to_is new_is leaves.0 in (
+      came-calls FlowStep first name old w to new came (record { to_is = to_is; new_is = new_is }) fine same
+          within,
+      sees-from to old w new (call-sees to w new remains same seen) same there,
+    )
+
+-- One has come to a state, where one was, and it is called last.
+pub ends-with : (first name : StateName) (old w : World) (to : State)
+    (new : World) →
+    CameHere FlowStep first old name w → Leaves (flow_transition name w) w →
+    to ≡ (flow_transition name w).to → new ≡ (flow_transition name w).world → to ≢ Error →
+    w.current ≡ looks w → Within w → w.point ≡ old.point →
+    RunsHere FlowStep first old to new × SeesOn to old new
+ends-with first name old w to new came leaves to_is new_is fine seen within there =
+    ends-behind first name old w to new came leaves to_is new_is fine seen within (inl there)
+
+-- One call of a state, where one is.
+pub leaves-once : (name : StateName) (w : World) (to : State)
+    (new : World) →
+    Leaves (flow_transition name w) w → to ≡ (flow_transition name w).to →
+    new ≡ (flow_transition name w).world → to ≢ Error → w.current ≡ looks w → Within w →
+    RunsHere FlowStep name w to new × SeesOn to w new
+leaves-once name w to new leaves to_is new_is fine seen within =
+    ends-with name name w w to new (came-first FlowStep name w) leaves to_is new_is fine seen within
+    refl
+
+-- One has come to a state, where one was, and more runs from there.
+pub runs-on : (first name : StateName) (old w : World) (to : State)
+    (new : World) →
+    CameHere FlowStep first old name w → RunsHere FlowStep name w to new → SeesOn to w new →
+    w.current ≡ looks w → (w.point ≡ old.point) ⊎ (w.point.index < w.setting.limit) →
+    RunsHere FlowStep first old to new × SeesOn to old new
+runs-on first name old w to new came runs sees seen there =
+    let T = FlowStep in
+    let same : new.setting ≡ w.setting =
+    runs-setting T true (Next name) w to new (runs true (Next name) w refl (reading-same w seen) (inl refl)) in (
+      λ is_end. came-runs T is_end first name old w to new (came is_end) (runs is_end),
+      sees-from to old w new sees same there,
+    )
+
+-- A run has come to a state that kept_containers, and more runs from there.
+pub stays-runs : (first next : StateName) (old w : World) (s to : State)
+    (new : World) →
+    old.current ≡ looks old → s ≡ Retry next → RunsHere FlowStep first old s w → SeesOn s old w →
+    RunsHere FlowStep next w to new → SeesOn to w new →
+    RunsHere FlowStep first old to new × SeesOn to old new
+stays-runs first next old w s to new seen is before saw runs sees =
+    let T = FlowStep in
+    let come : RunsHere T first old (Retry next) w = subst (λ (x : State). RunsHere T first old x w) is before in
+    let here : SeesOn (Retry next) old w = subst (λ (x : State). SeesOn x old w) is saw in
+    let same : w.setting ≡ old.setting =
+    runs-setting T true (Next first) old (Retry next) w
+    (come true (Next first) old refl (reading-same old seen) (inl refl)) in
+    runs-on first next old w to new
+    (came-stays T first first next old old w (came-first T first old) come here same) runs sees here.0 here.1

@@ -1,0 +1,2 @@
+-- List items.
+pub mod Plain

@@ -1,0 +1,369 @@
+-- Leaves of several lines: what the first line of one leaves open, which leaf takes its further lines, that its lines
+-- are joined, and what is known of one that is open between two lines.
+use Rattle.std.proofs.Common.{◌≡◌, Bool, true, false, cond, ◌&&◌, ◌||◌, List, [], ◌∷◌, ◌++◌, refl, sym, ◌∙◌, ap, ℕ}
+use Rattle.std.specs.Option.{is_some}
+use Rattle.md_engine.specs.declared.tokenizer.held_leaf.HeldLeaf.TheVariants as held_leaf
+use Rattle.md_frame.specs.OpenSpan.{IsOpenSpan, is_fence}
+use Rattle.md_registry.specs.Registry.{asked_first, bars_containers, further_of, leaf}
+use Rattle.md_engine.specs.declared.tokenizer.held_leaf.HeldLeaf.{HeldLeaf}
+use Rattle.std.specs.Prelude.{Option, Some, None, nat_le, not}
+use Rattle.std.proofs.lemmas.Bool.{and_parts}
+use Rattle.md_engine.specs.declared.configuration.ParseOptions.{ParseOptions}
+use Rattle.md_meaning.specs.Leaves.{LeafResult, Finished, Opened, closes, fence_goes_on, html_line}
+use Rattle.md_meaning.specs.Rest.{Rest, indent, is_blank, line_of, lose}
+use Rattle.md_meaning.specs.State.{NoLeaf, OpenCode, OpenFence, OpenHtml, Opening, fence_block, without_trailing_blank}
+use Rattle.md_meaning.specs.Tree.{Break, Code, Html, Line}
+use Rattle.md_leaves.specs.HeadingSetext.{is_text}
+use Rattle.md_frame.specs.HeldLeaf.{IsBuiltLeaf, kind_of_leaf, left_by, takes_lazy}
+use Rattle.md_frame.specs.LineLeaf.{LineLeaf}
+use Rattle.md_literal_rooms.specs.Leaf.CodeIndented.{code_further, code_leaf, is_code}
+use Rattle.md_literal_rooms.specs.Leaf.Fence.{fence_leaf, opening_at}
+use Rattle.md_literal_rooms.specs.Leaf.FenceFurther.{fence_further, opening_of}
+use Rattle.md_table_rooms.specs.Leaf.GfmTable.{may_be_table}
+use Rattle.md_leaf_rooms.specs.Leaf.HeadingAtx.{heading_leaf}
+use Rattle.md_frame.specs.LeafName.{CodeFurther, CodeIndented, Fence, FenceFurther, HeadingAtx, HeadingSetext, GfmTable}
+use Rattle.md_frame.specs.LeafName.{HtmlFlow, HtmlFurther, LeafName, ThematicBreak}
+use Rattle.md_frame.specs.Resolving.{joins_lines}
+use Rattle.md_literal_rooms.proofs.CodeIndented.Cells.{code-rest}
+use Rattle.md_literal_rooms.proofs.CodeIndented.Found.{code-goes}
+use Rattle.md_literal_rooms.proofs.CodeIndented.Span.{code-span}
+use Rattle.md_literal_rooms.proofs.Fence.Found.{fence-off, fence-shallow}
+use Rattle.md_literal_rooms.proofs.Fence.Opened.{fence-starts}
+use Rattle.md_literal_rooms.proofs.FenceFurther.Definition.{opening-fence}
+use Rattle.md_literal_rooms.proofs.FenceSpan.Laws.{fence-span}
+use Rattle.md_table_rooms.proofs.GfmTable.Span.{table-begins, table-span}
+use Rattle.md_literal_rooms.proofs.HtmlFlow.Found.{html-enabled, html-goes, html-held}
+use Rattle.md_literal_rooms.proofs.HtmlSpan.Laws.{html-span}
+use Rattle.md_meaning.specs.Html.{HtmlKind, html_ends}
+use Rattle.md_html.specs.Html.{ends_in_front, is_html}
+use Rattle.md_html.specs.HtmlLine as rule
+use Rattle.md_html.specs.HtmlRule.{left}
+use Rattle.md_literal_rooms.specs.Leaf.HtmlFlow.{begins_as, html_further, html_leaf, kind_begun}
+use Rattle.md_leaf_rooms.proofs.HeadingAtx.Found.{heading-shallow}
+use Rattle.md_leaf_rooms.proofs.HeadingSetext.Span.{setext-begins, setext-span}
+use Rattle.md_registry.proofs.OpenSpan.{Begun, ComesShallow, OpenSpan}
+use Rattle.md_frame.proofs.ShallowBlocks.{shallow-then}
+use Rattle.md_frame.proofs.SpanLaws.{SpanLaws}
+use Rattle.md_registry.proofs.Registry.{laws}
+
+-- a line of HTML leaves open what may be open, and an outline can show it
+html-built : (kind : HtmlKind) (lines : List Line) (r : Rest) → IsBuiltLeaf (left_by (html_line kind lines r))
+unfolding IsOpenSpan
+html-built kind lines r = go (html_ends kind r.bytes)
+  where
+    all : List Line
+    all = lines ++ line_of r ∷ []
+
+    go : (x : Bool) → IsBuiltLeaf (left_by (cond x (Finished (Html all)) (Opened (OpenHtml kind all))))
+    go true = tt
+    go false = tt
+
+html-shallow : (kind : HtmlKind) (lines : List Line) (r : Rest) → ComesShallow (html_line kind lines r)
+html-shallow kind lines r = go (html_ends kind r.bytes)
+  where
+    all : List Line
+    all = lines ++ line_of r ∷ []
+
+    go : (x : Bool) → ComesShallow (cond x (Finished (Html all)) (Opened (OpenHtml kind all)))
+    go true bs h = shallow-then bs (Html all) h refl
+    go false bs h = h
+
+-- and so does a line that begins HTML
+begun-built : (kind : Option HtmlKind) (r : Rest) → IsBuiltLeaf (left_by (begins_as kind r))
+begun-built None r = tt
+begun-built (Some kind) r = html-built kind [] r
+
+begun-shallow : (kind : Option HtmlKind) (r : Rest) → ComesShallow (begins_as kind r)
+begun-shallow None r bs h = shallow-then bs (Html []) h refl
+begun-shallow (Some kind) r bs h = html-shallow kind [] r bs h
+
+-- a further line of HTML begins no HTML
+html-begins : (options : ParseOptions) (on : HeldLeaf) (r : Rest) → html_further.starts options on r ≡ true →
+    html_further.further on ≡ false → ⊥
+html-begins options on r starts begins =
+    let open_html = (and_parts (is_html on) (not (ends_in_front on && is_blank r.bytes)) starts).0 in
+    let bad : true ≡ false = sym open_html ∙ begins in cc
+
+-- what a line that begins a leaf makes of it
+pub leaf-begun : (l : LeafName) (options : ParseOptions) (on : HeldLeaf) (r : Rest) →
+    (leaf l).starts options on r ≡ true → (leaf l).further on ≡ false → Begun l options on r
+unfolding IsOpenSpan
+leaf-begun CodeIndented options on r h begins = record { holds = refl; built = tt; shallow = λ bs shallow. shallow }
+leaf-begun CodeFurther options on r h begins =
+    let bad = (and_parts (is_code on) (is_blank r.bytes || nat_le 4 (indent r)) h).0 in absurd (cc)
+leaf-begun Fence options on r h begins = record {
+  holds = refl;
+  built = opening-fence options r (opening_at r) [] (fence-starts options r h).opens;
+  shallow = λ bs shallow. shallow;
+}
+leaf-begun FenceFurther options on r h begins = let bad : true ≡ false = sym h ∙ begins in absurd (cc)
+leaf-begun HtmlFlow options on r h begins = record {
+  holds = html-held options on NoLeaf r;
+  built = begun-built (kind_begun r) r;
+  shallow = begun-shallow (kind_begun r) r;
+}
+leaf-begun HtmlFurther options on r h begins = absurd (html-begins options on r h begins)
+leaf-begun HeadingAtx options on r h begins = record {
+  holds = refl;
+  built = tt;
+  shallow = λ bs shallow. shallow-then bs (heading_leaf.block r) shallow (heading-shallow options r h);
+}
+leaf-begun HeadingSetext options on r h begins = absurd (setext-begins options on r h begins)
+leaf-begun ThematicBreak options on r h begins =
+    record { holds = refl; built = tt; shallow = λ bs shallow. shallow-then bs Break shallow refl }
+leaf-begun GfmTable options on r h begins = absurd (table-begins options on r h begins)
+
+-- after a line of a fence no other leaf of several lines is open,
+fence-left : (t : HeldLeaf → Bool) (options : ParseOptions) (on : HeldLeaf) (r : Rest) → t held_leaf.None ≡ false →
+    (is_fence on ≡ true → t on ≡ false) → t (fence_further.holds options on r) ≡ true → ⊥
+fence-left t options on r none other e = go (is_fence on) (closes options (opening_of on) r) refl e
+  where
+    go : (x y : Bool) → is_fence on ≡ x → t (cond x (cond y held_leaf.None on) held_leaf.None) ≡ true → ⊥
+    go false y f e = let bad : true ≡ false = sym e ∙ none in cc
+    go true true f e = let bad : true ≡ false = sym e ∙ none in cc
+    go true false f e = let bad : true ≡ false = sym e ∙ other f in cc
+
+fence-not_code : (on : HeldLeaf) → is_fence on ≡ true → is_code on ≡ false
+fence-not_code held_leaf.Code f = cc
+fence-not_code _ f = refl
+
+fence-not_html : (on : HeldLeaf) → is_fence on ≡ true → is_html on ≡ false
+fence-not_html (held_leaf.Html kind) f = cc
+fence-not_html _ f = refl
+
+-- nor is one after a line of HTML
+abbrev NotHtml : (HeldLeaf → Bool) → Type 0
+NotHtml t = (t held_leaf.None ≡ false) × ((kind : HtmlKind) → t (held_leaf.Html kind) ≡ false)
+
+kind-left : (t : HeldLeaf → Bool) (kind : HtmlKind) (line : List ℕ) → NotHtml t → t (left kind line) ≡ true → ⊥
+kind-left t kind line not_html e = go (html_ends kind line) e
+  where
+    go : (x : Bool) → t (cond x held_leaf.None (held_leaf.Html kind)) ≡ true → ⊥
+    go true e = let bad : true ≡ false = sym e ∙ not_html.0 in cc
+    go false e = let bad : true ≡ false = sym e ∙ not_html.1 kind in cc
+
+html-left : (t : HeldLeaf → Bool) (kind : Option HtmlKind) (line : List ℕ) → NotHtml t →
+    t (rule.left_by kind line) ≡ true → ⊥
+html-left t None line not_html e = let bad : true ≡ false = sym e ∙ not_html.0 in cc
+html-left t (Some kind) line not_html e = kind-left t kind line not_html e
+
+further-left : (t : HeldLeaf → Bool) (on : HeldLeaf) (line : List ℕ) → NotHtml t → t (rule.left_of on line) ≡ true → ⊥
+further-left t (held_leaf.Html kind) line not_html e = kind-left t kind line not_html e
+further-left t _ line not_html e = let bad : true ≡ false = sym e ∙ not_html.0 in cc
+
+code-not_html : NotHtml is_code
+code-not_html = (refl, λ kind. refl)
+
+fence-none_html : NotHtml is_fence
+fence-none_html = (refl, λ kind. refl)
+
+table-not_html : NotHtml may_be_table
+table-not_html = (refl, λ kind. refl)
+
+fence-not_table : (on : HeldLeaf) → is_fence on ≡ true → may_be_table on ≡ false
+fence-not_table (held_leaf.Text at) f = cc
+fence-not_table held_leaf.Table f = cc
+fence-not_table _ f = refl
+
+-- and no line of a leaf leaves text open, for a line might continue that lazily
+text-lazy : (on : HeldLeaf) → is_text on ≡ true → takes_lazy on ≡ true
+text-lazy (held_leaf.Text at) e = refl
+text-lazy _ e = cc
+
+-- a line that continues what a leaf has left open is one of the leaf that takes its further lines,
+pub further-is : (l m : LeafName) (options : ParseOptions) (on : HeldLeaf) (r : Rest) →
+    (leaf m).further ((leaf l).holds options on r) ≡ true → m ≡ further_of l
+further-is CodeIndented CodeFurther options on r e = refl
+further-is CodeFurther CodeFurther options on r e = refl
+further-is Fence FenceFurther options on r e = refl
+further-is FenceFurther FenceFurther options on r e = refl
+further-is HeadingAtx FenceFurther options on r e = cc
+further-is ThematicBreak FenceFurther options on r e = cc
+further-is HeadingSetext FenceFurther options on r e = cc
+further-is CodeIndented FenceFurther options on r e = cc
+further-is CodeFurther FenceFurther options on r e = cc
+further-is Fence CodeFurther options on r e = cc
+further-is FenceFurther CodeFurther options on r e = absurd (fence-left is_code options on r refl (fence-not_code on) e)
+further-is HeadingAtx CodeFurther options on r e = cc
+further-is ThematicBreak CodeFurther options on r e = cc
+further-is HeadingSetext CodeFurther options on r e = cc
+further-is HtmlFlow CodeFurther options on r e =
+    absurd (html-left is_code (kind_begun r) r.bytes code-not_html e)
+further-is HtmlFurther CodeFurther options on r e = absurd (further-left is_code on r.bytes code-not_html e)
+further-is HtmlFlow FenceFurther options on r e =
+    absurd (html-left is_fence (kind_begun r) r.bytes fence-none_html e)
+further-is HtmlFurther FenceFurther options on r e = absurd (further-left is_fence on r.bytes fence-none_html e)
+further-is CodeIndented HtmlFurther options on r e = cc
+further-is CodeFurther HtmlFurther options on r e = cc
+further-is Fence HtmlFurther options on r e = cc
+further-is FenceFurther HtmlFurther options on r e = absurd (fence-left is_html options on r refl (fence-not_html on) e)
+further-is HtmlFlow HtmlFurther options on r e = refl
+further-is HtmlFurther HtmlFurther options on r e = refl
+further-is HeadingAtx HtmlFurther options on r e = cc
+further-is ThematicBreak HtmlFurther options on r e = cc
+further-is HeadingSetext HtmlFurther options on r e = cc
+further-is GfmTable CodeFurther options on r e = cc
+further-is GfmTable FenceFurther options on r e = cc
+further-is GfmTable HtmlFurther options on r e = cc
+further-is GfmTable GfmTable options on r e = refl
+further-is CodeIndented GfmTable options on r e = cc
+further-is CodeFurther GfmTable options on r e = cc
+further-is Fence GfmTable options on r e = cc
+further-is FenceFurther GfmTable options on r e =
+    absurd (fence-left may_be_table options on r refl (fence-not_table on) e)
+further-is HtmlFlow GfmTable options on r e = absurd (html-left may_be_table (kind_begun r) r.bytes table-not_html e)
+further-is HtmlFurther GfmTable options on r e = absurd (further-left may_be_table on r.bytes table-not_html e)
+further-is HeadingAtx GfmTable options on r e = cc
+further-is HeadingSetext GfmTable options on r e = cc
+further-is ThematicBreak GfmTable options on r e = cc
+further-is l CodeIndented options on r e = cc
+further-is l Fence options on r e = cc
+further-is l HtmlFlow options on r e = cc
+further-is l HeadingAtx options on r e = cc
+further-is l ThematicBreak options on r e = cc
+further-is l HeadingSetext options on r e =
+    let lazy = text-lazy ((leaf l).holds options on r) e in let none = ((laws l).not_lazy options on).1 r in cc
+
+-- which also takes the lines after its own
+pub further-further : (l : LeafName) → further_of (further_of l) ≡ further_of l
+further-further CodeIndented = refl
+further-further CodeFurther = refl
+further-further Fence = refl
+further-further FenceFurther = refl
+further-further HtmlFlow = refl
+further-further HtmlFurther = refl
+further-further HeadingAtx = refl
+further-further HeadingSetext = refl
+further-further ThematicBreak = refl
+further-further GfmTable = refl
+
+-- a further line begins no block, so there is nothing to say of lines that one begins
+further-span : (first l : LineLeaf) → SpanLaws first l →
+    ((options : ParseOptions) (on : HeldLeaf) (r : Rest) → l.starts options on r ≡ true → l.further on ≡ false → ⊥) →
+    SpanLaws l l
+further-span first l laws none = record {
+  first_spanned = λ options bytes row is begins. absurd (none options row.on is.rest is.starts begins);
+  further_spanned = laws.further_spanned;
+  block = λ options bytes row rows is are. Break;
+  facts = λ options bytes row rows is begins are. absurd (none options row.on is.rest is.starts begins);
+  shuts = λ options bytes row rows is begins are bs. absurd (none options row.on is.rest is.starts begins);
+}
+
+fence-begins : (options : ParseOptions) (on : HeldLeaf) (r : Rest) → fence_further.starts options on r ≡ true →
+    fence_further.further on ≡ false → ⊥
+fence-begins options on r starts begins = let bad : true ≡ false = sym starts ∙ begins in cc
+
+code-begins : (options : ParseOptions) (on : HeldLeaf) (r : Rest) → code_further.starts options on r ≡ true →
+    code_further.further on ≡ false → ⊥
+code-begins options on r starts begins =
+    let open_code = (and_parts (is_code on) (is_blank r.bytes || nat_le 4 (indent r)) starts).0 in
+    let bad : true ≡ false = sym open_code ∙ begins in cc
+
+-- the laws of the lines of a leaf that may have several
+pub span-laws : (l : LeafName) → (leaf l).ends ≡ false → SpanLaws (leaf l) (leaf (further_of l))
+span-laws CodeIndented e = code-span
+span-laws CodeFurther e = further-span code_leaf code_further code-span code-begins
+span-laws Fence e = fence-span
+span-laws FenceFurther e = further-span fence_leaf fence_further fence-span fence-begins
+span-laws HtmlFlow e = html-span
+span-laws HtmlFurther e = further-span html_leaf html_further html-span html-begins
+span-laws HeadingAtx e = absurd (cc)
+span-laws HeadingSetext e = setext-span
+span-laws ThematicBreak e = absurd (cc)
+span-laws GfmTable e = table-span
+
+-- where a leaf of several lines begins, lines are joined
+pub lines-join : (l : LeafName) → (leaf l).ends ≡ false → (options : ParseOptions) (on : HeldLeaf) (r : Rest) →
+    (leaf l).starts options on r ≡ true → (leaf l).further on ≡ false → joins_lines options ≡ true
+unfolding joins_lines
+lines-join CodeIndented e options on r starts begins =
+    rw (code-rest options on r starts).enabled (third options.constructs.code_fenced options.constructs.math_flow)
+  where
+    third : (x y : Bool) → (x || y || true || options.constructs.html_flow || options.constructs.gfm_table) ≡ true
+    third true y = refl
+    third false true = refl
+    third false false = refl
+lines-join CodeFurther e options on r starts begins = absurd (code-begins options on r starts begins)
+lines-join Fence e options on r starts begins = go options.constructs.code_fenced refl options.constructs.math_flow refl
+  where
+    go : (x : Bool) → options.constructs.code_fenced ≡ x → (y : Bool) → options.constructs.math_flow ≡ y →
+        (x || y || options.constructs.code_indented || options.constructs.html_flow || options.constructs.gfm_table) ≡
+        true
+    go true f y g = refl
+    go false f true g = refl
+    go false f false g = let none = ap is_some (fence-off options r f g) in absurd (cc)
+lines-join FenceFurther e options on r starts begins = let bad : true ≡ false = sym starts ∙ begins in absurd (cc)
+lines-join HtmlFlow e options on r starts begins =
+    rw (html-enabled options on r starts)
+    (last options.constructs.code_fenced options.constructs.math_flow options.constructs.code_indented)
+  where
+    last : (x y z : Bool) → (x || y || z || true || options.constructs.gfm_table) ≡ true
+    last true y z = refl
+    last false true z = refl
+    last false false true = refl
+    last false false false = refl
+lines-join HtmlFurther e options on r starts begins = absurd (html-begins options on r starts begins)
+lines-join HeadingAtx e options on r starts begins = absurd (cc)
+lines-join HeadingSetext e options on r starts begins = absurd (setext-begins options on r starts begins)
+lines-join ThematicBreak e options on r starts begins = absurd (cc)
+lines-join GfmTable e options on r starts begins = absurd (table-begins options on r starts begins)
+
+-- fenced code or math that is open
+pub fence-open : (o : Opening) (lines : List Line) → is_fence (kind_of_leaf (OpenFence o lines)) ≡ true →
+    OpenSpan (OpenFence o lines)
+unfolding asked_first bars_containers IsOpenSpan fence_goes_on
+fence-open o lines is = record {
+  name = FenceFurther;
+  asked = rw is refl;
+  same = refl;
+  further = is;
+  lines = refl;
+  concrete = sym (ap (λ (x : Bool). x || false) is);
+  goes = λ options r. rw is refl;
+  built = λ options r starts. built (closes options o r) (lines ++ line_of (lose o.indent r) ∷ []);
+  shallow = λ options r. shallow (closes options o r) (lines ++ line_of (lose o.indent r) ∷ []);
+  closed = λ options bs h. shallow-then bs (fence_block o lines false) h (fence-shallow o lines false);
+}
+  where
+    comes : Bool → List Line → LeafResult
+    comes x more = cond x (Finished (fence_block o lines true)) (Opened (OpenFence o more))
+
+    built : (x : Bool) (more : List Line) → IsBuiltLeaf (left_by (comes x more))
+    built true more = tt
+    built false more = is
+
+    shallow : (x : Bool) (more : List Line) → ComesShallow (comes x more)
+    shallow true more bs h = shallow-then bs (fence_block o lines true) h (fence-shallow o lines true)
+    shallow false more bs h = h
+
+-- indented code that is open
+pub code-open : (lines : List Line) → OpenSpan (OpenCode lines)
+unfolding asked_first bars_containers IsOpenSpan
+code-open lines = record {
+  name = CodeFurther;
+  asked = refl;
+  same = refl;
+  further = refl;
+  lines = refl;
+  concrete = refl;
+  goes = λ options r. code-goes options lines r;
+  built = λ options r starts. tt;
+  shallow = λ options r bs h. h;
+  closed = λ options bs h. shallow-then bs (Code (without_trailing_blank lines)) h refl;
+}
+
+-- HTML that is open
+pub html-open : (kind : HtmlKind) (lines : List Line) → OpenSpan (OpenHtml kind lines)
+unfolding asked_first bars_containers
+html-open kind lines = record {
+  name = HtmlFurther;
+  asked = refl;
+  same = refl;
+  further = refl;
+  lines = refl;
+  concrete = refl;
+  goes = λ options r. html-goes options kind lines r;
+  built = λ options r starts. html-built kind lines r;
+  shallow = λ options r. html-shallow kind lines r;
+  closed = λ options bs h. shallow-then bs (Html lines) h refl;
+}

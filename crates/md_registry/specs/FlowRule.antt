@@ -1,0 +1,215 @@
+-- What is left at each state of the lines of a text: the lines that are still to come, each by its containers and the
+-- block that takes the rest of it.
+use Rattle.std.specs.Prelude.{◌≡◌, ℕ, zero, suc, Bool, true, false, ◌==◌, Option, Some, None, if◌then◌else◌, List, []}
+use Rattle.std.specs.Prelude.{◌∷◌, ◌++◌, length}
+use Rattle.md_engine.specs.declared.configuration.ParseOptions.{ParseOptions}
+use Rattle.md_engine.specs.declared.state.Name.TheVariants as s
+use Rattle.md_engine.specs.declared.state.content.State.TheVariants as content
+use Rattle.md_engine.specs.declared.state.document.State.{State as DocumentState}
+use Rattle.md_engine.specs.declared.state.document.State.TheVariants as document
+use Rattle.md_engine.specs.declared.state.flow.State.{State as FlowState}
+use Rattle.md_engine.specs.declared.state.flow.State.TheVariants as flow
+use Rattle.md_engine.specs.declared.tokenizer.container.Container.{Container}
+use Rattle.md_engine.specs.declared.tokenizer.container.name.ContainerKind.{ContainerKind}
+use Rattle.md_engine.specs.Meaning.{Accepts, Behaviour, Cell, Here, Refuses}
+use Rattle.md_engine.specs.World.{closed_events, container_of, kept}
+use Rattle.md_content.specs.ChunkRule.{chunk_at}
+use Rattle.md_leaves.specs.BlankRule.{HasBlank, blank_at}
+use Rattle.md_seam.specs.Events.Nested.{pair}
+use Rattle.md_seam.specs.Look.{first_seen}
+use Rattle.md_seam.specs.Spaces.{ends_line}
+use Rattle.md_frame.specs.LeafName.{LeafName}
+use Rattle.md_registry.specs.Registry.{begins_at, behind, continues_at, goes_on_with, asked_first, leaf, opener_at}
+use Rattle.md_registry.specs.Registry.{openers, openers_behind, opens_with, bars_containers, trials, tried_at}
+use Rattle.md_frame.specs.EndingName.{ending_name}
+use Rattle.md_registry.specs.LineFlags.{asks, begun_line, blanked, next_container, next_line, kept_containers}
+use Rattle.md_registry.specs.LineFlags.{blank_here, ended_on, nothing_stands, shut_leaf, went_on, with_container}
+use Rattle.md_frame.specs.Rule.{Rule, tried}
+
+-- the containers behind so many end, in front of the event at an index
+abbrev pub ended_to : ℕ → ℕ → Here → Here
+ended_to keep at h = record h {
+  events = closed_events keep at h.flags.containers h.events h.point;
+  flags = kept keep h.flags;
+}
+
+-- the ending of a line, and what follows it: all containers end where the text does
+abbrev pub ended : Rule → Rule
+ended next [] h = Accepts (ended_to 0 (length h.events) h) []
+ended next (c ∷ cs) h =
+    if c.byte == 10
+    then next cs
+    (record h {
+      events = h.events ++ pair (ending_name h.flags.blank) h.point c.after;
+      point = c.after;
+      flags = next_line (length h.events) h.flags;
+    })
+    else Refuses h.scratch h.flags
+
+-- behind the leaf of a line: containers that did not go on end before it, unless it goes on the open paragraph
+abbrev pub line_ended : Rule → Rule
+line_ended next cells h = ended next cells (ended_to (kept_containers h.flags) h.flags.line_end h)
+
+-- behind a leaf on one line none is open
+abbrev pub leaf_ended : Rule → Rule
+leaf_ended next cells h = line_ended next cells (record h { flags = shut_leaf h.flags })
+
+-- behind a leaf, by whether it always ends on its line
+abbrev pub behind_leaf : Bool → Rule → Rule
+behind_leaf true next cells h = leaf_ended next cells h
+behind_leaf false next cells h = line_ended next cells h
+
+-- behind a blank line no paragraph is open
+abbrev pub blank_ended : Rule → Rule
+blank_ended next cells h = line_ended next cells (record h { flags = blanked h.flags })
+
+-- a line that no leaf takes is content
+abbrev pub content_of : Rule → Rule
+content_of next cells h = tried (chunk_at cells h) (line_ended next) Refuses
+
+-- leaves are tried one after another
+abbrev pub leaves_of : ParseOptions → Rule → List LeafName → Rule
+leaves_of options next [] cells h = content_of next cells h
+leaves_of options next (l ∷ ls) cells h =
+    tried ((leaf l).trial options cells h) (behind_leaf (leaf l).ends next)
+    (λ s g. leaves_of options next ls cells (record h { scratch = s; flags = g }))
+
+abbrev pub nonblank_of : ParseOptions → Rule → Rule
+nonblank_of options next cells h = leaves_of options next trials cells h
+
+-- the rest of a line behind its containers
+abbrev pub leaf_of : ParseOptions → Rule → Rule
+leaf_of options next cells h =
+    tried (blank_at cells h) (blank_ended next)
+    (λ s g. nonblank_of options next cells (record h { scratch = s; flags = g }))
+
+-- where nothing stands on the line, its ending is that of a blank line, also where a leaf goes on over it
+abbrev pub blank_at_end : List Cell → Here → Here
+blank_at_end cells h = record h { flags = blank_here (nothing_stands (first_seen cells) h.point) h.flags }
+
+-- by the leaf that is asked first whether the line goes on it
+abbrev pub inside_by : ParseOptions → Rule → Option LeafName → Rule
+inside_by options next None cells h = leaf_of options next cells h
+inside_by options next (Some l) cells h =
+    tried ((leaf l).trial options cells (blank_at_end cells h)) (line_ended next)
+    (λ s g. leaf_of options next cells (record h { scratch = s; flags = g }))
+
+abbrev pub inside_of : ParseOptions → Rule → Rule
+inside_of options next cells h = inside_by options next (asked_first h.flags.leaf) cells h
+
+-- Containers. Each takes a cell at least, so there are no more of them than cells.
+
+-- behind all containers
+abbrev pub behind_containers : ParseOptions → Rule → Rule
+behind_containers options next cells h = inside_of options next cells (record h { flags = begun_line h.flags })
+
+-- this one is asked whether it goes on, or tried
+abbrev pub asking_here : Container → Here → Here
+asking_here c h = record h { flags = asks c h.point.column h.flags }
+
+-- a container opens, and those that did not go on end
+abbrev pub opened : Here → Here
+opened h = let k = ended_to h.flags.continued h.flags.line_end h in record k { flags = with_container k.flags }
+
+-- these are tried one after another: the first that opens goes on in one way, and where none does the line in another
+abbrev pub opens_of : ParseOptions → Rule → Rule → List ContainerKind → Rule
+opens_of options onward otherwise [] cells h = otherwise cells h
+opens_of options onward otherwise (k ∷ ks) cells h =
+    tried (begins_at options k cells (asking_here (container_of k) h)) onward
+    (λ s g. opens_of options onward otherwise ks cells (record h { scratch = s; flags = g }))
+
+-- containers open as often as they do
+unfoldable pub new_from : ParseOptions → Rule → ℕ → Rule
+new_from options next zero cells h = behind_containers options next cells h
+new_from options next (suc n) cells h =
+    opens_of options (λ rest k. new_from options next n rest (opened k)) (behind_containers options next) openers
+    cells h
+
+unfoldable pub new_of : ParseOptions → Rule → Rule
+new_of options next cells h = new_from options next (suc (length cells)) cells h
+
+-- what is left in front of these
+abbrev pub openers_of : ParseOptions → Rule → List ContainerKind → Rule
+openers_of options next ks cells h =
+    opens_of options (λ rest k. new_of options next rest (opened k)) (behind_containers options next) ks cells h
+
+-- where all containers went on, by whether a leaf is open in which none opens
+abbrev pub all_on : ParseOptions → Rule → Bool → Rule
+all_on options next true cells h = behind_containers options next cells h
+all_on options next false cells h = new_of options next cells h
+
+-- each container is asked whether it goes on, from the outermost in, until one does not
+abbrev pub existing_by : ParseOptions → Rule → Rule → Option Container → Rule
+existing_by options next further None cells h = all_on options next (bars_containers h.flags.leaf) cells h
+existing_by options next further (Some c) cells h =
+    tried (continues_at options c.kind cells (asking_here c h))
+    (λ rest k. further rest (record k { flags = went_on k.flags }))
+    (λ s g. new_of options next cells (record h { scratch = s; flags = g }))
+
+-- by whether the line ends here: then none is asked, and none opens
+abbrev pub existing_at : ParseOptions → Rule → Rule → Bool → Rule
+existing_at options next further true cells h =
+    behind_containers options next cells (record h { flags = ended_on h.flags })
+existing_at options next further false cells h =
+    existing_by options next further (next_container h.flags) cells h
+
+unfoldable pub existing_from : ParseOptions → Rule → ℕ → Rule
+existing_from options next zero cells h = new_of options next cells h
+existing_from options next (suc n) cells h =
+    existing_at options next (existing_from options next n) (ends_line (first_seen cells)) cells h
+
+unfoldable pub line_then : ParseOptions → Rule → Rule
+line_then options next cells h = existing_from options next (suc (length cells)) cells h
+
+-- at most so many lines
+unfoldable pub flow_lines : ParseOptions → ℕ → Rule
+flow_lines options zero cells h = Accepts h cells
+flow_lines options (suc n) cells h = line_then options (flow_lines options n) cells h
+
+-- all of them: there are no more endings than cells, and a last line
+unfoldable pub flow_at : ParseOptions → Rule
+flow_at options cells h = flow_lines options (suc (length cells)) cells h
+
+-- what is left by a rule for what follows behind the line: at each state in front of a container that may open, by the
+-- one that is tried there,
+abbrev pub opener_behaves : ParseOptions → Rule → Option ContainerKind → Rule
+opener_behaves options next None cells h = Refuses h.scratch h.flags
+opener_behaves options next (Some k) cells h = openers_of options next (k ∷ openers_behind k) cells h
+
+-- at each other between the containers of a line,
+abbrev pub containers_behave : ParseOptions → Rule → DocumentState → Rule
+containers_behave options next document.ContainerExistingBefore cells h = line_then options next cells h
+containers_behave options next document.ContainerExistingAfter cells h =
+    line_then options next cells (record h { flags = went_on h.flags })
+containers_behave options next document.ContainerNewAfter cells h = new_of options next cells (opened h)
+containers_behave options next document.ContainersAfter cells h = behind_containers options next cells h
+containers_behave options next document.FlowInside cells h = inside_of options next cells h
+containers_behave options next document.FlowEnd cells h = line_ended next cells h
+containers_behave options next state cells h = opener_behaves options next (opener_at state) cells h
+
+-- at each state in front of a leaf, by the leaf that is tried there,
+abbrev pub leaf_behaves : ParseOptions → Rule → Option LeafName → Rule
+leaf_behaves options next None cells h = Refuses h.scratch h.flags
+leaf_behaves options next (Some l) cells h = leaves_of options next (l ∷ behind l) cells h
+
+-- and at each that is in front of none, or behind it,
+abbrev pub leaves_behave : ParseOptions → Rule → FlowState → Rule
+leaves_behave options next flow.Start cells h = leaf_of options next cells h
+leaves_behave options next flow.BlankLineBefore cells h = leaf_of options next cells h
+leaves_behave options next flow.BeforeContent cells h = content_of next cells h
+leaves_behave options next flow.BlankLineAfter cells h = blank_ended next cells h
+leaves_behave options next flow.LeafAfter cells h = leaf_ended next cells h
+leaves_behave options next flow.After cells h = line_ended next cells h
+leaves_behave options next state cells h = leaf_behaves options next (tried_at state) cells h
+
+pub record HasFlow (B : Behaviour) (options : ParseOptions) (next : Rule) : Type 0 where
+  pub blank : HasBlank B
+  pub chunk : (cells : List Cell) (h : Here) → B (s.Content content.ChunkStart) cells h ≡ chunk_at cells h
+  pub starts : (l : LeafName) (cells : List Cell) (h : Here) → B (leaf l).start cells h ≡ (leaf l).trial options cells h
+  pub opens : (k : ContainerKind) (cells : List Cell) (h : Here) → B (opens_with k) cells h ≡ begins_at options k cells h
+  pub goes_on : (k : ContainerKind) (cells : List Cell) (h : Here) →
+      B (goes_on_with k) cells h ≡ continues_at options k cells h
+  pub containers : (state : DocumentState) (cells : List Cell) (h : Here) →
+      B (s.Document state) cells h ≡ containers_behave options next state cells h
+  pub leaves : (state : FlowState) (cells : List Cell) (h : Here) →
+      B (s.Flow state) cells h ≡ leaves_behave options next state cells h

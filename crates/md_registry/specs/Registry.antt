@@ -1,0 +1,289 @@
+-- The constructs that are built, and their order: the one place of the frame's definitions that names them.
+use Rattle.std.specs.Prelude.{◌≡◌, refl, Bool, ℕ, suc, ◌+◌, ◌*◌, nat_lt, true, ◌==◌, if◌then◌else◌, ◌||◌, List, [], ◌∷◌}
+use Rattle.std.specs.Prelude.{length, Option, Some, None}
+use Rattle.md_engine.specs.declared.tokenizer.held_leaf.HeldLeaf.{HeldLeaf}
+use Rattle.std.specs.Option.{option_or}
+use Rattle.md_engine.specs.declared.configuration.ParseOptions.{ParseOptions}
+use Rattle.md_engine.specs.declared.event.Point.{Point}
+use Rattle.md_engine.specs.declared.state.Name.{Name as StateName}
+use Rattle.md_engine.specs.declared.state.Name.TheVariants as s
+use Rattle.md_engine.specs.declared.state.document.State.{State as DocumentState}
+use Rattle.md_engine.specs.declared.state.document.State.TheVariants as document
+use Rattle.md_engine.specs.declared.state.flow.State.{State as FlowState}
+use Rattle.md_engine.specs.declared.state.flow.State.TheVariants as flow
+use Rattle.md_engine.specs.declared.state.State.TheVariants.{Nok}
+use Rattle.md_engine.specs.declared.tokenizer.container.Container.{Container as Held}
+use Rattle.md_engine.specs.declared.tokenizer.container.name.ContainerKind.{ContainerKind}
+use Rattle.md_engine.specs.declared.tokenizer.container.name.ContainerKind.TheVariants as kind
+use Rattle.md_engine.specs.Meaning.{Behaviour, Cell, Here, Outcome, Refuses}
+use Rattle.md_engine.specs.Scheme.{Rank, Scheme, nowhere, ranked}
+use Rattle.md_engine.specs.World.{World}
+use Rattle.md_containers.specs.Footnote.{footnote_scheme, footnote_transition}
+use Rattle.md_containers.specs.FootnoteRule.{footnote_behaves}
+use Rattle.md_containers.specs.Item.{item_scheme, item_transition}
+use Rattle.md_containers.specs.ItemRule.{item_behaves}
+use Rattle.md_containers.specs.Quote.{quote_scheme, quote_transition}
+use Rattle.md_containers.specs.QuoteRule.{quote_behaves}
+use Rattle.md_leaves.specs.Break.{break_scheme, break_transition}
+use Rattle.md_leaves.specs.BreakRule.{break_behaves}
+use Rattle.md_leaves.specs.Heading.{heading_scheme, heading_transition}
+use Rattle.md_leaves.specs.HeadingRule.{heading_behaves}
+use Rattle.md_leaves.specs.HeadingSetext.{setext_scheme, setext_transition}
+use Rattle.md_leaves.specs.HeadingSetextRule.{setext_behaves}
+use Rattle.md_meaning.specs.State.{Container}
+use Rattle.md_code.specs.Code.{code_scheme, code_transition}
+use Rattle.md_code.specs.CodeRule.{code_behaves}
+use Rattle.md_code.specs.Fence.{fence_scheme, fence_transition}
+use Rattle.md_code.specs.FenceRule.{fence_behaves}
+use Rattle.md_html.specs.Html.{html_scheme, html_transition, is_html}
+use Rattle.md_html.specs.HtmlRule.{html_behaves}
+use Rattle.md_seam.specs.Transition.{Transition}
+use Rattle.md_tables.specs.GfmTable.{table_scheme, table_transition}
+use Rattle.md_tables.specs.GfmTableRule.{table_behaves}
+use Rattle.md_frame.specs.ContainerRules.{ContainerRules}
+use Rattle.md_container_rooms.specs.Containers.BlockQuote.{quote_rules}
+use Rattle.md_container_rooms.specs.Containers.GfmFootnoteDefinition.{footnote_rules}
+use Rattle.md_container_rooms.specs.Containers.ListItem.{item_rules}
+use Rattle.md_literal_rooms.specs.Leaf.CodeIndented.{code_further, code_leaf, is_code}
+use Rattle.md_literal_rooms.specs.Leaf.Fence.{fence_leaf}
+use Rattle.md_frame.specs.OpenSpan.{is_fence}
+use Rattle.md_literal_rooms.specs.Leaf.FenceFurther.{fence_further}
+use Rattle.md_table_rooms.specs.Leaf.GfmTable.{table_leaf}
+use Rattle.md_leaf_rooms.specs.Leaf.HeadingAtx.{heading_leaf}
+use Rattle.md_leaf_rooms.specs.Leaf.HeadingSetext.{setext_leaf}
+use Rattle.md_literal_rooms.specs.Leaf.HtmlFlow.{html_further, html_leaf}
+use Rattle.md_leaf_rooms.specs.Leaf.ThematicBreak.{break_leaf}
+use Rattle.md_frame.specs.LineLeaf.{LineLeaf}
+use Rattle.md_frame.specs.Passed.{Passed}
+use Rattle.md_frame.specs.LeafName.{CodeFurther, CodeIndented, Fence, FenceFurther, GfmTable, HeadingAtx}
+use Rattle.md_frame.specs.LeafName.{HeadingSetext, HtmlFlow, HtmlFurther, LeafName, ThematicBreak, behind_in}
+use Rattle.md_frame.specs.LeafName.{number}
+use Rattle.md_frame.specs.ContainerNames.{IsOf, container_kind, kind_number}
+
+-- Leaves that take a line: of indented code, of fenced code and math, and of HTML, one takes the first line, and one each
+-- further line. The underline of a setext heading takes a line that turns the text in front of it; one more leaf takes the
+-- delimiter row of a table, which makes the line of text in front of it a head, and the rows of its body.
+
+abbrev pub leaf : LeafName → LineLeaf
+leaf CodeIndented = code_leaf
+leaf CodeFurther = code_further
+leaf Fence = fence_leaf
+leaf FenceFurther = fence_further
+leaf HtmlFlow = html_leaf
+leaf HtmlFurther = html_further
+leaf HeadingAtx = heading_leaf
+leaf HeadingSetext = setext_leaf
+leaf ThematicBreak = break_leaf
+leaf GfmTable = table_leaf
+
+-- the order in which they are tried, behind blank lines and in front of content
+abbrev pub trials : List LeafName
+trials = CodeIndented ∷ Fence ∷ HtmlFlow ∷ HeadingAtx ∷ HeadingSetext ∷ ThematicBreak ∷ GfmTable ∷ []
+
+-- The leaf that is asked, in front of blank lines and all others, whether a line goes on the one that it meets.
+unfoldable pub asked_first : HeldLeaf → Option LeafName
+asked_first on =
+    if is_fence on then Some FenceFurther
+    else if is_html on then Some HtmlFurther
+    else if is_code on then Some CodeFurther
+    else None
+
+-- Whether no container opens in this leaf, where all containers went on: in fences, math and HTML none does.
+unfoldable pub bars_containers : HeldLeaf → Bool
+bars_containers on = is_fence on || is_html on
+
+-- the one that takes the further lines of a leaf whose first line this takes
+abbrev pub further_of : LeafName → LeafName
+further_of CodeIndented = CodeFurther
+further_of Fence = FenceFurther
+further_of HtmlFlow = HtmlFurther
+further_of l = l
+
+-- the leaf that is tried at a state of flow; at no other is one
+abbrev pub tried_at : FlowState → Option LeafName
+tried_at flow.BeforeCodeIndented = Some CodeIndented
+tried_at flow.BeforeRaw = Some Fence
+tried_at flow.BeforeHtml = Some HtmlFlow
+tried_at flow.BeforeHeadingAtx = Some HeadingAtx
+tried_at flow.BeforeHeadingSetext = Some HeadingSetext
+tried_at flow.BeforeThematicBreak = Some ThematicBreak
+tried_at flow.BeforeGfmTable = Some GfmTable
+tried_at _ = None
+
+abbrev pub behind : LeafName → List LeafName
+behind l = behind_in (number l) trials
+
+-- the state in front of the first of these, and in front of content where none is left
+abbrev pub front_of : List LeafName → FlowState
+front_of [] = flow.BeforeContent
+front_of (l ∷ ls) = (leaf l).before
+
+abbrev pub next_of : LeafName → FlowState
+next_of l = front_of (behind l)
+
+-- how far it is from the next byte: by how many are tried behind it
+abbrev pub weight : LeafName → ℕ
+weight l = 6 + 2 * length (behind l)
+
+abbrev pub low_weight : (l : LeafName) → (nat_lt (weight l) 64 ≡ true) × (nat_lt (suc (weight l)) 64 ≡ true)
+low_weight CodeIndented = (refl, refl)
+low_weight CodeFurther = (refl, refl)
+low_weight Fence = (refl, refl)
+low_weight FenceFurther = (refl, refl)
+low_weight HtmlFlow = (refl, refl)
+low_weight HtmlFurther = (refl, refl)
+low_weight HeadingAtx = (refl, refl)
+low_weight HeadingSetext = (refl, refl)
+low_weight ThematicBreak = (refl, refl)
+low_weight GfmTable = (refl, refl)
+
+abbrev pub rank_of : LeafName → Rank
+rank_of l = ranked (weight l) (low_weight l).0
+
+abbrev pub tries_of : LeafName → Rank
+tries_of l = ranked (suc (weight l)) (low_weight l).1
+
+-- Lines of text.
+
+-- Resolvers, behind that of content. One is run if it was registered, and behind it always that of lists.
+
+-- Containers: those of the line definition, built or not, and what the events tell of one.
+
+-- Containers that are built, by the kind as which the tokenizer holds them.
+
+abbrev pub container_rules : ContainerKind → ContainerRules
+container_rules kind.BlockQuote = quote_rules
+container_rules kind.ListItem = item_rules
+container_rules kind.GfmFootnoteDefinition = footnote_rules
+
+-- the order in which they are tried where one may open
+abbrev pub openers : List ContainerKind
+openers = kind.BlockQuote ∷ kind.ListItem ∷ kind.GfmFootnoteDefinition ∷ []
+
+-- the one that is tried at a state of the document; at no other is one
+abbrev pub opener_at : DocumentState → Option ContainerKind
+opener_at document.ContainerNewBefore = Some kind.BlockQuote
+opener_at document.ContainerNewBeforeNotBlockQuote = Some kind.ListItem
+opener_at document.ContainerNewBeforeNotList = Some kind.GfmFootnoteDefinition
+opener_at _ = None
+
+-- those that are tried behind one, where it does not open
+abbrev pub openers_from : ℕ → List ContainerKind → List ContainerKind
+openers_from n [] = []
+openers_from n (k ∷ ks) = if kind_number k == n then ks else openers_from n ks
+
+abbrev pub openers_behind : ContainerKind → List ContainerKind
+openers_behind k = openers_from (kind_number k) openers
+
+-- the state in front of the first of these, and behind all containers where none is left
+abbrev pub opener_front : List ContainerKind → DocumentState
+opener_front [] = document.ContainersAfter
+opener_front (k ∷ ks) = (container_rules k).before
+
+abbrev pub next_opener : ContainerKind → DocumentState
+next_opener k = opener_front (openers_behind k)
+
+-- how far it is from the next byte: by how many are tried behind it, and by the leaves
+abbrev pub opener_weight : ContainerKind → ℕ
+opener_weight k = 12 + 2 * length trials + 2 * length (openers_behind k)
+
+abbrev pub low_opener : (k : ContainerKind) →
+    (nat_lt (opener_weight k) 64 ≡ true) × (nat_lt (suc (opener_weight k)) 64 ≡ true)
+low_opener kind.BlockQuote = (refl, refl)
+low_opener kind.ListItem = (refl, refl)
+low_opener kind.GfmFootnoteDefinition = (refl, refl)
+
+abbrev pub opener_rank : Option ContainerKind → Rank
+opener_rank None = ranked 0 refl
+opener_rank (Some k) = ranked (opener_weight k) (low_opener k).0
+
+abbrev pub opener_tries : Option ContainerKind → Rank
+opener_tries None = ranked 2 refl
+opener_tries (Some k) = ranked (suc (opener_weight k)) (low_opener k).1
+
+-- A container that the tokenizer holds is this one: it is of its kind, and holds what the events do not tell.
+abbrev pub MatchesContainer : Held → Container → Type 0
+MatchesContainer held c = IsOf held.kind c × (container_rules held.kind).holds held c
+
+-- the first state of one that may open, and what is left there,
+abbrev pub opens_with : ContainerKind → StateName
+opens_with k = (container_rules k).start
+
+abbrev pub begins_at : ParseOptions → ContainerKind → List Cell → Here → Outcome
+begins_at options k cells h = (container_rules k).begins options cells h
+
+-- and the same of the state in front of the prefix of one on a further line
+abbrev pub goes_on_with : ContainerKind → StateName
+goes_on_with k = (container_rules k).further
+
+abbrev pub continues_at : ParseOptions → ContainerKind → List Cell → Here → Outcome
+continues_at options k cells h = (container_rules k).continues options cells h
+
+-- what may stand first behind whitespace where one opens, and where the prefix of one on a further line begins
+abbrev pub may_open : ContainerKind → ℕ → Bool
+may_open k b = (container_rules k).may_open b
+
+abbrev pub may_go_on : ContainerKind → ℕ → Bool
+may_go_on k b = (container_rules k).may_go_on b
+
+-- by the cells of a line, the container that opens, if one does: the first of these
+abbrev pub opens_by : ParseOptions → Bool → List Cell → Point → List ContainerKind → Option Passed
+opens_by options interrupting cells p [] = None
+opens_by options interrupting cells p (k ∷ ks) =
+    option_or ((container_rules k).opens options interrupting cells p) (opens_by options interrupting cells p ks)
+
+abbrev pub opens_at : ParseOptions → Bool → List Cell → Point → Option Passed
+opens_at options interrupting cells p = opens_by options interrupting cells p openers
+
+-- and an open one, if it goes on
+abbrev pub goes_by : ParseOptions → Container → List Cell → Point → Option ContainerKind → Option Passed
+goes_by options c cells p None = None
+goes_by options c cells p (Some k) = (container_rules k).goes options c cells p
+
+abbrev pub goes_at : ParseOptions → Container → List Cell → Point → Option Passed
+goes_at options c cells p = goes_by options c cells p (container_kind c)
+
+-- whether an open one, which is held so, goes on where the line ends
+abbrev pub goes_over : Held → Bool
+goes_over held = (container_rules held.kind).over_empty held
+
+-- States: which construct has each, what each does, and what is left at it, where this is the text.
+
+abbrev pub construct_owner : StateName → Scheme
+construct_owner (s.BlockQuote state) = quote_scheme
+construct_owner (s.CodeIndented state) = code_scheme
+construct_owner (s.GfmFootnoteDefinition state) = footnote_scheme
+construct_owner (s.GfmTable state) = table_scheme
+construct_owner (s.HeadingAtx state) = heading_scheme
+construct_owner (s.HeadingSetext state) = setext_scheme
+construct_owner (s.HtmlFlow state) = html_scheme
+construct_owner (s.ListItem state) = item_scheme
+construct_owner (s.RawFlow state) = fence_scheme
+construct_owner (s.ThematicBreak state) = break_scheme
+construct_owner _ = nowhere
+
+abbrev pub construct_transition : StateName → World → Transition
+construct_transition (s.BlockQuote state) w = quote_transition state w
+construct_transition (s.CodeIndented state) w = code_transition state w
+construct_transition (s.GfmFootnoteDefinition state) w = footnote_transition state w
+construct_transition (s.GfmTable state) w = table_transition state w
+construct_transition (s.HeadingAtx state) w = heading_transition state w
+construct_transition (s.HeadingSetext state) w = setext_transition state w
+construct_transition (s.HtmlFlow state) w = html_transition state w
+construct_transition (s.ListItem state) w = item_transition state w
+construct_transition (s.RawFlow state) w = fence_transition state w
+construct_transition (s.ThematicBreak state) w = break_transition state w
+construct_transition _ w = record { to = Nok; world = w }
+
+abbrev pub construct_behaves : List ℕ → ParseOptions → Behaviour
+construct_behaves bytes options (s.BlockQuote state) cells h = quote_behaves options state cells h
+construct_behaves bytes options (s.CodeIndented state) cells h = code_behaves options state cells h
+construct_behaves bytes options (s.GfmFootnoteDefinition state) cells h = footnote_behaves options state cells h
+construct_behaves bytes options (s.GfmTable state) cells h = table_behaves options state cells h
+construct_behaves bytes options (s.HeadingAtx state) cells h = heading_behaves options state cells h
+construct_behaves bytes options (s.HeadingSetext state) cells h = setext_behaves options state cells h
+construct_behaves bytes options (s.HtmlFlow state) cells h = html_behaves bytes options state cells h
+construct_behaves bytes options (s.ListItem state) cells h = item_behaves options state cells h
+construct_behaves bytes options (s.RawFlow state) cells h = fence_behaves options state cells h
+construct_behaves bytes options (s.ThematicBreak state) cells h = break_behaves options state cells h
+construct_behaves bytes options _ cells h = Refuses h.scratch h.flags

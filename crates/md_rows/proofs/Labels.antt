@@ -1,0 +1,2 @@
+-- The labels of a text, as its events and its tree have them.
+pub mod Leaves

@@ -1,0 +1,132 @@
+-- All that the frame asks of the events of lines of text that follow one another, as one leaf.
+use Rattle.std.proofs.Common.{◌≡◌, ℕ, true, List, [], ◌∷◌, refl, ap}
+use Rattle.std.specs.Prelude.{◌==◌, ◌||◌, Some}
+use Rattle.md_engine.specs.declared.configuration.ParseOptions.{ParseOptions}
+use Rattle.md_engine.specs.declared.event.Event.{Event}
+use Rattle.md_engine.specs.declared.event.Point.{Point}
+use Rattle.md_seam.specs.declared.inline.Chunk.{Chunk}
+use Rattle.md_seam.specs.declared.inline.PartKind.TheVariants.{Text}
+use Rattle.md_seam.specs.Events.Grammar.{blocks, plain_text, unread_text}
+use Rattle.md_seam.specs.Events.Spelled.{AsParagraph, byte_at}
+use Rattle.md_meaning.specs.State.{texts}
+use Rattle.md_seam.proofs.EndingsLemmas.{leaf-leads}
+use Rattle.md_seam.proofs.GrammarLemmas.{leads-around}
+use Rattle.md_seam.proofs.InlineLemmas.{plain-fills}
+use Rattle.md_seam.proofs.SpelledLemmas.{Between, Roles, roles-append}
+use Rattle.md_outline.specs.Between.{is_between}
+use Rattle.md_frame.specs.TextLines.{text_leaf}
+use Rattle.md_rows.specs.BlockList.{lines_unread}
+use Rattle.md_frame.specs.Row.{Row, chunks_of, last_row, read_lines}
+use Rattle.md_rows.specs.Rows.{lines_done}
+use Rattle.md_rows.specs.BlockList.{unread_lines}
+use Rattle.md_frame.proofs.BetweenFacts.{around-between}
+use Rattle.md_frame.proofs.FillFacts.{fill-part}
+use Rattle.md_rows.proofs.GroupLines.{AreLines}
+use Rattle.md_rows.proofs.GroupLemmas.{chunks-lines}
+use Rattle.md_rows.proofs.GroupLines.{kept-of}
+use Rattle.md_frame.proofs.LeafFacts.{LeafFacts}
+use Rattle.md_frame.proofs.LeafStands.{around-unlisted, between-parts}
+use Rattle.md_frame.proofs.PartedFacts.{clear}
+use Rattle.md_frame.proofs.PartsStand.{stands-part}
+use Rattle.md_frame.proofs.PieceFacts.{stood-around}
+use Rattle.md_frame.proofs.PiecesLemmas.{tiled-around}
+use Rattle.md_frame.proofs.PlainFacts.{plain-around}
+use Rattle.md_registry.proofs.Registry.{text-laws}
+use Rattle.md_frame.proofs.SpanLemmas.{around-nested}
+use Rattle.md_frame.proofs.ParagraphLines.{IsRead, fronts-between}
+use Rattle.md_rows.proofs.SpelledParagraphs.{read-lines, read-more, read-one}
+use Rattle.md_rows.proofs.Text.Endings.{linked-filling, read-filling}
+use Rattle.md_rows.proofs.Text.Order.{chunks-order}
+use Rattle.md_rows.proofs.Text.Parted.{text-sits}
+use Rattle.md_rows.proofs.Text.Parts.{chunks-begin, lines-filled, lines-inside}
+use Rattle.md_rows.proofs.Text.Pieces.{linked-starts, read-starts, read-stood, unread-stood}
+use Rattle.md_rows.proofs.Text.Places.{read-between, read-nested, read-plain, unread-nested, unread-tiled}
+use Rattle.md_rows.proofs.Text.Words.{linked-word, read-word}
+
+-- they are read as these
+pub lines-read : (options : ParseOptions) (bytes : List ℕ) (row : Row) (rows : List Row) →
+    (h : AreLines options bytes row rows) →
+    IsRead bytes row rows (kept-of options bytes row rows h)
+lines-read options bytes row [] h = read-one options bytes h.0 row h.1 h.2
+lines-read options bytes row (next ∷ rows) h =
+    read-more options bytes h.0 row next rows h.3 (kept-of options bytes next rows h.7) h.1 h.2 h.5 h.6
+    (lines-read options bytes next rows h.7)
+
+-- before that, it is chunks of text, with what stands in front of further lines
+pub unread-between : (options : ParseOptions) (bytes : List ℕ) (row : Row) (rows : List Row) →
+    AreLines options bytes row rows → Roles Between (unread_lines row rows)
+unread-between options bytes row [] h = (tt, (tt, tt))
+unread-between options bytes row (next ∷ rows) h = (
+  tt,
+  (
+    tt,
+    roles-append Between next.front (unread_lines next rows)
+        (fronts-between bytes [] h.3 next.first next.front h.6 refl) (unread-between options bytes next rows h.7),
+  ),
+)
+
+-- the last one ends in no tab
+pub end-clear : (options : ParseOptions) (bytes : List ℕ) (row : Row) (rows : List Row) →
+    AreLines options bytes row rows → clear bytes (last_row row rows).end ≡ true
+end-clear options bytes row [] h = ap (λ (v : ℕ). (v == 0) || is_between bytes (byte_at row.end)) h.1.end_whole
+end-clear options bytes row (next ∷ rows) h = end-clear options bytes next rows h.7
+
+pub text-facts : (options : ParseOptions) (bytes : List ℕ) (row : Row) (rows : List Row) →
+    (h : AreLines options bytes row rows) →
+    LeafFacts bytes (Some (text_leaf.block (texts (kept-of options bytes row rows h)))) true row.first
+    (last_row row rows).end (lines_unread row rows) (lines_done bytes row rows)
+text-facts options bytes row rows h = record {
+  unread_nested = around-nested text_leaf.name row.first end unread (unread-nested options bytes row rows h);
+  nested = around-nested text_leaf.name row.first end done (read-nested options bytes row rows h);
+  tiled = tiled-around text_leaf.name row.first end unread (unread-tiled options bytes row rows h);
+  unread_stood =
+      stood-around bytes text_leaf.name row.first end unread (linked-starts row rows)
+      (unread-stood options bytes row rows h);
+  stood =
+      stood-around bytes text_leaf.name row.first end done (read-starts options bytes row rows h)
+      (read-stood options bytes row rows h);
+  behind = true;
+  unread_word =
+      leads-around unread_text blocks text_leaf.name row.first end unread
+      (linked-word options bytes unread_text row rows refl h);
+  word = leads-around plain_text blocks text_leaf.name row.first end done (read-word options bytes true row rows h);
+  unread_ending = leaf-leads text_leaf.name row.first end unread refl (linked-filling options bytes row rows h true);
+  ending = leaf-leads text_leaf.name row.first end done refl (read-filling options bytes row rows h true);
+  unread_unlisted =
+      around-unlisted text_leaf.name row.first end unread refl
+      (between-parts unread (unread-between options bytes row rows h));
+  unlisted = around-unlisted text_leaf.name row.first end done refl (between-parts done read.between);
+  stands = λ held. text-laws.stands bytes held row.first end done read.between;
+  parts =
+      stands-part bytes text_leaf.name Text row.first end chunks unread refl (lines-inside options bytes row rows h)
+      (chunks-begin row rows) (chunks-lines options bytes row rows h);
+  filled =
+      fill-part bytes text_leaf.name Text row.first end chunks unread done refl (lines-inside options bytes row rows h)
+      (plain-fills bytes row.first chunks (chunks-order options bytes row rows h))
+      (lines-filled options bytes row rows h);
+  between =
+      λ first last. around-between bytes text_leaf.name row.first end done first last
+      (read-between options bytes row rows h first last);
+  parted = text-sits options bytes text_leaf.name AsParagraph row rows refl (λ p span. refl) h;
+  plain =
+      λ first. plain-around bytes text_leaf.name row.first end done refl first (end-clear options bytes row rows h)
+      (read-plain options bytes row rows h);
+  reads =
+      λ r text leaf. read-lines bytes row rows (kept-of options bytes row rows h) r
+      read text;
+}
+  where
+    end : Point
+    end = (last_row row rows).end
+
+    unread : List Event
+    unread = unread_lines row rows
+
+    done : List Event
+    done = read_lines bytes row rows
+
+    chunks : List Chunk
+    chunks = chunks_of row rows
+
+    read : IsRead bytes row rows (kept-of options bytes row rows h)
+    read = lines-read options bytes row rows h

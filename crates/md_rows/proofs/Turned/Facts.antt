@@ -1,0 +1,161 @@
+-- What is known of a text and the underline that turns it: once the heading is set, and once its text is read.
+use Rattle.std.proofs.Common.{ℕ, true, List, [], ◌++◌, refl, subst₂, sym}
+use Rattle.std.specs.Prelude.{Some}
+use Rattle.md_engine.specs.declared.configuration.ParseOptions.{ParseOptions}
+use Rattle.md_engine.specs.declared.event.Event.{Event}
+use Rattle.md_meaning.specs.State.{texts}
+use Rattle.md_meaning.specs.Tree.{Block}
+use Rattle.md_outline.specs.LinesStand.{AtTitle, BehindTitle, BehindUnderline}
+use Rattle.md_outline.proofs.LinesPass.{passes-heading}
+use Rattle.md_seam.specs.Events.Grammar.{Nothing, blocks, plain_text, unread_text}
+use Rattle.md_seam.specs.Events.Nested.{around}
+use Rattle.md_seam.specs.Events.Spelled.{OfHeadingSetext, fresh}
+use Rattle.md_seam.proofs.EndingsLemmas.{filling-append, leaf-leads}
+use Rattle.md_seam.proofs.GrammarLemmas.{leads-around}
+use Rattle.md_rows.specs.BlockList.{heading_unread}
+use Rattle.md_frame.specs.TextLines.{turn_leaf}
+use Rattle.md_frame.specs.Row.{Row, heading_done, last_row, read_lines}
+use Rattle.md_rows.specs.BlockList.{unread_lines}
+use Rattle.md_frame.proofs.BetweenFacts.{around-between, ending-before, ending-behind}
+use Rattle.md_frame.proofs.FillFacts.{fill-around}
+use Rattle.md_frame.proofs.FrontStands.{fronts-between}
+use Rattle.md_rows.proofs.GroupLines.{AreLines, IsUnder}
+use Rattle.md_frame.proofs.LeafFacts.{LeafFacts}
+use Rattle.md_frame.proofs.LeafStands.{around-unlisted, leaf-stands}
+use Rattle.md_frame.proofs.PartedFacts.{around-sits}
+use Rattle.md_frame.proofs.PartsStand.{stands-around}
+use Rattle.md_frame.proofs.PieceFacts.{stood-around}
+use Rattle.md_frame.proofs.PiecesLemmas.{tiled-around}
+use Rattle.md_frame.proofs.PlainFacts.{known-around}
+use Rattle.md_frame.proofs.LeafLines.Inside.{InsideFacts, inside-append}
+use Rattle.md_frame.proofs.SpanLemmas.{around-nested}
+use Rattle.md_rows.proofs.Text.Facts.{end-clear, lines-read}
+use Rattle.md_rows.proofs.GroupLines.{kept-of}
+use Rattle.md_rows.proofs.Turned.Events.{gap_events, heading_left, inside_events, line_left, so_far}
+use Rattle.md_rows.proofs.Turned.Events.{text_events, turned-is, under_left}
+use Rattle.md_rows.proofs.Turned.Gap.{gap-inside}
+use Rattle.md_rows.proofs.Turned.Line.{LineInside, line-clear, line-inside}
+use Rattle.md_rows.proofs.Turned.Reads.{read-inside}
+use Rattle.md_rows.proofs.Turned.Text.{text-inside}
+use Rattle.md_rows.proofs.Turned.Turns.{Turns}
+use Rattle.md_rows.proofs.Turned.Under.{text-whole, under-turns}
+
+-- the block that they show
+abbrev pub turned-block : (options : ParseOptions) (bytes : List ℕ) (row : Row) (rows : List Row) (under : Row) →
+    AreLines options bytes row rows → IsUnder options bytes (last_row row rows) under → Block
+turned-block options bytes row rows under h is =
+    turn_leaf.block (texts (kept-of options bytes row rows h)) is.is.rest
+
+-- All that the frame asks of the heading, where the underline turns the text.
+turns-facts : (options : ParseOptions) (bytes : List ℕ) (row : Row) (rows : List Row) (under : Row) →
+    (h : AreLines options bytes row rows) → (turns : Turns options bytes (last_row row rows) under) →
+    LeafFacts bytes (Some (turn_leaf.block (texts (kept-of options bytes row rows h)) turns.is.rest)) true row.first
+    under.end (heading_unread under row rows) (heading_done bytes under row rows)
+turns-facts options bytes row rows under h turns =
+    subst₂
+    (λ (es fs : List Event).
+    LeafFacts bytes (Some (turn_leaf.block (texts (kept-of options bytes row rows h)) turns.is.rest)) true row.first
+    under.end es fs)
+    (sym (turned-is row rows under turns.after (unread_lines row rows) turns.after_is))
+    (sym (turned-is row rows under turns.after (read_lines bytes row rows) turns.after_is)) facts
+  where
+    last : Row
+    last = last_row row rows
+
+    gap : List Event
+    gap = gap_events last.end turns.after under.front
+
+    unread_title : List Event
+    unread_title = text_events row.first last.end (unread_lines row rows)
+
+    title : List Event
+    title = text_events row.first last.end (read_lines bytes row rows)
+
+    unread : List Event
+    unread = inside_events row rows under turns.after (unread_lines row rows)
+
+    done : List Event
+    done = inside_events row rows under turns.after (read_lines bytes row rows)
+
+    line : LineInside bytes under.first under.end turns.is.rest under.inside
+    line = line-inside options bytes under turns.is
+
+    kept : List (List ℕ)
+    kept = texts (kept-of options bytes row rows h)
+
+    front :
+        InsideFacts bytes row.first under.first heading_left line_left (fresh OfHeadingSetext) (so_far [] kept) AtTitle
+        BehindTitle (unread_title ++ gap) (title ++ gap)
+    front =
+        inside-append bytes row.first last.end under.first heading_left under_left line_left (fresh OfHeadingSetext)
+        (so_far [] kept) (so_far [] kept) AtTitle BehindTitle BehindTitle unread_title title gap gap
+        (record {
+          between = λ end. ending-before bytes last.end turns.after turns.ending;
+          clear = end-clear options bytes row rows h;
+        })
+        (text-inside options bytes row rows h)
+        (gap-inside bytes last.end turns.after under.first under.front [] kept (text-whole options bytes row rows h)
+        turns.ending turns.front)
+
+    inside :
+        InsideFacts bytes row.first under.end heading_left Nothing (fresh OfHeadingSetext) (so_far line.markers kept)
+        AtTitle BehindUnderline unread done
+    inside =
+        inside-append bytes row.first under.first under.end heading_left line_left Nothing (fresh OfHeadingSetext)
+        (so_far [] kept) (so_far line.markers kept) AtTitle BehindTitle BehindUnderline
+        (unread_title ++ gap) (title ++ gap) under.inside under.inside
+        (record {
+          between = λ end. (fronts-between bytes [] turns.after under.first under.front
+              (ending-behind bytes last.end turns.after turns.ending) turns.front).1;
+          clear = line-clear options bytes under turns.is;
+        })
+        front (line.facts kept)
+
+    facts :
+        LeafFacts bytes (Some (turn_leaf.block kept turns.is.rest)) true row.first under.end
+        (around turn_leaf.name row.first under.end unread) (around turn_leaf.name row.first under.end done)
+    facts = record {
+      unread_nested = around-nested turn_leaf.name row.first under.end unread inside.unread_nested;
+      nested = around-nested turn_leaf.name row.first under.end done inside.nested;
+      tiled = tiled-around turn_leaf.name row.first under.end unread inside.tiled;
+      unread_stood = stood-around bytes turn_leaf.name row.first under.end unread refl inside.unread_stood;
+      stood = stood-around bytes turn_leaf.name row.first under.end done refl inside.stood;
+      behind = true;
+      unread_word =
+          leads-around unread_text blocks turn_leaf.name row.first under.end unread
+          (record { left = Nothing; leads = inside.unread_word; ends = refl });
+      word =
+          leads-around plain_text blocks turn_leaf.name row.first under.end done
+          (record { left = Nothing; leads = inside.word; ends = refl });
+      unread_ending =
+          leaf-leads turn_leaf.name row.first under.end unread refl
+          (filling-append (unread_title ++ gap) under.inside front.unread_stays line.fills true);
+      ending =
+          leaf-leads turn_leaf.name row.first under.end done refl
+          (filling-append (title ++ gap) under.inside front.stays line.fills true);
+      unread_unlisted = around-unlisted turn_leaf.name row.first under.end unread refl inside.unread_roles;
+      unlisted = around-unlisted turn_leaf.name row.first under.end done refl inside.roles;
+      stands =
+          λ held. leaf-stands bytes held turn_leaf.name OfHeadingSetext row.first under.end done refl inside.roles;
+      parts = stands-around bytes turn_leaf.name row.first under.end unread refl inside.parts;
+      filled = fill-around bytes turn_leaf.name row.first under.end unread done refl inside.filled;
+      between =
+          λ first last. around-between bytes turn_leaf.name row.first under.end done first last
+          (inside.between first last);
+      parted = around-sits bytes turn_leaf.name row.first under.end done tt inside.parted;
+      plain = λ first. record {
+        known =
+            known-around bytes turn_leaf.name row.first under.end done refl refl refl (inside.plain first).known;
+        lines = passes-heading bytes turn_leaf.name row.first under.end done refl (inside.plain first).lines;
+      };
+      reads =
+          λ r none shut. read-inside options bytes row rows under (kept-of options bytes row rows h) r
+          (lines-read options bytes row rows h) turns none shut;
+    }
+
+pub turned-facts : (options : ParseOptions) (bytes : List ℕ) (row : Row) (rows : List Row) (under : Row) →
+    (h : AreLines options bytes row rows) → (is : IsUnder options bytes (last_row row rows) under) →
+    LeafFacts bytes (Some (turned-block options bytes row rows under h is)) true row.first under.end
+    (heading_unread under row rows) (heading_done bytes under row rows)
+turned-facts options bytes row rows under h is =
+    turns-facts options bytes row rows under h (under-turns options bytes row rows under h is)

@@ -1,0 +1,79 @@
+-- What stands between the text of a heading and its underline.
+use Rattle.std.proofs.Common.{◌≡◌, ℕ, false, List, [], ◌∷◌, refl, ap, ◌∙◌}
+use Rattle.std.specs.Prelude.{Option}
+use Rattle.md_engine.specs.declared.event.Event.{Event}
+use Rattle.md_engine.specs.declared.event.Name.TheVariants as n
+use Rattle.md_engine.specs.declared.event.Point.{Point}
+use Rattle.md_seam.specs.Events.Grammar.{Expression, plain_text, unread_text}
+use Rattle.md_seam.specs.Events.Nested.{pair}
+use Rattle.md_seam.specs.Events.Spelled.{OpenLeaf}
+use Rattle.md_seam.proofs.EndingsLemmas.{Stays, stays-append, stays-others}
+use Rattle.md_seam.proofs.GrammarLemmas.{Leads, leads-append, leads-pair}
+use Rattle.md_seam.proofs.SetextReads.{read-setext_gap}
+use Rattle.md_seam.proofs.SpelledLemmas.{QuietOrPrefix, Roles}
+use Rattle.md_outline.specs.LinesStand.{BehindTitle}
+use Rattle.md_outline.proofs.LinesPass.{passes-gap}
+use Rattle.md_frame.proofs.FillFacts.{fill-same}
+use Rattle.md_frame.proofs.FrontFacts.{LinePrefix}
+use Rattle.md_frame.proofs.FrontNames.{fronts-prefixes}
+use Rattle.md_frame.proofs.FrontStands.{fronts-others}
+use Rattle.md_frame.proofs.GrammarFronts.{front-stays}
+use Rattle.md_frame.proofs.LeafStands.{between-parts}
+use Rattle.md_frame.proofs.PartedFacts.{sits-still}
+use Rattle.md_frame.proofs.PartsStand.{stands-outside}
+use Rattle.md_frame.proofs.PlainFacts.{plain-untold}
+use Rattle.md_frame.proofs.PrefixNames.{prefixes-roles}
+use Rattle.md_seam.proofs.FeedLines.{IsEnding}
+use Rattle.md_frame.proofs.LeafLines.Behind.{GapFacts, gap-facts}
+use Rattle.md_frame.proofs.LeafLines.Inside.{InsideFacts}
+use Rattle.md_rows.proofs.Turned.Events.{gap_events, line_left, so_far, under_left}
+
+-- prefixes are quiet, or prefixes
+pub front-quiet : (bytes : List ℕ) (p q : Point) (front : List Event) → LinePrefix bytes [] p q front →
+    Roles QuietOrPrefix front
+front-quiet bytes p q front is =
+    prefixes-roles QuietOrPrefix front tt tt (fronts-prefixes bytes [] p q front refl is)
+
+pub gap-inside : (bytes : List ℕ) (p at q : Point) (front : List Event) (markers : List ℕ) (text : List (List ℕ)) →
+    p.vs ≡ 0 → IsEnding bytes p at → LinePrefix bytes [] at q front →
+    InsideFacts bytes p q under_left line_left (so_far markers text) (so_far markers text) BehindTitle
+    BehindTitle (gap_events p at front) (gap_events p at front)
+gap-inside bytes p at q front markers text whole is fronts = record {
+  unread_nested = gap.nested;
+  nested = gap.nested;
+  tiled = gap.tiled;
+  unread_stood = gap.stood;
+  stood = gap.stood;
+  unread_word = word unread_text;
+  word = word plain_text;
+  unread_stays = stays;
+  stays = stays;
+  unread_roles = between-parts (gap_events p at front) gap.roles;
+  roles = between-parts (gap_events p at front) gap.roles;
+  parts = stands-outside bytes (gap_events p at front) gap.no_parts gap.unlinked;
+  filled = fill-same bytes (gap_events p at front) gap.unlinked gap.no_parts;
+  between = λ first last. gap.between;
+  parted = sits-still bytes (gap_events p at front) gap.still;
+  plain = λ first. record {
+    known = (plain-untold bytes (gap_events p at front) gap.untold).known;
+    lines = passes-gap bytes (gap_events p at front) gap.roles;
+  };
+  reads =
+      λ r none opened. read-setext_gap bytes r p at front (record { markers = markers; text = text }) none opened
+      (front-quiet bytes at q front fronts)
+      ∙ ap (λ (o : Option OpenLeaf). record r { leaf = o }) opened;
+}
+  where
+    gap : GapFacts bytes false p q (gap_events p at front)
+    gap = gap-facts bytes false p at q front whole is fronts
+
+    word : (text : Expression) → Leads text (under_left ∷ []) (line_left ∷ []) (gap_events p at front)
+    word text =
+        leads-append text (under_left ∷ []) (line_left ∷ []) (line_left ∷ []) (pair n.LineEnding p at) front
+        (leads-pair text under_left n.LineEnding p at refl)
+        (front-stays text line_left bytes [] at q front (refl, refl) fronts refl)
+
+    stays : Stays (gap_events p at front)
+    stays =
+        stays-append (pair n.LineEnding p at) front (λ from. (false, λ ys. refl))
+        (stays-others front (fronts-others bytes [] at q front fronts))

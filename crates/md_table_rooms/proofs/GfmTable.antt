@@ -1,0 +1,22 @@
+-- Tables: a delimiter row, which turns the text in front of it, and further rows: what they come to, and their laws.
+pub mod Cells
+pub mod DelimiterRow
+pub mod DelimiterRowCells
+pub mod Each
+pub mod Found
+pub mod Head
+pub mod Laws
+pub mod Registers
+pub mod Row
+pub mod RowAt
+pub mod RowCells
+pub mod RowParts
+pub mod RowSites
+pub mod RowWords
+pub mod Span
+pub mod TableFacts
+pub mod TableForm
+pub mod TableLaws
+pub mod TableParts
+pub mod TableUnread
+pub mod Trial

@@ -1,0 +1,72 @@
+-- The line of text that is the head of a table (GFM 4.10), as its states leave it in front of the rows behind it: what
+-- holds of each of its events, and that it begins a leaf of several lines.
+use Rattle.std.proofs.Common.{ℕ, Bool, List, [], ◌∷◌, ◌++◌, refl}
+use Rattle.md_engine.specs.declared.event.Content.{Content}
+use Rattle.md_engine.specs.declared.event.Event.{Event}
+use Rattle.md_engine.specs.declared.event.Name.TheVariants as n
+use Rattle.md_engine.specs.declared.event.Point.{Point}
+use Rattle.md_leaves.proofs.SpannedLines.{IsBegin}
+use Rattle.md_seam.specs.Events.Nested.{enter, exit}
+use Rattle.md_seam.specs.Events.Places.{past_text}
+use Rattle.md_tables.specs.GfmTableLine.{head_line, row_runs}
+use Rattle.md_tables.specs.RowRule.{Apart}
+use Rattle.md_frame.proofs.EachEvent.{Each, each-append}
+use Rattle.md_frame.proofs.ContentFacts.{NoContent, WantsContent}
+use Rattle.md_table_rooms.proofs.GfmTable.Each.{OfRow, of-no_content, of-outside, of-unturned, row-bytes}
+use Rattle.md_table_rooms.proofs.GfmTable.Span.{IsNoLine, each-no_lines, of-no_line}
+use Rattle.md_frame.proofs.MarkRuns.Each.{IsNoContent, each-no_content}
+use Rattle.md_frame.proofs.OutsideFacts.{AreOutside, IsOutside}
+use Rattle.md_frame.proofs.SpanLaws.{IsSpanned}
+use Rattle.md_frame.proofs.SpannedFacts.{AreUnspanned}
+use Rattle.md_frame.proofs.UnturnedFacts.{AreUnturned, IsUnturned}
+
+-- its row
+abbrev row_events : List ℕ → Point → List Event
+row_events line p =
+    enter n.GfmTableRow p ∷ row_runs Apart line p ++ exit n.GfmTableRow (past_text line p) ∷ []
+
+row-each : (P : Event → Type 0) → OfRow P → (line : List ℕ) (p : Point) → Each P (row_events line p)
+row-each P of line p =
+    let q : Point = past_text line p in (
+      of.row.0 p,
+      each-append P (row_runs Apart line p) (exit n.GfmTableRow q ∷ []) (row-bytes P of Apart line p)
+          (of.row.1 q, tt),
+    )
+
+-- and the table around it
+head-each : (P : Event → Type 0) → OfRow P → ((p : Point) → P (enter n.GfmTable p)) →
+    ((p : Point) → P (exit n.GfmTable p)) → (line : List ℕ) (p : Point) → Each P (head_line line p)
+head-each P of begins ends line p =
+    let q : Point = past_text line p in (
+      begins p,
+      each-append P (row_events line p) (exit n.GfmTable q ∷ []) (row-each P of line p) (ends q, tt),
+    )
+
+-- No part of it is rewritten, and none is a text or an underline.
+
+pub head-outside : (line : List ℕ) (p : Point) → AreOutside (head_line line p)
+head-outside line p = head-each IsOutside of-outside.of (λ q. refl) (λ q. refl) line p
+
+pub head-unturned : (line : List ℕ) (p : Point) → AreUnturned (head_line line p)
+head-unturned line p = head-each IsUnturned of-unturned.of (λ q. refl) (λ q. refl) line p
+
+-- Nor does content stand in it.
+pub head-no_content : (wants : Content → Bool) → WantsContent wants → (line : List ℕ) (p : Point) →
+    NoContent wants (head_line line p)
+head-no_content wants only line p =
+    each-no_content wants (head_line line p)
+    (head-each (IsNoContent wants) (of-no_content wants only).of (λ q. (refl, refl)) (λ q. (refl, refl)) line p)
+
+-- It begins the leaf.
+pub head-spanned : (line : List ℕ) (p : Point) → IsSpanned AreUnspanned IsBegin (head_line line p)
+head-spanned line p = record {
+  lead = [];
+  begin = enter n.GfmTable p;
+  inside = row_events line p;
+  end = exit n.GfmTable (past_text line p);
+  is = refl;
+  lead_plain = tt;
+  begins = record { kind = refl; lines = refl; link = refl };
+  inside_plain = each-no_lines (row_events line p) (row-each IsNoLine of-no_line line p);
+  ends = record { kind = refl; lines = refl };
+}

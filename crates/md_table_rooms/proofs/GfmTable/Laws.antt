@@ -1,0 +1,34 @@
+-- The laws of a line of a table, as the frame asks for them.
+use Rattle.std.proofs.Common.{refl}
+use Rattle.md_frame.specs.RestLine.{rest_line}
+use Rattle.md_table_rooms.specs.Leaf.GfmTable.{table_leaf}
+use Rattle.md_table_rooms.proofs.GfmTable.Cells.{table-adds, table-fits}
+use Rattle.md_table_rooms.proofs.GfmTable.Each.{table-no_content, table-outside, table-own, table-unturned}
+use Rattle.md_table_rooms.proofs.GfmTable.Found.{table-held, table-lines}
+use Rattle.md_table_rooms.proofs.GfmTable.Trial.{table-looked, table-refused, table-shrinks, table-took}
+use Rattle.md_frame.proofs.LeafLaws.{LeafLaws}
+
+-- All that the frame asks of it: it goes on the text or the table that it meets, and leaves a table open.
+pub table-laws : LeafLaws table_leaf
+table-laws = record {
+  looked = table-looked;
+  meets = λ options on r starts further. table-lines on further;
+  took = λ options cells h is few. table-took options cells h is;
+  refused = λ options cells h asked. table-refused options cells h;
+  shrinks = table-shrinks;
+  fits = table-fits;
+  adds_is = table-adds;
+  keeps_is = λ options on said text behind r p stop is h k short starts. refl;
+  shut = λ ends options on. absurd (cc);
+  finishes = λ ends options leaf r. cc;
+  holds_is = table-held;
+  not_lazy = λ options on. (λ cells p. refl, λ r. refl);
+  no_content = table-no_content;
+  own = λ options on cells p none. table-own options on cells p;
+  outside = λ stays options on r p starts. table-outside options on (rest_line r) p;
+  unturned_line = λ stays options on r p starts lines. table-unturned options on (rest_line r) p;
+  unturned = λ ends options on r p starts. absurd (cc);
+  set = λ ends options on r p es starts. cc;
+  unspanned = λ ends options on r p starts. absurd (cc);
+  facts = λ ends options on bytes r p q starts is. absurd (cc);
+}

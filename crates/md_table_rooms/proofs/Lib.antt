@@ -1,0 +1,2 @@
+pub mod GfmTable
+pub mod HeadsRead

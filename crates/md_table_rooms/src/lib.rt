@@ -1,0 +1,2 @@
+// The room of tables.
+#![tactic(auto)]

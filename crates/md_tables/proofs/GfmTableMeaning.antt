@@ -1,0 +1,123 @@
+-- Each state of a table takes one step of its rule.
+use Rattle.std.proofs.Common.{◌≡◌, Bool, true, false, List, refl, sym, ◌∙◌}
+use Rattle.md_engine.specs.declared.configuration.ParseOptions.{ParseOptions}
+use Rattle.md_engine.specs.declared.state.Name.TheVariants as n
+use Rattle.md_engine.specs.declared.state.gfm_table.State.{State as TableState}
+use Rattle.md_engine.specs.declared.state.gfm_table.State.TheVariants as its
+use Rattle.md_engine.specs.declared.state.State.TheVariants.{Next}
+use Rattle.md_engine.specs.declared.tokenizer.held_leaf.HeldLeaf.{HeldLeaf}
+use Rattle.md_engine.specs.declared.tokenizer.held_leaf.HeldLeaf.TheVariants as held_leaf
+use Rattle.md_engine.specs.declared.tokenizer.held_leaf.OpenText.{OpenText}
+use Rattle.md_engine.specs.Meaning.{Behaviour, Cell, Feed, Here, Steps, goes, here}
+use Rattle.md_engine.specs.Scheme.{After, position}
+use Rattle.md_engine.specs.World.{World}
+use Rattle.md_engine.proofs.StepOf.{Sees, passes}
+use Rattle.md_tables.specs.Delimiter.{IsOfDelimiter}
+use Rattle.md_tables.specs.Delimiter.IsOfDelimiter.{Before, CellAfter, CellBefore, Filler, LeftAfter, RightAfter, Start}
+use Rattle.md_tables.specs.Delimiter.IsOfDelimiter.{ValueBefore}
+use Rattle.md_tables.specs.DelimiterRule.{HasDelimiter, delimiter_behaves}
+use Rattle.md_tables.specs.GfmTable.{head_code, may_head, start_code, table_scheme, table_transition}
+use Rattle.md_tables.specs.GfmTableRule.{HasTable, head_at, table_at, table_behaves, table_by}
+use Rattle.md_tables.specs.Row.{name_at}
+use Rattle.md_tables.specs.RowRule.{HasRow, row_behaves}
+use Rattle.md_tables.specs.declared.row.Place.{Place}
+use Rattle.md_tables.specs.declared.row.Place.TheVariants as place
+use Rattle.md_tables.specs.declared.row.Row.{Row}
+use Rattle.md_tables.specs.declared.row.Row.TheVariants.{Head, Body}
+use Rattle.md_tables.proofs.DelimiterMeaning.{delimiter_means}
+use Rattle.md_tables.proofs.RowMeaning.{row_means}
+
+-- a behaviour that has tables has their rows
+has-row : (B : Behaviour) (options : ParseOptions) (r : Row) → HasTable B options → HasRow B r
+has-row B options r has = record { white = has.white; each = each r }
+  where
+    each : (r : Row) (p : Place) (cells : List Cell) (h : Here) → B (name_at r p) cells h ≡ row_behaves r p cells h
+    each Head place.Start = has.each its.HeadRowBefore
+    each Head place.Break = has.each its.HeadRowBreak
+    each Head place.Data = has.each its.HeadRowData
+    each Head place.Escape = has.each its.HeadRowEscape
+    each Head place.CellBefore = has.each its.HeadRowCellBefore
+    each Body place.Start = has.each its.BodyRowStart
+    each Body place.Break = has.each its.BodyRowBreak
+    each Body place.Data = has.each its.BodyRowData
+    each Body place.Escape = has.each its.BodyRowEscape
+    each Body place.CellBefore = has.each its.BodyRowCellBefore
+
+-- and their delimiter rows
+has-delimiter : (B : Behaviour) (options : ParseOptions) → HasTable B options → HasDelimiter B options
+has-delimiter B options has = record {
+  white = has.white;
+  each = λ state is cells h. has.each state cells h ∙ same state is cells h;
+}
+  where
+    same : (state : TableState) → IsOfDelimiter state → (cells : List Cell) (h : Here) →
+        table_behaves options state cells h ≡ delimiter_behaves options state cells h
+    same _ Start cells h = refl
+    same _ Before cells h = refl
+    same _ CellBefore cells h = refl
+    same _ ValueBefore cells h = refl
+    same _ LeftAfter cells h = refl
+    same _ Filler cells h = refl
+    same _ RightAfter cells h = refl
+    same _ CellAfter cells h = refl
+
+-- In front of a row.
+
+head_means : (B : Behaviour) (feed : Feed) (w : World) (text : OpenText) (x : Bool) → HasTable B w.setting.options →
+    goes B (Next (n.GfmTable its.Start)) (feed w.point) (here w) ≡
+    head_at w.setting.options text x (feed w.point) (here w) →
+    Steps B feed (Next (n.GfmTable its.Start)) w (head_code w text x).to (head_code w text x).world
+head_means B feed w text true has e =
+    passes B feed _ _ w (head_code w text true).world refl refl (e ∙ sym (has.each its.HeadDelimiterStart _ _))
+head_means B feed w text false has e = passes B feed _ _ w w refl refl e
+
+start_means : (B : Behaviour) (feed : Feed) (w : World) (leaf : HeldLeaf) → HasTable B w.setting.options →
+    goes B (Next (n.GfmTable its.Start)) (feed w.point) (here w) ≡
+    table_by w.setting.options leaf (feed w.point) (here w) →
+    Steps B feed (Next (n.GfmTable its.Start)) w (start_code w leaf).to (start_code w leaf).world
+start_means B feed w (held_leaf.Text text) has e =
+    head_means B feed w text (may_head w.setting.options text) has e
+start_means B feed w held_leaf.Table has e =
+    passes B feed _ _ w w refl refl (e ∙ sym (has.each its.BodyRowStart _ _))
+start_means B feed w _ has e = passes B feed _ _ w w refl refl e
+
+begins_means : (B : Behaviour) (feed : Feed) (w : World) → HasTable B w.setting.options →
+    Steps B feed (Next (n.GfmTable its.Start)) w (start_code w w.flags.leaf).to (start_code w w.flags.leaf).world
+unfolding table_at
+begins_means B feed w has = start_means B feed w w.flags.leaf has (has.each its.Start _ _)
+
+-- each state of a table takes one step of what it means
+pub table_means : (B : Behaviour) (feed : Feed) (state : TableState) (w : World) (K : After) →
+    HasTable B w.setting.options → Sees feed w → table_scheme.ready (n.GfmTable state) (position w) K →
+    Steps B feed (Next (n.GfmTable state)) w (table_transition state w).to (table_transition state w).world
+table_means B feed its.Start w K has s at = begins_means B feed w has
+table_means B feed its.HeadRowBefore w K has s at = row_means B feed Head place.Start w (has-row B _ Head has) s at.0
+table_means B feed its.HeadRowStart w K has s at = absurd at
+table_means B feed its.HeadRowBreak w K has s at = row_means B feed Head place.Break w (has-row B _ Head has) s at.0
+table_means B feed its.HeadRowData w K has s at = row_means B feed Head place.Data w (has-row B _ Head has) s at.0
+table_means B feed its.HeadRowEscape w K has s at = row_means B feed Head place.Escape w (has-row B _ Head has) s at.0
+table_means B feed its.HeadRowCellBefore w K has s at =
+    row_means B feed Head place.CellBefore w (has-row B _ Head has) s at.0
+table_means B feed its.HeadDelimiterStart w K has s at =
+    delimiter_means B feed _ w K Start (has-delimiter B _ has) s at
+table_means B feed its.HeadDelimiterBefore w K has s at =
+    delimiter_means B feed _ w K Before (has-delimiter B _ has) s at
+table_means B feed its.HeadDelimiterCellBefore w K has s at =
+    delimiter_means B feed _ w K CellBefore (has-delimiter B _ has) s at
+table_means B feed its.HeadDelimiterValueBefore w K has s at =
+    delimiter_means B feed _ w K ValueBefore (has-delimiter B _ has) s at
+table_means B feed its.HeadDelimiterLeftAlignmentAfter w K has s at =
+    delimiter_means B feed _ w K LeftAfter (has-delimiter B _ has) s at
+table_means B feed its.HeadDelimiterFiller w K has s at =
+    delimiter_means B feed _ w K Filler (has-delimiter B _ has) s at
+table_means B feed its.HeadDelimiterRightAlignmentAfter w K has s at =
+    delimiter_means B feed _ w K RightAfter (has-delimiter B _ has) s at
+table_means B feed its.HeadDelimiterCellAfter w K has s at =
+    delimiter_means B feed _ w K CellAfter (has-delimiter B _ has) s at
+table_means B feed its.HeadDelimiterNok w K has s at = absurd at
+table_means B feed its.BodyRowStart w K has s at = row_means B feed Body place.Start w (has-row B _ Body has) s at.0
+table_means B feed its.BodyRowBreak w K has s at = row_means B feed Body place.Break w (has-row B _ Body has) s at.0
+table_means B feed its.BodyRowData w K has s at = row_means B feed Body place.Data w (has-row B _ Body has) s at.0
+table_means B feed its.BodyRowEscape w K has s at = row_means B feed Body place.Escape w (has-row B _ Body has) s at.0
+table_means B feed its.BodyRowCellBefore w K has s at =
+    row_means B feed Body place.CellBefore w (has-row B _ Body has) s at.0

@@ -1,0 +1,111 @@
+// Closing what is open, from the inside out.
+
+ghost use Rattle.std.specs.Prelude.{◌≡◌, ◌≤◌, length, take, drop, IfOk};
+ghost use Rattle.std.specs.List.{suffix_len};
+ghost use Rattle.md_meaning.specs.Rest.{is_blank};
+ghost use Rattle.md_meaning.specs.State as state;
+ghost use Rattle.md_grammars.specs.Trees.{meaning, meanings, line_meanings};
+ghost use Rattle.reference_tree.specs.States.{container_meaning, spot_meaning, path_meaning, within};
+
+use crate::leaves::fence_block;
+use crate::paragraph::with_paragraph;
+use crate::state::{Container, Frame, Innermost, Leaf, Path};
+use md_engine::configuration::ParseOptions;
+use md_engine::message::Message;
+use md_grammars::blocks::push_block;
+use md_grammars::bytes::is_blank;
+use md_grammars::tree::{Block, Line};
+use std::alloc::Global;
+
+/// How many blank lines stand at the end.
+fn blank_len(lines: &[Line]) -> usize
+    ensures value { result ≡ suffix_len (λ l. is_blank l.text.now) lines.now }
+    ensures bound { result ≤ length lines.now }
+{
+    lines
+        .iter()
+        .rev()
+        .take_while(|line| is_blank(line.text))
+        .count()
+}
+
+/// Blank lines at the end do not belong to indented code (CommonMark 4.4).
+fn without_trailing_blank<'a>(lines: Vec<Line<'a>>) -> Vec<Line<'a>>
+    ensures { line_meanings result.items ≡ state.without_trailing_blank (line_meanings lines.entry.items) }
+{
+    let mut lines = lines;
+    let count = blank_len(&lines);
+    lines.truncate(lines.len() - count);
+    lines
+}
+
+/// The blocks of the innermost container, with its leaf closed.
+pub fn shut<'a>(
+    alloc: Global,
+    options: &ParseOptions,
+    spot: Innermost<'a>,
+) -> Result<Vec<Block<'a>>, Message>
+    ensures { IfOk result (λ bs. meanings bs.items ≡ state.shut options.now (spot_meaning spot.entry)) }
+{
+    let Innermost { mut here, leaf } = spot;
+    let block = match leaf {
+        Leaf::None => return Ok(here),
+        Leaf::Paragraph(lines) => return with_paragraph(alloc, options, here, lines),
+        Leaf::Code(lines) => Block::Code(without_trailing_blank(lines)),
+        Leaf::Fence(opening, lines) => fence_block(&opening, lines, false),
+        Leaf::Html(_, lines) => Block::Html(lines),
+        Leaf::Table(delimiter, rows) => Block::Table(delimiter, rows),
+    };
+    push_block(&mut here, block)?;
+    Ok(here)
+}
+
+fn container_block<'a>(container: Container<'a>, blocks: Vec<Block<'a>>) -> Block<'a>
+    ensures { meaning result ≡ state.container_block (container_meaning container.entry) (meanings blocks.entry.items) }
+{
+    match container {
+        Container::Quote => Block::Quote(blocks),
+        Container::Item { digits, marker, .. } => Block::Item(marker, digits, blocks),
+        Container::Footnote(label) => Block::Footnote(label, blocks),
+    }
+}
+
+/// Closes the leaf and all containers but so many of the outermost: the containers that are left, and the blocks of the
+/// innermost of these.
+pub fn close_to<'a>(
+    alloc: Global,
+    options: &ParseOptions,
+    path: Path<'a>,
+    count: usize,
+) -> Result<(Vec<Frame<'a>>, Vec<Block<'a>>), Message>
+    ensures outer { IfOk result (λ r. r.0.items ≡ take count path.entry.frames.items) }
+    ensures blocks { IfOk result
+        (λ r.
+        meanings r.1.items ≡
+        state.closed options.now (within (drop count path.entry.frames.items) (state.At
+        (spot_meaning path.entry.spot)))) }
+{
+    let Path { mut frames, spot } = path;
+    let mut here = shut(alloc, options, spot)?;
+    while frames.len() > count {
+        let Some(Frame { before, container }) = frames.pop() else {
+            break;
+        };
+        let inner = here;
+        here = before;
+        push_block(&mut here, container_block(container, inner))?;
+    }
+    Ok((frames, here))
+}
+
+/// Closes everything that is open.
+pub fn closed<'a>(
+    alloc: Global,
+    options: &ParseOptions,
+    path: Path<'a>,
+) -> Result<Vec<Block<'a>>, Message>
+    ensures { IfOk result (λ bs. meanings bs.items ≡ state.closed options.now (path_meaning path.entry)) }
+{
+    let (_, here) = close_to(alloc, options, path, 0)?;
+    Ok(here)
+}

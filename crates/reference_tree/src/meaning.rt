@@ -1,0 +1,133 @@
+// What a text means: its block tree.
+
+ghost use Rattle.std.specs.Prelude.{◌≡◌, ◌^◌, ◌<◌, length, IfOk};
+ghost use Rattle.md_meaning.specs.Grouped as lists;
+ghost use Rattle.md_meaning.specs.Lines.{lines_of};
+ghost use Rattle.md_meaning.specs.Meaning as spec;
+ghost use Rattle.md_meaning.specs.Preamble.{without_mark, first_column, rests_at};
+ghost use Rattle.md_meaning.specs.State as state;
+ghost use Rattle.md_meaning.specs.Step as definition;
+ghost use Rattle.md_meaning.specs.Tree.{End, More};
+ghost use Rattle.md_grammars.specs.Rests.{rest_meanings};
+ghost use Rattle.md_grammars.specs.Trees.{meaning, meanings};
+ghost use Rattle.md_grammars.specs.WholeTrees.{tree_meaning};
+
+use crate::close::closed;
+use crate::grouped::grouped;
+use crate::state::{Innermost, Leaf, Path};
+use crate::step::step;
+use md_engine::configuration::ParseOptions;
+use md_engine::message::Message;
+use md_grammars::lines::rests_of;
+use md_grammars::preamble::{Front, front_of, has_mark};
+use md_grammars::rest::Rest;
+use md_grammars::tree::{Block, Tree};
+use std::alloc::Global;
+
+/// The lines behind a byte order mark, whose bytes are columns of the first.
+fn rests_behind_mark<'a>(alloc: Global, text: &'a [u8]) -> Result<Vec<Rest<'a>>, Message>
+    requires { length text.now < 2 ^ 61 }
+    ensures { IfOk result
+        (λ v. rest_meanings v.items ≡ rests_at (first_column text.now) (lines_of (without_mark text.now))) }
+{
+    if has_mark(text) {
+        rests_of(alloc, 3, text.split_at(3).1)
+    } else {
+        rests_of(alloc, 0, text)
+    }
+}
+
+/// The blocks of a body, not yet grouped.
+fn blocks_of<'a>(
+    alloc: Global,
+    options: &ParseOptions,
+    rests: &[Rest<'a>],
+) -> Result<Vec<Block<'a>>, Message>
+    ensures { IfOk result
+        (λ bs.
+        meanings bs.items ≡
+        state.closed options.now
+        (definition.steps options.now (state.At (definition.spot_of End)) (rest_meanings rests.now))) }
+{
+    let mut path = Path {
+        frames: Vec::new(alloc),
+        spot: Innermost {
+            here: Vec::new(alloc),
+            leaf: Leaf::None,
+        },
+    };
+    for rest in rests {
+        path = step(alloc, options, path, rest)?;
+    }
+    closed(alloc, options, path)
+}
+
+/// The blocks of a body, with lists.
+fn body<'a>(
+    alloc: Global,
+    options: &ParseOptions,
+    rests: &[Rest<'a>],
+) -> Result<Vec<Block<'a>>, Message>
+    ensures { IfOk result
+        (λ bs.
+        meanings bs.items ≡
+        lists.grouped
+        (state.closed options.now
+        (definition.steps options.now (state.At (definition.spot_of End)) (rest_meanings rests.now)))) }
+{
+    grouped(alloc, blocks_of(alloc, options, rests)?)
+}
+
+/// A tree with frontmatter, and the lines behind it.
+fn tree_behind<'a>(
+    alloc: Global,
+    options: &ParseOptions,
+    front: Front<'a, '_>,
+) -> Result<Tree<'a>, Message>
+    ensures { IfOk result
+        (λ t.
+        tree_meaning t ≡
+        More (meaning front.entry.block)
+        (lists.grouped
+        (state.closed options.now
+        (definition.steps options.now (state.At (definition.spot_of End)) (rest_meanings front.entry.after.now))))) }
+{
+    let Front { block, after } = front;
+    let blocks = body(alloc, options, after)?;
+    Ok(Tree {
+        frontmatter: Some(block),
+        blocks,
+    })
+}
+
+/// A tree without frontmatter.
+fn tree_without<'a>(
+    alloc: Global,
+    options: &ParseOptions,
+    rests: &[Rest<'a>],
+) -> Result<Tree<'a>, Message>
+    ensures { IfOk result
+        (λ t.
+        tree_meaning t ≡
+        lists.grouped
+        (state.closed options.now
+        (definition.steps options.now (state.At (definition.spot_of End)) (rest_meanings rests.now)))) }
+{
+    let blocks = body(alloc, options, rests)?;
+    Ok(Tree {
+        frontmatter: None,
+        blocks,
+    })
+}
+
+/// The block tree of a text of fewer than 2^61 bytes.
+pub fn tree<'a>(alloc: Global, text: &'a str, options: &ParseOptions) -> Result<Tree<'a>, Message>
+    requires { length text.now < 2 ^ 61 }
+    ensures { IfOk result (λ t. tree_meaning t ≡ spec.tree options.now text.now) }
+{
+    let rests = rests_behind_mark(alloc, text.as_bytes())?;
+    match front_of(alloc, options, &rests)? {
+        Some(front) => tree_behind(alloc, options, front),
+        None => tree_without(alloc, options, &rests),
+    }
+}

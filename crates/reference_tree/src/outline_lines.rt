@@ -1,0 +1,374 @@
+// The outline of a tree: its lines from the first to the last.
+
+ghost use Rattle.std.specs.Prelude.{◌≡◌, ◌+◌, [], ◌∷◌, ◌++◌, map, IfOk, OnOk};
+ghost use Rattle.std.specs.Option.{option_copied, option_map};
+ghost use Rattle.md_meaning.specs.Outline as spec;
+ghost use Rattle.md_meaning.specs.declared.outline.Word.TheVariants as words;
+ghost use Rattle.md_grammars.specs.Trees.{meaning, meanings, line_meanings, slices};
+ghost use Rattle.md_grammars.specs.WholeTrees.{tree_meaning};
+ghost use Rattle.reference_tree.specs.Outlined.{entry_as};
+ghost use Rattle.md_meaning.specs.Outline.{entries_of};
+
+use md_engine::message::Message;
+use md_grammars::memory;
+use md_grammars::tree::{Block, Line, Tree};
+use md_meaning::outline::{OutlineLine, Word};
+use std::alloc::Global;
+
+/// Adds a line with this text, which is UTF-8 since the tree is cut beside ASCII bytes.
+#[tactic(auto, using(crate::proofs::OutlineLemmas::entries_push))]
+fn push_line<'a>(
+    outline: &mut Vec<OutlineLine<'a>>,
+    depth: usize,
+    word: Word,
+    spaces: usize,
+    bytes: &'a [u8],
+) -> Result<(), Message>
+    ensures { OnOk result
+        (entries_of outline.new.items ≡ entries_of outline.old.items ++ entry_as depth word spaces bytes.now ∷ []) }
+{
+    match str::from_utf8(bytes) {
+        Ok(text) => memory::push(
+            outline,
+            OutlineLine {
+                depth,
+                word,
+                spaces,
+                text,
+            },
+        ),
+        Err(_) => Err(Message),
+    }
+}
+
+/// One deeper. A depth that is no `usize` is one that no memory holds.
+fn deeper(depth: usize) -> Result<usize, Message>
+    ensures { IfOk result (λ n. n ≡ depth + 1) }
+{
+    match depth.checked_add(1) {
+        Some(inner) => Ok(inner),
+        None => Err(Message),
+    }
+}
+
+/// Adds a word without text.
+#[tactic(auto, using(crate::proofs::OutlineLemmas::entries_push))]
+fn push_word<'a>(
+    outline: &mut Vec<OutlineLine<'a>>,
+    depth: usize,
+    word: Word,
+) -> Result<(), Message>
+    ensures { OnOk result (entries_of outline.new.items ≡ entries_of outline.old.items ++ spec.entry depth word ∷ []) }
+{
+    memory::push(
+        outline,
+        OutlineLine {
+            depth,
+            word,
+            spaces: 0,
+            text: "",
+        },
+    )
+}
+
+/// Adds a line for each text.
+fn push_texts<'a>(
+    outline: &mut Vec<OutlineLine<'a>>,
+    depth: usize,
+    word: Word,
+    texts: &[&'a [u8]],
+) -> Result<(), Message>
+    ensures { OnOk result
+        (entries_of outline.new.items ≡ entries_of outline.old.items ++ spec.entries depth word (slices texts.now)) }
+{
+    for text in texts {
+        push_line(outline, depth, word, 0, text)?;
+    }
+    Ok(())
+}
+
+/// Adds a line for each line, with its spaces.
+fn push_lines<'a>(
+    outline: &mut Vec<OutlineLine<'a>>,
+    depth: usize,
+    lines: &[Line<'a>],
+) -> Result<(), Message>
+    ensures { OnOk result
+        (entries_of outline.new.items ≡
+        entries_of outline.old.items ++ spec.line_entries depth (line_meanings lines.now)) }
+{
+    for line in lines {
+        push_line(outline, depth, Word::Line, line.spaces, line.text)?;
+    }
+    Ok(())
+}
+
+/// Adds a line for a text, if there is one.
+fn push_part<'a>(
+    outline: &mut Vec<OutlineLine<'a>>,
+    depth: usize,
+    word: Word,
+    part: Option<&'a [u8]>,
+) -> Result<(), Message>
+    ensures { OnOk result
+        (entries_of outline.new.items ≡
+        entries_of outline.old.items ++ spec.part_entry depth word (option_copied part.entry)) }
+{
+    match part {
+        Some(text) => push_line(outline, depth, word, 0, text),
+        None => Ok(()),
+    }
+}
+
+/// Adds the lines of a title, if there is one.
+fn push_title<'a>(
+    outline: &mut Vec<OutlineLine<'a>>,
+    depth: usize,
+    title: &Option<Vec<&'a [u8]>>,
+) -> Result<(), Message>
+    ensures { OnOk result
+        (entries_of outline.new.items ≡
+        entries_of outline.old.items ++ spec.title_entries depth (option_map (λ v. slices v.items) title.now)) }
+{
+    match title {
+        Some(lines) => push_texts(outline, depth, Word::Title, lines),
+        None => Ok(()),
+    }
+}
+
+/// Adds a row and its cells.
+fn push_row<'a>(
+    outline: &mut Vec<OutlineLine<'a>>,
+    depth: usize,
+    cells: &[&'a [u8]],
+) -> Result<(), Message>
+    ensures { OnOk result
+        (entries_of outline.new.items ≡ entries_of outline.old.items ++ spec.row_entries depth (slices cells.now)) }
+{
+    let inner = deeper(depth)?;
+    push_word(outline, depth, Word::Row)?;
+    push_texts(outline, inner, Word::Cell, cells)
+}
+
+/// Adds rows.
+fn push_rows<'a>(
+    outline: &mut Vec<OutlineLine<'a>>,
+    depth: usize,
+    rows: &[Vec<&'a [u8]>],
+) -> Result<(), Message>
+    ensures { OnOk result
+        (entries_of outline.new.items ≡
+        entries_of outline.old.items ++ spec.rows_entries depth (map (λ row. slices row.items) rows.now)) }
+{
+    for row in rows {
+        push_row(outline, depth, row)?;
+    }
+    Ok(())
+}
+
+/// Adds the head of a table, the delimiter row, and the other rows.
+fn push_table<'a>(
+    outline: &mut Vec<OutlineLine<'a>>,
+    depth: usize,
+    delimiter: &'a [u8],
+    rows: &[Vec<&'a [u8]>],
+) -> Result<(), Message>
+    ensures { OnOk result
+        (entries_of outline.new.items ≡
+        entries_of outline.old.items
+        ++ spec.table_entries depth delimiter.now (map (λ row. slices row.items) rows.now)) }
+{
+    let inner = deeper(depth)?;
+    let Some((head, others)) = rows.split_first() else {
+        push_word(outline, depth, Word::Table(0))?;
+        return push_line(outline, inner, Word::Delimiter, 0, delimiter);
+    };
+    push_word(outline, depth, Word::Table(head.len()))?;
+    push_row(outline, inner, head)?;
+    push_line(outline, inner, Word::Delimiter, 0, delimiter)?;
+    push_rows(outline, inner, others)
+}
+
+/// Adds a block that holds texts.
+fn push_lined<'a>(
+    outline: &mut Vec<OutlineLine<'a>>,
+    depth: usize,
+    word: Word,
+    lines: &[&'a [u8]],
+) -> Result<(), Message>
+    ensures { OnOk result
+        (entries_of outline.new.items ≡
+        entries_of outline.old.items
+        ++ spec.entry depth word ∷ spec.entries (depth + 1) words.Line (slices lines.now)) }
+{
+    let inner = deeper(depth)?;
+    push_word(outline, depth, word)?;
+    push_texts(outline, inner, Word::Line, lines)
+}
+
+/// Adds a block that holds lines with spaces: code or HTML.
+fn push_spaced<'a>(
+    outline: &mut Vec<OutlineLine<'a>>,
+    depth: usize,
+    word: Word,
+    lines: &[Line<'a>],
+) -> Result<(), Message>
+    ensures { OnOk result
+        (entries_of outline.new.items ≡
+        entries_of outline.old.items
+        ++ spec.entry depth word ∷ spec.line_entries (depth + 1) (line_meanings lines.now)) }
+{
+    let inner = deeper(depth)?;
+    push_word(outline, depth, word)?;
+    push_lines(outline, inner, lines)
+}
+
+/// Adds fenced code or math: info and meta, where they are, and the lines.
+fn push_fenced<'a>(
+    outline: &mut Vec<OutlineLine<'a>>,
+    depth: usize,
+    word: Word,
+    info: Option<&'a [u8]>,
+    meta: Option<&'a [u8]>,
+    lines: &[Line<'a>],
+) -> Result<(), Message>
+    ensures { OnOk result
+        (entries_of outline.new.items ≡
+        entries_of outline.old.items ++ spec.entry depth word
+        ∷ (spec.part_entry (depth + 1) words.Info (option_copied info.entry)
+        ++ spec.part_entry (depth + 1) words.Meta (option_copied meta.entry)
+        ++ spec.line_entries (depth + 1) (line_meanings lines.now))) }
+{
+    let inner = deeper(depth)?;
+    push_word(outline, depth, word)?;
+    push_part(outline, inner, Word::Info, info)?;
+    push_part(outline, inner, Word::Meta, meta)?;
+    push_lines(outline, inner, lines)
+}
+
+/// Adds a definition: its label, its destination, and its title.
+fn push_definition<'a>(
+    outline: &mut Vec<OutlineLine<'a>>,
+    depth: usize,
+    label: &[&'a [u8]],
+    destination: &'a [u8],
+    title: &Option<Vec<&'a [u8]>>,
+) -> Result<(), Message>
+    ensures { OnOk result
+        (entries_of outline.new.items ≡
+        entries_of outline.old.items ++ spec.entry depth words.Definition
+        ∷ (spec.entries (depth + 1) words.Label (slices label.now)
+        ++ spec.entry_with (depth + 1) words.Destination destination.now
+        ∷ spec.title_entries (depth + 1) (option_map (λ v. slices v.items) title.now))) }
+{
+    let inner = deeper(depth)?;
+    push_word(outline, depth, Word::Definition)?;
+    push_texts(outline, inner, Word::Label, label)?;
+    push_line(outline, inner, Word::Destination, 0, destination)?;
+    push_title(outline, inner, title)
+}
+
+/// Adds the lines of a block at this depth.
+#[cycle(outlining)]
+fn push_block<'a>(
+    outline: &mut Vec<OutlineLine<'a>>,
+    depth: usize,
+    block: &Block<'a>,
+) -> Result<(), Message>
+    ensures { OnOk result
+        (entries_of outline.new.items ≡ entries_of outline.old.items ++ spec.block_entries depth (meaning block.now)) }
+{
+    match block {
+        Block::Frontmatter(marker, lines) => {
+            push_lined(outline, depth, Word::Frontmatter(*marker), lines)
+        }
+        Block::Quote(blocks) => push_holder(outline, depth, Word::Quote, blocks),
+        Block::ListOf(marker, items) => push_holder(outline, depth, Word::List(*marker), items),
+        Block::Item(_, _, blocks) => push_holder(outline, depth, Word::Item, blocks),
+        Block::Footnote(label, blocks) => push_footnote(outline, depth, label, blocks),
+        Block::Heading(level, lines) => push_lined(outline, depth, Word::Heading(*level), lines),
+        Block::Break => push_word(outline, depth, Word::Break),
+        Block::Code(lines) => push_spaced(outline, depth, Word::Code, lines),
+        Block::Html(lines) => push_spaced(outline, depth, Word::Html, lines),
+        Block::Fence(marker, info, meta, lines, closed) => {
+            let word = Word::Fence {
+                marker: *marker,
+                closed: *closed,
+            };
+            push_fenced(outline, depth, word, *info, *meta, lines)
+        }
+        Block::Math(meta, lines, closed) => {
+            let word = Word::Math { closed: *closed };
+            push_fenced(outline, depth, word, None, *meta, lines)
+        }
+        Block::Definition(label, destination, title) => {
+            push_definition(outline, depth, label, destination, title)
+        }
+        Block::Paragraph(lines) => push_lined(outline, depth, Word::Paragraph, lines),
+        Block::Table(delimiter, rows) => push_table(outline, depth, delimiter, rows),
+    }
+}
+
+/// Adds a footnote definition: its label, and its blocks.
+#[cycle(outlining)]
+fn push_footnote<'a>(
+    outline: &mut Vec<OutlineLine<'a>>,
+    depth: usize,
+    label: &'a [u8],
+    blocks: &[Block<'a>],
+) -> Result<(), Message>
+    ensures { OnOk result
+        (entries_of outline.new.items ≡
+        entries_of outline.old.items ++ spec.entry depth words.Footnote
+        ∷ spec.entry_with (depth + 1) words.Label label.now ∷ spec.outline (depth + 1) (meanings blocks.now)) }
+{
+    let inner = deeper(depth)?;
+    push_word(outline, depth, Word::Footnote)?;
+    push_line(outline, inner, Word::Label, 0, label)?;
+    push_blocks(outline, inner, blocks)
+}
+
+/// Adds a block that holds blocks.
+#[cycle(outlining)]
+fn push_holder<'a>(
+    outline: &mut Vec<OutlineLine<'a>>,
+    depth: usize,
+    word: Word,
+    blocks: &[Block<'a>],
+) -> Result<(), Message>
+    ensures { OnOk result
+        (entries_of outline.new.items ≡
+        entries_of outline.old.items ++ spec.entry depth word ∷ spec.outline (depth + 1) (meanings blocks.now)) }
+{
+    let inner = deeper(depth)?;
+    push_word(outline, depth, word)?;
+    push_blocks(outline, inner, blocks)
+}
+
+/// Adds the lines of blocks at this depth.
+#[cycle(outlining)]
+fn push_blocks<'a>(
+    outline: &mut Vec<OutlineLine<'a>>,
+    depth: usize,
+    blocks: &[Block<'a>],
+) -> Result<(), Message>
+    ensures { OnOk result
+        (entries_of outline.new.items ≡ entries_of outline.old.items ++ spec.outline depth (meanings blocks.now)) }
+{
+    for block in blocks {
+        push_block(outline, depth, block)?;
+    }
+    Ok(())
+}
+
+/// The lines of the outline of a tree.
+pub fn outline<'a>(alloc: Global, tree: &Tree<'a>) -> Result<Vec<OutlineLine<'a>>, Message>
+    ensures { IfOk result (λ lines. entries_of lines.items ≡ spec.outline 0 (tree_meaning tree.now)) }
+{
+    let mut outline = Vec::new(alloc);
+    if let Some(block) = &tree.frontmatter {
+        push_block(&mut outline, 0, block)?;
+    }
+    push_blocks(&mut outline, 0, &tree.blocks)?;
+    Ok(outline)
+}

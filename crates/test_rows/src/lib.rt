@@ -1,0 +1,56 @@
+// Rows that a body of the parser is tried on: texts with the outlines that they must give.
+//
+// The rows of a module are one text, so that a check takes them as data. Rows stand apart by an empty line. A row is:
+//
+//     SECTION | SET | NEEDED
+//     "TEXT"
+//     OUTLINE
+//
+// SECTION is where the standard says it. SET is `commonmark`, `gfm` or `all`, as for the program, or `exactly` and the
+// names of the constructs that are on, if any. NEEDED, which may be left out, names the constructs that the row is
+// about, or says `nothing`: the others of the set may be off and the outline stays the same. Without it all constructs
+// of the set are needed. The text and the outline are written with the escapes of Rust's strings. OUTLINE is what the
+// program prints, without the empty line before the labels; where it has no labels, the two lines `definitions 0` and
+// `footnotes 0` are left out.
+#![tactic(auto)]
+
+pub mod breaks;
+pub mod case;
+pub mod code;
+pub mod constructs;
+pub mod definition_parts;
+pub mod definitions;
+pub mod extensions;
+pub mod headings;
+pub mod html;
+pub mod html_tags;
+pub mod items;
+pub mod lines;
+pub mod lists;
+pub mod quotes;
+pub mod table_parts;
+pub mod tables;
+pub mod underlines;
+pub mod wrap;
+pub mod wraps;
+
+/// The rows of all modules.
+pub fn all() -> [&'static str; 15] {
+    [
+        lines::rows(),
+        breaks::rows(),
+        headings::rows(),
+        underlines::rows(),
+        code::rows(),
+        html::rows(),
+        html_tags::rows(),
+        definitions::rows(),
+        definition_parts::rows(),
+        quotes::rows(),
+        items::rows(),
+        lists::rows(),
+        tables::rows(),
+        table_parts::rows(),
+        extensions::rows(),
+    ]
+}

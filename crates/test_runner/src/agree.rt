@@ -1,0 +1,112 @@
+// Tries whether two bodies give the same: on a text, and on all short texts.
+
+use crate::report::Report;
+use crate::rows::{built_of, printed};
+use crate::texts::numbered;
+use md_engine::configuration::Constructs;
+use md_program::body::Body;
+use std::alloc::Global;
+use test_rows::case::CaseError;
+
+/// Letters that begin quotes, headings and breaks, or lines.
+const LEAVES: [&str; 6] = ["a", ">", "#", "*", " ", "\n"];
+
+/// Letters that begin items, quotes and breaks, or lines.
+const ITEMS: [&str; 7] = ["a", "-", "1", ".", ">", " ", "\n"];
+
+/// Letters that indent code and items, and cut tabs, those that begin what code stands in, and lines.
+const CODE: [&str; 7] = ["a", "    ", "  ", "\t", ">", "-", "\n"];
+
+/// Letters that begin and end fences, those that begin what they stand in, and lines.
+const FENCES: [&str; 7] = ["a", "```", "~~~", ">", "-", " ", "\n"];
+
+/// Letters of which fences of several sizes are made, in quotes too, with whitespace that a fence may cut.
+const SIZES: [&str; 6] = ["```", "`", "a", ">", "\t", "\n"];
+
+/// Letters that begin and end math, alone and in quotes.
+const MATH: [&str; 6] = ["a", "$$", "$", ">", " ", "\n"];
+
+/// Letters of which underlines, items and breaks are made, text that they may stand behind, quotes, and lines.
+const UNDERLINES: [&str; 6] = ["a", "=", "-", ">", " ", "\n"];
+
+/// Letters of which definitions and underlines are made, quotes, and lines.
+const DEFINITIONS: [&str; 7] = ["[", "]", ":", "a", "=", "\n", ">"];
+
+/// Letters of which rows and delimiter rows are made, quotes, and lines.
+const TABLES: [&str; 7] = ["a", "|", "-", ":", ">", " ", "\n"];
+
+/// Letters that stand behind a label: marks of destinations and titles, whitespace, and lines.
+const PARTS: [&str; 9] = ["[a]:", "\"", "\\", "(", ")", "<", ">", " ", "\n"];
+
+/// Letters of which tags and comments are made, and lines.
+const HTML: [&str; 8] = ["<", "/", "a", "!", "-", ">", " ", "\n"];
+
+/// Begins and ends of the kinds of HTML and parts of a tag, quotes, and lines.
+const KINDS: [&str; 13] = [
+    "<pre>",
+    "</pre>",
+    "<!--",
+    "-->",
+    "<?",
+    "?>",
+    "<![CDATA[",
+    "]]>",
+    "<div",
+    "<a ",
+    "b=\"",
+    "> ",
+    "\n",
+];
+
+/// Tries two bodies on all texts of at most so many letters of each alphabet, with all constructs of the first. The texts
+/// of the last three alphabets, of which there are many, are one letter shorter, and those of the last one are two.
+pub fn try_agree<A: Body, B: Body>(
+    alloc: Global,
+    most: usize,
+    report: &mut Report,
+) -> Result<(), CaseError> {
+    try_letters::<A, B>(alloc, &LEAVES, most, report)?;
+    try_letters::<A, B>(alloc, &ITEMS, most, report)?;
+    try_letters::<A, B>(alloc, &CODE, most, report)?;
+    try_letters::<A, B>(alloc, &FENCES, most, report)?;
+    try_letters::<A, B>(alloc, &SIZES, most, report)?;
+    try_letters::<A, B>(alloc, &MATH, most, report)?;
+    try_letters::<A, B>(alloc, &UNDERLINES, most, report)?;
+    try_letters::<A, B>(alloc, &DEFINITIONS, most, report)?;
+    try_letters::<A, B>(alloc, &TABLES, most, report)?;
+    try_letters::<A, B>(alloc, &HTML, most.saturating_sub(1), report)?;
+    try_letters::<A, B>(alloc, &PARTS, most.saturating_sub(1), report)?;
+    try_letters::<A, B>(alloc, &KINDS, most.saturating_sub(2), report)
+}
+
+/// Tries two bodies on all texts of at most so many of these letters, with all constructs of the first.
+pub fn try_letters<A: Body, B: Body>(
+    alloc: Global,
+    letters: &[&str],
+    most: usize,
+    report: &mut Report,
+) -> Result<(), CaseError> {
+    let constructs = built_of::<A>(&Constructs::ALL);
+    let mut count: usize = 1;
+    for length in 0..=most {
+        for number in 0..count {
+            let text = numbered(alloc, letters, length, number)?;
+            try_text::<A, B>(alloc, text.as_str(), &constructs, report)?;
+        }
+        count = count.wrapping_mul(letters.len());
+    }
+    Ok(())
+}
+
+/// Tries whether two bodies print the same for a text.
+pub fn try_text<A: Body, B: Body>(
+    alloc: Global,
+    text: &str,
+    constructs: &Constructs,
+    report: &mut Report,
+) -> Result<(), CaseError> {
+    let got = printed::<A>(alloc, text, constructs)?;
+    let wanted = printed::<B>(alloc, text, constructs)?;
+    report.add("two bodies", text, wanted.as_str(), got.as_str())?;
+    Ok(())
+}

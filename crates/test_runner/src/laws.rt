@@ -1,0 +1,69 @@
+// Tries the laws of nesting: a text that is quoted, or indented as an item, has the same outline one container deeper,
+// and the same labels.
+
+use crate::report::Report;
+use crate::rows::printed;
+use crate::wraps::{itemised, quoted};
+use md_engine::configuration::Constructs;
+use md_program::body::Body;
+use std::alloc::{AllocError, Global};
+use test_rows::case::CaseError;
+
+/// Whether the laws speak of a text: it is not empty and has neither a tab nor a byte order mark at its start.
+fn is_plain(text: &str) -> bool {
+    !text.is_empty() && !text.starts_with('\u{feff}') && !text.contains('\t')
+}
+
+/// Whether the list law speaks of a plain text: its first line is not empty and does not begin with a space.
+fn begins_with_text(text: &str) -> bool {
+    !text.starts_with(' ') && !text.starts_with('\n') && !text.starts_with('\r')
+}
+
+/// What is printed for a text, with the outline below the lines `heads`.
+fn below(alloc: Global, output: &str, heads: &str, indent: &str) -> Result<String, AllocError> {
+    let mut deeper = String::from_str(alloc, heads)?;
+    let mut in_outline = true;
+    for line in output.lines() {
+        in_outline = in_outline && !line.is_empty();
+        if in_outline {
+            deeper.push_str(indent)?;
+        }
+        deeper.push_str(line)?;
+        deeper.push('\n')?;
+    }
+    Ok(deeper)
+}
+
+/// Tries both laws on a text with constructs that the body has, as far as they speak of it: not of frontmatter either.
+pub fn try_laws<B: Body>(
+    alloc: Global,
+    text: &str,
+    constructs: &Constructs,
+    report: &mut Report,
+) -> Result<(), CaseError> {
+    if !is_plain(text) {
+        return Ok(());
+    }
+    let output = printed::<B>(alloc, text, constructs)?;
+    if output.as_str().starts_with("frontmatter ") {
+        return Ok(());
+    }
+    if constructs.block_quote {
+        let quote = quoted(alloc, text)?;
+        let got = printed::<B>(alloc, quote.as_str(), constructs)?;
+        let wanted = below(alloc, output.as_str(), "quote\n", "  ")?;
+        report.add(
+            "the quote law",
+            quote.as_str(),
+            wanted.as_str(),
+            got.as_str(),
+        )?;
+    }
+    if constructs.list_item && begins_with_text(text) {
+        let item = itemised(alloc, text)?;
+        let got = printed::<B>(alloc, item.as_str(), constructs)?;
+        let wanted = below(alloc, output.as_str(), "list +\n  item\n", "    ")?;
+        report.add("the list law", item.as_str(), wanted.as_str(), got.as_str())?;
+    }
+    Ok(())
+}

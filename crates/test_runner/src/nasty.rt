@@ -1,0 +1,123 @@
+// Tries whether two bodies give the same where constructs meet: on all texts of a few letters and fragments that belong to as many
+// constructs as they can, and on long random texts of the fragments. What a task is, by its arguments:
+//
+//     letters MOST         all texts of at most so many letters
+//     fragments MOST       all texts of at most so many fragments
+//     random SEED COUNT    so many random texts of fragments, each with a random set of constructs
+
+use crate::agree::{try_letters, try_text};
+use crate::report::Report;
+use crate::rows::built_of;
+use crate::sets::{FEW, HALF, without_some};
+use crate::texts::random;
+use md_program::body::Body;
+use rand_pcg::Pcg32;
+use std::alloc::Global;
+use test_rows::case::CaseError;
+
+/// Twelve letters.
+const LETTERS: [&str; 12] = [
+    // Text, in whatever is open: a paragraph, a cell, a label's destination, code, frontmatter.
+    "a",
+    // An item, an underline, a delimiter row.
+    "-",
+    // Frontmatter as the first line, further down a break, an underline or a delimiter row.
+    "---",
+    // Frontmatter as the first line, which `---` does not close, and text further down.
+    "+++",
+    // A cell.
+    "|",
+    // A quote, also between the lines of what stands in one.
+    ">",
+    // A footnote definition.
+    "[^a]:",
+    // A label: the word behind it is its destination, and an ending may stand between both.
+    "[a]:",
+    // A fence, which takes all of the others as text, and which ends with its container.
+    "```",
+    // Four columns or fewer: indented code, what a container asks for, or white space, and a container may cut it.
+    "\t",
+    // Endings: two in this order, and one in the other.
+    "\n", "\r",
+];
+
+/// Forty fragments, of all constructs.
+const FRAGMENTS: [&str; 40] = [
+    "a", " ", "  ", "    ", "\t", "\n", "\r", "\n\n", "\u{feff}", "\\", "> ", ">", "- ", "-\n",
+    "1. ", "10) ", "[^a]: ", "[^b]:\n", "# ", " #\n", "=\n", "---\n", "---", "+++\n", "***\n",
+    "```\n", "~~~ a\n", "$$\n", "<div>\n", "<a>\n", "<!--", "-->\n", "[a]: ", "[b]: c\n",
+    "\"t\"\n", "'", "|", "a|b\n", "-|-\n", ":-\n",
+];
+
+/// The most fragments of a random text.
+const MOST_FRAGMENTS: u32 = 24;
+
+/// Texts on which two bodies are tried.
+#[derive(Clone, Copy, Debug, PartialEq, Eq)]
+pub enum Nasty {
+    Letters { most: usize },
+    Fragments { most: usize },
+    Random { seed: u64, count: u64 },
+}
+
+impl Nasty {
+    /// What is tried where no argument says it.
+    pub const ALL: [Nasty; 3] = [
+        Nasty::Letters { most: 5 },
+        Nasty::Fragments { most: 3 },
+        Nasty::Random {
+            seed: 1,
+            count: 50_000,
+        },
+    ];
+
+    /// What these arguments name, or `None` where they name nothing.
+    pub fn asked_for(args: &[String]) -> Option<Nasty> {
+        match args {
+            [word, most] if word.as_str() == "letters" => {
+                let most = most.as_str().parse().ok()?;
+                Some(Nasty::Letters { most })
+            }
+            [word, most] if word.as_str() == "fragments" => {
+                let most = most.as_str().parse().ok()?;
+                Some(Nasty::Fragments { most })
+            }
+            [word, seed, count] if word.as_str() == "random" => {
+                let seed = seed.as_str().parse().ok()?;
+                let count = count.as_str().parse().ok()?;
+                Some(Nasty::Random { seed, count })
+            }
+            _ => None,
+        }
+    }
+
+    /// Tries two bodies on these texts.
+    pub fn perform<A: Body, B: Body>(
+        self,
+        alloc: Global,
+        report: &mut Report,
+    ) -> Result<(), CaseError> {
+        match self {
+            Nasty::Letters { most } => try_letters::<A, B>(alloc, &LETTERS, most, report),
+            Nasty::Fragments { most } => try_letters::<A, B>(alloc, &FRAGMENTS, most, report),
+            Nasty::Random { seed, count } => try_long::<A, B>(alloc, seed, count, report),
+        }
+    }
+}
+
+/// Tries two bodies on so many random texts of fragments, in turn with about half of the constructs and with most of them.
+fn try_long<A: Body, B: Body>(
+    alloc: Global,
+    seed: u64,
+    count: u64,
+    report: &mut Report,
+) -> Result<(), CaseError> {
+    let mut source = Pcg32::new(seed, 0);
+    for number in 0..count {
+        let text = random(alloc, &mut source, &FRAGMENTS, MOST_FRAGMENTS)?;
+        let bits = if number % 2 == 0 { HALF } else { FEW };
+        let constructs = built_of::<A>(&without_some(&mut source, bits));
+        try_text::<A, B>(alloc, text.as_str(), &constructs, report)?;
+    }
+    Ok(())
+}

@@ -1,0 +1,80 @@
+// Looks for texts that break the laws of nesting: begins of the rows' texts, all short texts, and random longer ones.
+
+use crate::laws::try_laws;
+use crate::report::Report;
+use crate::rows::built_of;
+use crate::sets::{FEW, without_some};
+use crate::texts::{numbered, random};
+use md_engine::configuration::Constructs;
+use md_program::body::Body;
+use rand_pcg::Pcg32;
+use std::alloc::Global;
+use test_rows::case::{Case, CaseError};
+
+/// Letters of short texts: most of them begin something.
+const LETTERS: [&str; 20] = [
+    "a", " ", "\n", ">", "-", "+", "*", "#", "=", "`", "~", "<", "|", ":", "[", "]", "1", ".",
+    "\\", "^",
+];
+
+/// Pieces of random texts.
+const PIECES: [&str; 40] = [
+    "a", "b", " ", "  ", "    ", "\n", "\n", "\n", "\n\n", "\r", "\r\n", "> ", ">", "- ", "-",
+    "+ ", "* ", "1. ", "12) ", "# ", " #", "=\n", "---\n", "***\n", "```", "~~~", "$$", "<!--",
+    "-->", "<div>", "<x>\n", "[a]: ", "[^a]: ", "]", "'", "|", "-|-\n", ":-\n", "\\", "(",
+];
+
+/// The most pieces of a random text.
+const MOST_PIECES: u32 = 24;
+
+/// Tries the laws on all texts of so many of the letters, with all constructs of the body.
+pub fn try_short<B: Body>(
+    alloc: Global,
+    length: usize,
+    report: &mut Report,
+) -> Result<(), CaseError> {
+    let constructs = built_of::<B>(&Constructs::ALL);
+    let mut count: usize = 1;
+    for _ in 0..length {
+        count = count.wrapping_mul(LETTERS.len());
+    }
+    for number in 0..count {
+        let text = numbered(alloc, &LETTERS, length, number)?;
+        try_laws::<B>(alloc, text.as_str(), &constructs, report)?;
+    }
+    Ok(())
+}
+
+/// Tries the laws on the texts of rows, each cut behind each of its characters, with all constructs of the body.
+pub fn try_begins<B: Body>(
+    alloc: Global,
+    rows: &str,
+    report: &mut Report,
+) -> Result<(), CaseError> {
+    let constructs = built_of::<B>(&Constructs::ALL);
+    for row in rows.split("\n\n") {
+        let case = Case::read(alloc, row)?;
+        let mut begin = String::new(alloc);
+        for c in case.text.as_str().chars() {
+            begin.push(c)?;
+            try_laws::<B>(alloc, begin.as_str(), &constructs, report)?;
+        }
+    }
+    Ok(())
+}
+
+/// Tries the laws on so many random texts, each with random constructs of the body.
+pub fn try_random<B: Body>(
+    alloc: Global,
+    seed: u64,
+    count: u64,
+    report: &mut Report,
+) -> Result<(), CaseError> {
+    let mut source = Pcg32::new(seed, 0);
+    for _ in 0..count {
+        let text = random(alloc, &mut source, &PIECES, MOST_PIECES)?;
+        let constructs = built_of::<B>(&without_some(&mut source, FEW));
+        try_laws::<B>(alloc, text.as_str(), &constructs, report)?;
+    }
+    Ok(())
+}

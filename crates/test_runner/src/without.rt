@@ -1,0 +1,69 @@
+// Tries each construct switched off: it must not occur in an outline.
+
+use crate::report::Report;
+use crate::rows::options_of;
+use md_engine::configuration::Constructs;
+use md_meaning::outline::Word;
+use md_program::body::{Body, MOST};
+use std::alloc::Global;
+use test_rows::case::{Case, CaseError};
+use test_rows::constructs::{NAMES, switch};
+
+/// Whether only the construct of this name makes a word. Headings of depth 1 and 2 come from two constructs.
+fn is_of(word: Word, name: &str) -> bool {
+    match word {
+        Word::Frontmatter(_) => name == "frontmatter",
+        Word::Heading(depth) => depth > 2 && name == "heading_atx",
+        Word::Break => name == "thematic_break",
+        Word::Code => name == "code_indented",
+        Word::Fence { .. } => name == "code_fenced",
+        Word::Math { .. } => name == "math_flow",
+        Word::Html => name == "html_flow",
+        Word::Definition => name == "definition",
+        Word::Table(_) => name == "gfm_table",
+        Word::Quote => name == "block_quote",
+        Word::List(_) => name == "list_item",
+        Word::Footnote => name == "gfm_footnote_definition",
+        _ => false,
+    }
+}
+
+/// Whether the construct of this name occurs in the outline of a text.
+fn occurs<B: Body>(
+    alloc: Global,
+    text: &str,
+    constructs: &Constructs,
+    name: &str,
+) -> Result<bool, CaseError> {
+    if text.len() > MOST {
+        return Err(CaseError::Form);
+    }
+    let options = B::built(options_of(constructs));
+    match B::outlined(alloc, text, &options) {
+        Ok(outlined) => Ok(outlined.lines.iter().any(|line| is_of(line.word, name))),
+        Err(_) => Err(CaseError::Memory),
+    }
+}
+
+/// Tries the texts of rows with all constructs but one, for each of them.
+pub fn try_without<B: Body>(
+    alloc: Global,
+    rows: &str,
+    report: &mut Report,
+) -> Result<(), CaseError> {
+    for row in rows.split("\n\n") {
+        let case = Case::read(alloc, row)?;
+        for name in NAMES {
+            let mut constructs = Constructs::ALL;
+            let _ = switch(&mut constructs, name, false);
+            let there = occurs::<B>(alloc, case.text.as_str(), &constructs, name)?;
+            report.add(
+                name,
+                case.text.as_str(),
+                "is off",
+                if there { "occurs" } else { "is off" },
+            )?;
+        }
+    }
+    Ok(())
+}
