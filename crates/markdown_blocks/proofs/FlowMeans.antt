@@ -30,7 +30,8 @@ use Rattle.md_engine.specs.Scheme.{after_all, position, stands}
 use Rattle.md_engine.specs.Standing.{MeansAt, StandsOn}
 use Rattle.md_engine.specs.declared.tokenizer.container.name.ContainerKind.{ContainerKind}
 use Rattle.md_engine.specs.World.{Flags, Setting, World, after, closed, container_of, looks}
-use Rattle.md_engine.proofs.StepOf.{Sees, ahead, begins_only, changes, outermost-frames, passes, sees, steps-as}
+use Rattle.md_engine.specs.Sees.{Sees, ahead}
+use Rattle.md_engine.proofs.StepOf.{begins_only, changes, outermost-frames, passes, sees, steps-as}
 use Rattle.md_content.specs.ChunkRule.{chunk_at}
 use Rattle.md_content.proofs.ContentMeaning.{chunk_means}
 use Rattle.md_leaves.specs.Blank as blank

@@ -19,7 +19,8 @@ use Rattle.md_engine.specs.Meaning.{Accepts, Behaviour, Cell, Fails, Feed, Here,
 use Rattle.md_engine.specs.Meaning.{restored}
 use Rattle.md_engine.specs.Meaning.{resume}
 use Rattle.md_engine.specs.World.{World, after}
-use Rattle.md_engine.proofs.StepOf.{Sees, ahead, begins, begins_only, cell_here, moves, passes}
+use Rattle.md_engine.specs.Sees.{Sees, ahead, cell_here}
+use Rattle.md_engine.proofs.StepOf.{begins, begins_only, moves, passes}
 use Rattle.md_code.specs.Code.{begun_code, blank_noted, code_transition, further_after_code, further_begin_code}
 use Rattle.md_code.specs.Code.{further_inside_code, inside_blank_code, inside_code}
 use Rattle.md_code.specs.CodeRule.{HasCode, at_break, behind_columns, blank_ends, code_ends, further_after}

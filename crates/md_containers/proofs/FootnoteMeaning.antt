@@ -15,7 +15,8 @@ use Rattle.md_engine.specs.declared.tokenizer.Frame.{Frame}
 use Rattle.md_engine.specs.Meaning.{Behaviour, Cell, Feed, Here, Refuses, Steps, here}
 use Rattle.md_engine.specs.Scheme.{After, position}
 use Rattle.md_engine.specs.World.{World, after}
-use Rattle.md_engine.proofs.StepOf.{Sees, ahead, begins_only, cell_here, moves, passes}
+use Rattle.md_engine.specs.Sees.{Sees, ahead, cell_here}
+use Rattle.md_engine.proofs.StepOf.{begins_only, moves, passes}
 use Rattle.md_containers.specs.Footnote.{breaks_label, closed_code, footnote_ready, footnote_transition}
 use Rattle.md_containers.specs.Footnote.{label_after_code, label_at_marker_code, label_before_code, label_escape_code}
 use Rattle.md_containers.specs.Footnote.{label_inside_code, label_link, marker_after_code, most, refused, sees_mark}

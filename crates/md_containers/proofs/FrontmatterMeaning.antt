@@ -16,7 +16,8 @@ use Rattle.md_engine.specs.declared.tokenizer.Scratch.{Scratch}
 use Rattle.md_engine.specs.Meaning.{Accepts, Behaviour, Cell, Fails, Feed, Here, Outcome, Refuses, Steps, here}
 use Rattle.md_engine.specs.Meaning.{resume}
 use Rattle.md_engine.specs.World.{Flags, World, after}
-use Rattle.md_engine.proofs.StepOf.{Sees, ahead, begins, cell_here, moves, passes}
+use Rattle.md_engine.specs.Sees.{Sees, ahead, cell_here}
+use Rattle.md_engine.proofs.StepOf.{begins, moves, passes}
 use Rattle.md_leaves.specs.Heading.{without_size}
 use Rattle.md_leaves.proofs.LeafSteps.{sees-one, white_frame}
 use Rattle.md_code.specs.FenceRule.{behind_white_of, is_end, run_end, run_rest, run_size, with_event}

@@ -20,7 +20,8 @@ use Rattle.md_engine.specs.declared.tokenizer.Scratch.{Scratch}
 use Rattle.md_engine.specs.Meaning.{Behaviour, Cell, Feed, Here, Refuses, Steps, goes, here, resume}
 use Rattle.md_engine.specs.Place.{is_ending}
 use Rattle.md_engine.specs.World.{Flags, World, after}
-use Rattle.md_engine.proofs.StepOf.{Sees, ahead, begins_only, cell_here, moves, passes}
+use Rattle.md_engine.specs.Sees.{Sees, ahead, cell_here}
+use Rattle.md_engine.proofs.StepOf.{begins_only, moves, passes}
 use Rattle.md_containers.specs.Interrupts.{interrupts}
 use Rattle.md_containers.specs.Item.{before_code, bullet_code, is_item_marker, item_transition, may_break, unseen}
 use Rattle.md_containers.specs.ItemRule.{HasItem, at_bullet, at_marker, at_value, behind_indent, behind_marker}

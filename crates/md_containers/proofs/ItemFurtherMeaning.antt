@@ -13,7 +13,8 @@ use Rattle.md_engine.specs.declared.state.list_item.State.TheVariants as its
 use Rattle.md_engine.specs.declared.tokenizer.Scratch.{Scratch}
 use Rattle.md_engine.specs.Meaning.{Accepts, Behaviour, Cell, Feed, Here, Outcome, Refuses, Steps, here}
 use Rattle.md_engine.specs.World.{World, after}
-use Rattle.md_engine.proofs.StepOf.{Sees, ahead, cell_here, moves, passes}
+use Rattle.md_engine.specs.Sees.{Sees, ahead, cell_here}
+use Rattle.md_engine.proofs.StepOf.{moves, passes}
 use Rattle.md_containers.specs.Item.{cont_blank_code, cont_filled_code, cont_start_code, indent_code, inside_code}
 use Rattle.md_containers.specs.Item.{item_gone_on, least_width}
 use Rattle.md_containers.specs.ItemRule.{HasItem, blank_behaves, filled_behaves, indent_at, indent_blank, indent_filled}

@@ -14,7 +14,8 @@ use Rattle.md_engine.specs.declared.state.list_item.State.TheVariants as its
 use Rattle.md_engine.specs.Meaning.{Behaviour, Cell, Feed, Here, Refuses, Steps, here}
 use Rattle.md_engine.specs.Scheme.{After, position}
 use Rattle.md_engine.specs.World.{World, after}
-use Rattle.md_engine.proofs.StepOf.{Sees, ahead, cell_here, moves, passes}
+use Rattle.md_engine.specs.Sees.{Sees, ahead, cell_here}
+use Rattle.md_engine.proofs.StepOf.{moves, passes}
 use Rattle.md_containers.specs.Interrupts.{interrupts}
 use Rattle.md_containers.specs.Item.{before_ordered_code, ends_value, is_item_marker, item_ready, item_transition}
 use Rattle.md_containers.specs.Item.{marker_code, sees, value_code, without_size}

@@ -15,7 +15,8 @@ use Rattle.md_engine.specs.declared.tokenizer.Frame.{Frame}
 use Rattle.md_engine.specs.declared.tokenizer.Scratch.{Scratch}
 use Rattle.md_engine.specs.Meaning.{Accepts, Behaviour, Cell, Feed, Here, Outcome, Refuses, Steps, here, resume}
 use Rattle.md_engine.specs.World.{World, after}
-use Rattle.md_engine.proofs.StepOf.{Sees, ahead, begins_only, moves, passes}
+use Rattle.md_engine.specs.Sees.{Sees, ahead}
+use Rattle.md_engine.proofs.StepOf.{begins_only, moves, passes}
 use Rattle.md_containers.specs.Interrupts.{interrupts}
 use Rattle.md_containers.specs.Item.{after_code, blank_code, filled_transition, item_transition, prefix_other_code}
 use Rattle.md_containers.specs.Item.{unseen, whitespace_after_code}

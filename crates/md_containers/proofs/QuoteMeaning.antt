@@ -11,7 +11,8 @@ use Rattle.md_engine.specs.declared.state.State.TheVariants.{Nok, Next}
 use Rattle.md_engine.specs.declared.tokenizer.Frame.{Frame}
 use Rattle.md_engine.specs.Meaning.{Accepts, Behaviour, Cell, Feed, Here, Refuses, Steps, here}
 use Rattle.md_engine.specs.World.{World, after}
-use Rattle.md_engine.proofs.StepOf.{Sees, ahead, begins_only, moves, passes}
+use Rattle.md_engine.specs.Sees.{Sees, ahead}
+use Rattle.md_engine.proofs.StepOf.{begins_only, moves, passes}
 use Rattle.md_containers.specs.Quote.{cont_after_code, cont_before_code, cont_start_code, quote_transition, start_code}
 use Rattle.md_containers.specs.QuoteRule.{HasQuote, at_marker, behind_marker, prefix_at, quote_at}
 use Rattle.md_seam.specs.Ahead.{begins_white, white_rest}

@@ -11,7 +11,8 @@ use Rattle.md_engine.specs.declared.tokenizer.Scratch.{Scratch}
 use Rattle.md_engine.specs.Meaning.{Accepts, Behaviour, Cell, Feed, Here, Steps, here}
 use Rattle.md_engine.specs.Scheme.{After, position}
 use Rattle.md_engine.specs.World.{World, after, looks}
-use Rattle.md_engine.proofs.StepOf.{Sees, ahead, cell_here, moves, passes}
+use Rattle.md_engine.specs.Sees.{Sees, ahead, cell_here}
+use Rattle.md_engine.proofs.StepOf.{moves, passes}
 use Rattle.md_content.specs.ChunkRule.{HasChunk, chunk_at, inside_chunk, longer}
 use Rattle.md_content.specs.Chunks.{chunk_inside_code, chunk_ready, chunk_start_transition, chunk_transition}
 use Rattle.md_content.specs.Chunks.{content_link, line_taken, rest_taken, unbegun}

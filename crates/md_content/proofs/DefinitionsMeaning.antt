@@ -17,7 +17,8 @@ use Rattle.md_engine.specs.declared.tokenizer.Frame.{Frame}
 use Rattle.md_engine.specs.Meaning.{Accepts, Behaviour, Cell, Feed, Here, Refuses, Steps, here, resume}
 use Rattle.md_engine.specs.Scheme.{After, position}
 use Rattle.md_engine.specs.World.{World, after}
-use Rattle.md_engine.proofs.StepOf.{Sees, ahead, begins_only, cell_here, moves, passes}
+use Rattle.md_engine.specs.Sees.{Sees, ahead, cell_here}
+use Rattle.md_engine.proofs.StepOf.{begins_only, moves, passes}
 use Rattle.md_content.specs.ContentRule.{behind_definition, content_by, content_over, definition_in}
 use Rattle.md_content.specs.Definitions.{definition_after_code, definition_before_code, definitions_ready}
 use Rattle.md_content.specs.Definitions.{definitions_transition, may_define}

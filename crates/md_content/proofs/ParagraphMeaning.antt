@@ -8,7 +8,8 @@ use Rattle.md_engine.specs.declared.state.paragraph.State.TheVariants as paragra
 use Rattle.md_engine.specs.declared.state.State.TheVariants.{Next}
 use Rattle.md_engine.specs.Meaning.{Accepts, Behaviour, Cell, Feed, Here, Steps, here}
 use Rattle.md_engine.specs.World.{World, after}
-use Rattle.md_engine.proofs.StepOf.{Sees, ahead, cell_here, moves, passes}
+use Rattle.md_engine.specs.Sees.{Sees, ahead, cell_here}
+use Rattle.md_engine.proofs.StepOf.{moves, passes}
 use Rattle.md_content.specs.Paragraph.{inside_code, line_start_transition, paragraph_transition, start_transition}
 use Rattle.md_content.specs.Paragraph.{text_link}
 use Rattle.md_content.specs.ParagraphRule.{HasParagraph, inside_paragraph, paragraph_at}

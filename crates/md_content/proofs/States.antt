@@ -10,7 +10,8 @@ use Rattle.md_engine.specs.Scheme.{after_all, stands}
 use Rattle.md_engine.specs.Standing.{MeansAt, StandsOn}
 use Rattle.md_engine.specs.World.{Setting, World, looks}
 use Rattle.md_engine.proofs.Local.{fits}
-use Rattle.md_engine.proofs.StepOf.{Sees, sees, steps-as}
+use Rattle.md_engine.specs.Sees.{Sees}
+use Rattle.md_engine.proofs.StepOf.{sees, steps-as}
 use Rattle.md_content.specs.DefinitionsRule.{HasDefinitions}
 use Rattle.md_content.specs.ParagraphRule.{HasParagraph}
 use Rattle.md_content.specs.States.{ContentStep, content_behaves, content_owner, content_scheme, content_transition}

@@ -203,13 +203,12 @@ sound-skip bytes p q limit events frames skips h k = record {
   begun = All-push (IsPlaced bytes) skips q h.begun k;
 }
 
-pub sound-skip_if : (bytes : List ℕ) (p q : Point) (limit : ℕ) (events : List Event) (frames : List Frame)
-    (skips new : List Point) (b : Bool) →
-    IsSound bytes p limit events frames skips → IsPlaced bytes q → new ≡ cond b (skips ++ q ∷ []) skips →
+pub sound-skipped : (bytes : List ℕ) (p q : Point) (limit : ℕ) (events : List Event) (frames : List Frame)
+    (skips reserved new : List Point) →
+    IsSound bytes p limit events frames skips → IsPlaced bytes q → reserved ≡ skips → new ≡ reserved ++ q ∷ [] →
     IsSound bytes p limit events frames new
-sound-skip_if bytes p q limit events frames skips new true h k is =
-    rw is (sound-skip bytes p q limit events frames skips h k)
-sound-skip_if bytes p q limit events frames skips new false h k is = rw is h
+sound-skipped bytes p q limit events frames skips reserved new h k same is =
+    rw (is, same) (sound-skip bytes p q limit events frames skips h k)
 
 -- the innermost attempt is taken, if there is one
 pub sound-popped : (bytes : List ℕ) (p : Point) (limit : ℕ) (events : List Event) (o : Option Frame)

@@ -10,6 +10,7 @@ use Rattle.md_engine.specs.Meaning.{Behaviour, Cell, Feed, Follows, Steps, goes,
 use Rattle.md_engine.specs.Place.{seen_at}
 use Rattle.md_engine.specs.Run.{reading}
 use Rattle.md_engine.specs.Scheme.{Scheme, after_all}
+use Rattle.md_engine.specs.Sees.{Sees, ahead}
 use Rattle.md_engine.specs.World.{World, after, looks}
 
 -- a step that begins no attempt
@@ -72,24 +73,6 @@ begins_only B feed from to old new f frames events same =
 pub steps-as : (B : Behaviour) (feed : Feed) (from to s : State) (w new v : World) → s ≡ to → v ≡ new →
     Steps B feed from w to new → Steps B feed from w s v
 steps-as B feed from to s w new v e k steps = rw (e, k) steps
-
--- the cell of a byte that stands here
-abbrev pub cell_here : Feed → World → ℕ → Cell
-cell_here feed w b = record { byte = b; after = after w.setting w.point; line = line_of w.setting.line (feed w.point) }
-
--- the cells from what stands here on
-abbrev pub ahead : Feed → World → Option ℕ → List Cell
-ahead feed w None = []
-ahead feed w (Some b) = cell_here feed w b ∷ feed (after w.setting w.point)
-
--- the feed goes on with what the tokenizer sees, and follows the text as far as it may be read
-pub record Sees (feed : Feed) (w : World) : Type 0 where
-  pub next : feed w.point ≡ ahead feed w w.current
-  pub along : (p : Point) → p.index < w.setting.limit →
-      feed p ≡
-      (record { byte = seen_at w.setting.bytes p; after = after w.setting p; line = line_of w.setting.line (feed p) }
-      ∷ feed (after w.setting p))
-  pub short : length (feed w.point) < 2 ^ 63
 
 pub sees : (feed : Feed) (w : World) (is_end : Bool) → Follows feed w.setting is_end →
     (is_end ≡ true) ⊎ (w.point.index < w.setting.limit) → Sees feed (reading w)

@@ -16,3 +16,5 @@ pub mod Meaning
 pub mod Standing
 pub mod TextFeed
 pub mod Progress
+pub mod Full
+pub mod Sees

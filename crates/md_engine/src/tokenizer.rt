@@ -4,7 +4,7 @@
 // trials that are taken back where they fail. Each primitive says what the whole tokenizer is afterwards, by one
 // equation over `world`, which is what contracts see of a tokenizer.
 ghost use Rattle.std.specs.Prelude.{◌≡◌, ◌-◌, IfOk, drop, ◌+◌, ◌^◌, ◌∷◌, ◌++◌, ◌<◌, ◌≤◌, [], length, All};
-ghost use Rattle.std.specs.Prelude.{if◌then◌else◌, is_ok, ◌==◌, true, false, Some, None, take, IfSome};
+ghost use Rattle.std.specs.Prelude.{if◌then◌else◌, is_err, is_ok, ◌==◌, true, false, Some, None, take, IfSome};
 ghost use Rattle.std.specs.Prelude.{IfNone, reverse, slice_set};
 ghost use Rattle.md_engine.specs.Place.{IsPlaced, is_pair, next_point, stepped};
 ghost use Rattle.md_engine.specs.Sound.{IsSound};
@@ -283,6 +283,7 @@ fn turn(events: &mut Vec<Event>, at: usize, count: usize)
 }
 
 impl<'a> Tokenizer<'a> {
+    ghost use Rattle.md_engine.specs.Full.{IsFull};
     ghost use Rattle.md_engine.specs.Staying.{TakesAll};
     ghost use Rattle.md_engine.specs.World.{closed, world, looks, after, fresh, line_begun, reads_to, registered};
     ghost use Rattle.md_engine.specs.World.{registered_before, skipping};
@@ -334,14 +335,16 @@ impl<'a> Tokenizer<'a> {
     /// Adds an event at the point where the list may have no room for it, or changes nothing. This is rare, so it stands
     /// apart.
     #[inline(never)]
+    #[tactic(auto, unfolding(crate::specs::Full::IsFull))]
     fn add_growing(&mut self, kind: Kind, name: Name, link: Option<Link>) -> Result<(), Message>
-        ensures { world self.new ≡
+        ensures world { world self.new ≡
             record (world self.old) {
               events = if is_ok result
                   then (world self.old).events
                   ++ record { kind = kind; name = name; point = (world self.old).point; link = link } ∷ []
                   else (world self.old).events;
             } }
+        ensures full { is_err result ≡ true → IsFull self.new }
     {
         if self.events.reserve(1).is_err() {
             return Err(Message);
@@ -358,13 +361,14 @@ impl<'a> Tokenizer<'a> {
 
     /// Adds an event at the point, or changes nothing.
     fn add(&mut self, kind: Kind, name: Name, link: Option<Link>) -> Result<(), Message>
-        ensures { world self.new ≡
+        ensures world { world self.new ≡
             record (world self.old) {
               events = if is_ok result
                   then (world self.old).events
                   ++ record { kind = kind; name = name; point = (world self.old).point; link = link } ∷ []
                   else (world self.old).events;
             } }
+        ensures full { is_err result ≡ true → IsFull self.new }
     {
         if self.events.len() >= self.events.capacity() {
             return self.add_growing(kind, name, link);
@@ -381,39 +385,42 @@ impl<'a> Tokenizer<'a> {
 
     /// Adds the begin of a part at the point, or changes nothing.
     pub fn enter(&mut self, name: Name) -> Result<(), Message>
-        ensures { world self.new ≡
+        ensures world { world self.new ≡
             record (world self.old) {
               events = if is_ok result
                   then (world self.old).events
                   ++ record { kind = Kind.Enter; name = name; point = (world self.old).point; link = None } ∷ []
                   else (world self.old).events;
             } }
+        ensures full { is_err result ≡ true → IsFull self.new }
     {
         self.add(Kind::Enter, name, None)
     }
 
     /// Adds the begin of a part that is read later, or changes nothing.
     pub fn enter_link(&mut self, name: Name, link: Link) -> Result<(), Message>
-        ensures { world self.new ≡
+        ensures world { world self.new ≡
             record (world self.old) {
               events = if is_ok result
                   then (world self.old).events
                   ++ record { kind = Kind.Enter; name = name; point = (world self.old).point; link = Some link } ∷ []
                   else (world self.old).events;
             } }
+        ensures full { is_err result ≡ true → IsFull self.new }
     {
         self.add(Kind::Enter, name, Some(link))
     }
 
     /// Adds the end of a part at the point, or changes nothing.
     pub fn exit(&mut self, name: Name) -> Result<(), Message>
-        ensures { world self.new ≡
+        ensures world { world self.new ≡
             record (world self.old) {
               events = if is_ok result
                   then (world self.old).events
                   ++ record { kind = Kind.Exit; name = name; point = (world self.old).point; link = None } ∷ []
                   else (world self.old).events;
             } }
+        ensures full { is_err result ≡ true → IsFull self.new }
     {
         self.add(Kind::Exit, name, None)
     }
@@ -491,8 +498,9 @@ impl<'a> Tokenizer<'a> {
     }
 
     /// Begins an attempt, or changes nothing.
+    #[tactic(auto, unfolding(crate::specs::Full::IsFull))]
     fn begin(&mut self, ok: State, nok: State, is_check: bool) -> Result<(), Message>
-        ensures { world self.new ≡
+        ensures world { world self.new ≡
             record (world self.old) {
               frames = if is_ok result
                   then record {
@@ -505,6 +513,7 @@ impl<'a> Tokenizer<'a> {
                   ∷ (world self.old).frames
                   else (world self.old).frames;
             } }
+        ensures full { is_err result ≡ true → IsFull self.new }
     {
         if self.frames.reserve(1).is_err() {
             return Err(Message);
@@ -523,7 +532,7 @@ impl<'a> Tokenizer<'a> {
     /// Begins an attempt, or changes nothing: what follows goes on with `ok` where it holds, and else is taken back and
     /// goes on with `nok`. Neither takes back the scratch or the flags.
     pub fn attempt(&mut self, ok: State, nok: State) -> Result<(), Message>
-        ensures { world self.new ≡
+        ensures world { world self.new ≡
             record (world self.old) {
               frames = if is_ok result
                   then record {
@@ -536,13 +545,14 @@ impl<'a> Tokenizer<'a> {
                   ∷ (world self.old).frames
                   else (world self.old).frames;
             } }
+        ensures full { is_err result ≡ true → IsFull self.new }
     {
         self.begin(ok, nok, false)
     }
 
     /// Begins a check, or changes nothing: an attempt that is taken back also where it holds.
     pub fn check(&mut self, ok: State, nok: State) -> Result<(), Message>
-        ensures { world self.new ≡
+        ensures world { world self.new ≡
             record (world self.old) {
               frames = if is_ok result
                   then record {
@@ -555,6 +565,7 @@ impl<'a> Tokenizer<'a> {
                   ∷ (world self.old).frames
                   else (world self.old).frames;
             } }
+        ensures full { is_err result ≡ true → IsFull self.new }
     {
         self.begin(ok, nok, true)
     }
@@ -592,13 +603,16 @@ impl<'a> Tokenizer<'a> {
 
     /// Has the next line begin at `point`, behind the prefixes of its containers, and goes there if the tokenizer
     /// stands at the line's first byte; or changes nothing.
+    #[tactic(auto, unfolding(crate::specs::Full::IsFull))]
     pub fn define_skip(&mut self, point: Point) -> Result<(), Message>
         requires { IsPlaced (world self.old).setting.bytes point }
-        ensures { world self.new ≡ (if is_ok result then skipping (world self.old) point else world self.old) }
+        ensures world { world self.new ≡ (if is_ok result then skipping (world self.old) point else world self.old) }
+        ensures full { is_err result ≡ true → IsFull self.new }
     {
-        if self.skips.push(point).is_err() {
+        if self.skips.reserve(1).is_err() {
             return Err(Message);
         }
+        self.skips.push_reserved(point);
         if self.point.line == point.line && self.point.index <= point.index {
             self.point = point;
         }
@@ -606,35 +620,43 @@ impl<'a> Tokenizer<'a> {
     }
 
     /// Has a resolver run at the end, behind those that are registered; or changes nothing.
+    #[tactic(auto, unfolding(crate::specs::Full::IsFull))]
     pub fn register_resolver(&mut self, name: ResolveName) -> Result<(), Message>
-        ensures { world self.new ≡
+        ensures world { world self.new ≡
             record (world self.old) {
               resolvers = if is_ok result
                   then registered (world self.old).resolvers name
                   else (world self.old).resolvers;
             } }
+        ensures full { is_err result ≡ true → IsFull self.new }
     {
         if self.resolvers.contains(&name) {
             return Ok(());
         }
-        match self.resolvers.push(name) {
-            Ok(()) => Ok(()),
-            Err(_) => Err(Message),
+        if self.resolvers.reserve(1).is_err() {
+            return Err(Message);
         }
+        self.resolvers.push_reserved(name);
+        Ok(())
     }
 
     /// Has a resolver run at the end, before those that are registered; or changes nothing.
+    #[tactic(auto, unfolding(crate::specs::Full::IsFull))]
     pub fn register_resolver_before(&mut self, name: ResolveName) -> Result<(), Message>
-        ensures { world self.new ≡
+        ensures world { world self.new ≡
             record (world self.old) {
               resolvers = if is_ok result
                   then registered_before
                   (world self.old).resolvers name
                   else (world self.old).resolvers;
             } }
+        ensures full { is_err result ≡ true → IsFull self.new }
     {
         if self.resolvers.contains(&name) {
             return Ok(());
+        }
+        if self.resolvers.reserve(1).is_err() {
+            return Err(Message);
         }
         match self.resolvers.insert(0, name) {
             Ok(()) => Ok(()),
@@ -643,19 +665,22 @@ impl<'a> Tokenizer<'a> {
     }
 
     /// Opens a container in those that are open, or changes nothing.
+    #[tactic(auto, unfolding(crate::specs::Full::IsFull))]
     pub fn open(&mut self, container: Container) -> Result<(), Message>
-        ensures { world self.new ≡
+        ensures world { world self.new ≡
             record (world self.old) {
               flags = record (world self.old).flags {
                 containers = if is_ok result
                     then (world self.old).flags.containers ++ container ∷ [] else (world self.old).flags.containers;
               };
             } }
+        ensures full { is_err result ≡ true → IsFull self.new }
     {
-        match self.containers.push(container) {
-            Ok(()) => Ok(()),
-            Err(_) => Err(Message),
+        if self.containers.reserve(1).is_err() {
+            return Err(Message);
         }
+        self.containers.push_reserved(container);
+        Ok(())
     }
 
     /// Holds another container in place of the open one at an index.
@@ -716,7 +741,8 @@ impl<'a> Tokenizer<'a> {
     /// Ends the containers behind the first `keep`, the innermost first, in front of the event at `at` and at its
     /// point, or at the tokenizer's point behind the last event; or changes nothing.
     pub fn close(&mut self, keep: usize, at: usize) -> Result<(), Message>
-        ensures { world self.new ≡ (if is_ok result then closed (world self.old) keep at else world self.old) }
+        ensures world { world self.new ≡ (if is_ok result then closed (world self.old) keep at else world self.old) }
+        ensures full { is_err result ≡ true → keep < length (world self.old).flags.containers }
     {
         if self.containers.len() <= keep {
             return Ok(());

@@ -12,7 +12,7 @@ use Rattle.md_engine.specs.Meaning.{Feed}
 use Rattle.md_engine.specs.Place.{is_ending, seen_at}
 use Rattle.md_engine.specs.Scheme.{position}
 use Rattle.md_engine.specs.World.{Setting, World, after, looks, looks_at}
-use Rattle.md_engine.proofs.StepOf.{Sees, ahead, cell_here}
+use Rattle.md_engine.specs.Sees.{Sees, ahead, cell_here}
 use Rattle.md_meaning.specs.Bytes.{begins, is_end}
 use Rattle.md_html.specs.Html.{are_letters, in_letters, name_here, sees_letter}
 use Rattle.md_seam.specs.Ahead.{line_bytes}

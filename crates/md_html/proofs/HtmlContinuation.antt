@@ -14,7 +14,8 @@ use Rattle.md_engine.specs.declared.tokenizer.held_leaf.HeldLeaf.TheVariants as 
 use Rattle.md_engine.specs.Meaning.{Behaviour, Cell, Feed, Here, Steps, here}
 use Rattle.md_engine.specs.Scheme.{position}
 use Rattle.md_engine.specs.World.{World, after, looks}
-use Rattle.md_engine.proofs.StepOf.{Sees, cell_here, moves, passes}
+use Rattle.md_engine.specs.Sees.{Sees, cell_here}
+use Rattle.md_engine.proofs.StepOf.{moves, passes}
 use Rattle.md_meaning.specs.Bytes.{is_end}
 use Rattle.md_meaning.specs.Html.{is_raw_name}
 use Rattle.md_meaning.specs.Rest.{is_white}

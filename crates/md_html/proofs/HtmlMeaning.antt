@@ -7,7 +7,7 @@ use Rattle.md_engine.specs.declared.state.html_flow.State.TheVariants as its
 use Rattle.md_engine.specs.Meaning.{Behaviour, Feed, Steps}
 use Rattle.md_engine.specs.Scheme.{After, position}
 use Rattle.md_engine.specs.World.{World, looks}
-use Rattle.md_engine.proofs.StepOf.{Sees}
+use Rattle.md_engine.specs.Sees.{Sees}
 use Rattle.md_html.specs.Html.{html_ready, html_transition}
 use Rattle.md_html.specs.HtmlRule.{HasHtml}
 use Rattle.md_html.proofs.HtmlContinuation as line

@@ -17,7 +17,8 @@ use Rattle.md_engine.specs.declared.tokenizer.Scratch.{Scratch}
 use Rattle.md_engine.specs.declared.tokenizer.held_leaf.HeldLeaf.TheVariants as held_leaf
 use Rattle.md_engine.specs.Meaning.{Behaviour, Cell, Feed, Here, Refuses, Steps, here}
 use Rattle.md_engine.specs.World.{World}
-use Rattle.md_engine.proofs.StepOf.{Sees, moves, passes}
+use Rattle.md_engine.specs.Sees.{Sees}
+use Rattle.md_engine.proofs.StepOf.{moves, passes}
 use Rattle.md_meaning.specs.Bytes.{begins}
 use Rattle.md_meaning.specs.Html.{Basic, Cdata, Comment, Declaration, HtmlKind, Instruction, Raw, html_ends}
 use Rattle.md_meaning.specs.Html.{html_kind}

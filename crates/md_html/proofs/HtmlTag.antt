@@ -10,7 +10,7 @@ use Rattle.md_engine.specs.declared.state.html_flow.State.TheVariants as its
 use Rattle.md_engine.specs.declared.tokenizer.Scratch.{Scratch}
 use Rattle.md_engine.specs.Meaning.{Behaviour, Cell, Feed, Here, Steps, here}
 use Rattle.md_engine.specs.World.{World}
-use Rattle.md_engine.proofs.StepOf.{Sees}
+use Rattle.md_engine.specs.Sees.{Sees}
 use Rattle.md_meaning.specs.Bytes.{after, begins}
 use Rattle.md_meaning.specs.Html.{Complete, after_assignment, after_next, after_value, begins_attribute, closes_tag}
 use Rattle.md_meaning.specs.Html.{ends_opening, is_attribute_byte, is_value_byte}

@@ -11,7 +11,7 @@ use Rattle.md_engine.specs.declared.state.html_flow.State.TheVariants as its
 use Rattle.md_engine.specs.declared.tokenizer.held_leaf.HeldLeaf.TheVariants as held_leaf
 use Rattle.md_engine.specs.Meaning.{Behaviour, Cell, Feed, Steps, here}
 use Rattle.md_engine.specs.World.{World, after, looks}
-use Rattle.md_engine.proofs.StepOf.{Sees, ahead, cell_here}
+use Rattle.md_engine.specs.Sees.{Sees, ahead, cell_here}
 use Rattle.md_meaning.specs.Bytes.{begins}
 use Rattle.md_meaning.specs.Html.{Basic, Complete, HtmlKind, Raw, begins_attribute, closes_tag, ends_name}
 use Rattle.md_meaning.specs.Html.{ends_opening, html_ends, html_kind, is_basic_name, is_raw_name, is_tag_byte}

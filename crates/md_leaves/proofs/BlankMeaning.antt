@@ -13,7 +13,8 @@ use Rattle.md_engine.specs.declared.tokenizer.Frame.{Frame}
 use Rattle.md_engine.specs.declared.tokenizer.Scratch.{Scratch}
 use Rattle.md_engine.specs.Meaning.{Accepts, Behaviour, Cell, Feed, Here, Outcome, Refuses, Steps, goes, here, resume}
 use Rattle.md_engine.specs.World.{World}
-use Rattle.md_engine.proofs.StepOf.{Sees, ahead, begins_only, passes}
+use Rattle.md_engine.specs.Sees.{Sees, ahead}
+use Rattle.md_engine.proofs.StepOf.{begins_only, passes}
 use Rattle.md_leaves.specs.Blank.{after_code, blank_transition, start_code}
 use Rattle.md_leaves.specs.BlankRule.{HasBlank, after_blank, blank_at}
 use Rattle.md_seam.specs.Ahead.{begins_white, from_ending, line_bytes, line_end, white_end, white_rest}

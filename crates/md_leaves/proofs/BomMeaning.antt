@@ -11,7 +11,8 @@ use Rattle.md_engine.specs.declared.tokenizer.Scratch.{Scratch}
 use Rattle.md_engine.specs.Meaning.{Accepts, Behaviour, Cell, Feed, Here, Refuses, Steps, here}
 use Rattle.md_engine.specs.Scheme.{After, position}
 use Rattle.md_engine.specs.World.{World, after}
-use Rattle.md_engine.proofs.StepOf.{Sees, ahead, cell_here, moves, passes}
+use Rattle.md_engine.specs.Sees.{Sees, ahead, cell_here}
+use Rattle.md_engine.proofs.StepOf.{moves, passes}
 use Rattle.md_leaves.specs.Bom.{bom_ready, bom_transition, inside_code, mark_at, start_code}
 use Rattle.md_leaves.specs.BomRule.{HasBom, bom_at, inside_mark}
 use Rattle.md_leaves.specs.Heading.{without_size}

@@ -9,17 +9,19 @@ use Rattle.md_engine.specs.declared.event.Name.TheVariants as parts
 use Rattle.md_engine.specs.declared.state.Name.TheVariants as n
 use Rattle.md_engine.specs.declared.state.thematic_break.State.{State as BreakState}
 use Rattle.md_engine.specs.declared.state.thematic_break.State.TheVariants as its
+use Rattle.md_engine.specs.declared.state.State.{State}
 use Rattle.md_engine.specs.declared.state.State.TheVariants.{Nok, Next, Retry}
 use Rattle.md_engine.specs.declared.tokenizer.Frame.{Frame}
 use Rattle.md_engine.specs.declared.tokenizer.Scratch.{Scratch}
 use Rattle.md_engine.specs.Meaning.{Accepts, Behaviour, Cell, Feed, Here, Refuses, Steps, here}
 use Rattle.md_engine.specs.Scheme.{After, position}
 use Rattle.md_engine.specs.World.{World, after}
-use Rattle.md_engine.proofs.StepOf.{Sees, ahead, begins, cell_here, moves, passes}
-use Rattle.md_leaves.specs.Break.{at_break_code, before_code, before_transition, break_ready, break_transition}
+use Rattle.md_engine.specs.Sees.{Sees, ahead, cell_here}
+use Rattle.md_engine.proofs.StepOf.{begins, moves, passes, steps-as}
+use Rattle.md_leaves.specs.Break.{BreakInvariant, at_break_code, before_code, before_transition, break_ready, break_transition}
 use Rattle.md_leaves.specs.Break.{is_marker, marked_code, one_run_after_code, one_run_code, sequence_code}
 use Rattle.md_leaves.specs.Break.{without_marker}
-use Rattle.md_leaves.specs.BreakRule.{Apart, HasBreak, Marks, White, at_break, before_marker, behind_one_run, in_break}
+use Rattle.md_leaves.specs.BreakRule.{Apart, BreakMeans, HasBreak, Marks, White, at_break, before_marker, behind_one_run, in_break}
 use Rattle.md_leaves.specs.BreakRule.{in_one_run}
 use Rattle.md_leaves.specs.HeadingSetext.{turns_nothing}
 use Rattle.md_leaves.specs.HeadingSetextRule.{is_underline}
@@ -330,14 +332,27 @@ has_start : (B : Behaviour) (options : ParseOptions) → HasBreak B options →
     (n.ThematicBreak its.Start) (n.ThematicBreak its.Before)
 has_start B options has = record { white = has.white; start_is = has.each its.Start; next_is = has.each its.Before }
 
--- each state of a break takes one step of what it means
+-- each state of a break takes one step of its rule
+break_steps : (B : Behaviour) (feed : Feed) (state : BreakState) (w : World) → HasBreak B w.setting.options →
+    Sees feed w → BreakInvariant (n.ThematicBreak state) (position w) →
+    Steps B feed (Next (n.ThematicBreak state)) w (break_transition state w).to (break_transition state w).world
+break_steps B feed its.Start w has s at =
+    start-steps B feed parts.ThematicBreak _ (before_marker w.setting.options) _ _ w _ _ (has_start B _ has) s refl refl
+break_steps B feed its.Before w has s at = before_means B feed w has s at
+break_steps B feed its.AtBreak w has s at = at_break_means B _ feed w _ _ has s at.marker refl refl
+break_steps B feed its.Sequence w has s at = sequence_means B _ feed w _ _ has s at.rest at.marker refl refl
+break_steps B feed its.OneRun w has s at = one_run_means B _ feed w _ _ has s at.rest at.marker refl refl
+break_steps B feed its.OneRunAfter w has s at = one_run_after_means B _ feed w _ has s refl
+
+-- and so where its attempts end as they have to
 pub break_means : (B : Behaviour) (feed : Feed) (state : BreakState) (w : World) (K : After) →
     HasBreak B w.setting.options → Sees feed w → break_ready (n.ThematicBreak state) (position w) K →
     Steps B feed (Next (n.ThematicBreak state)) w (break_transition state w).to (break_transition state w).world
-break_means B feed its.Start w K has s at =
-    start-steps B feed parts.ThematicBreak _ (before_marker w.setting.options) _ _ w _ _ (has_start B _ has) s refl refl
-break_means B feed its.Before w K has s at = before_means B feed w has s at.0
-break_means B feed its.AtBreak w K has s at = at_break_means B _ feed w _ _ has s at.0.marker refl refl
-break_means B feed its.Sequence w K has s at = sequence_means B _ feed w _ _ has s at.0.rest at.0.marker refl refl
-break_means B feed its.OneRun w K has s at = one_run_means B _ feed w _ _ has s at.0.rest at.0.marker refl refl
-break_means B feed its.OneRunAfter w K has s at = one_run_after_means B _ feed w _ has s refl
+break_means B feed state w K has s at = break_steps B feed state w has s at.0
+
+-- what answers as the transition of a state does means what the state means
+pub break_rule : (state : BreakState) (w new : World) (to : State) → to ≡ (break_transition state w).to →
+    new ≡ (break_transition state w).world → BreakMeans state w to new
+unfolding BreakMeans
+break_rule state w new to e k at B feed has s =
+    steps-as B feed _ _ to w _ new e k (break_steps B feed state w has s at)

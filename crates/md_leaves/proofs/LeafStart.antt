@@ -14,7 +14,8 @@ use Rattle.md_engine.specs.Scheme.{After, Fits, Scheme, Position, after_all, pos
 use Rattle.md_engine.specs.World.{World}
 use Rattle.md_engine.proofs.Falls.{later_at}
 use Rattle.md_engine.proofs.Local.{refuses, turns}
-use Rattle.md_engine.proofs.StepOf.{Sees, begins, moves, passes}
+use Rattle.md_engine.specs.Sees.{Sees}
+use Rattle.md_engine.proofs.StepOf.{begins, moves, passes}
 use Rattle.md_leaves.specs.LeafStart.{entered_here, start_at, start_code}
 use Rattle.md_leaves.proofs.LeafSteps.{white_frame}
 use Rattle.md_meaning.specs.Rest.{is_white}

@@ -9,7 +9,7 @@ use Rattle.md_engine.specs.declared.tokenizer.Frame.{Frame}
 use Rattle.md_engine.specs.declared.tokenizer.Scratch.{Scratch}
 use Rattle.md_engine.specs.Meaning.{Cell, Feed, Here, Outcome}
 use Rattle.md_engine.specs.World.{World, after}
-use Rattle.md_engine.proofs.StepOf.{Sees, ahead, cell_here}
+use Rattle.md_engine.specs.Sees.{Sees, ahead, cell_here}
 use Rattle.md_meaning.specs.Bytes.{is_end}
 use Rattle.md_seam.specs.Ahead.{from_ending, line_bytes, line_cells, white_end, white_rest}
 use Rattle.md_seam.specs.Events.Nested.{enter, exit}

@@ -10,7 +10,8 @@ use Rattle.md_engine.specs.declared.state.State.TheVariants.{Next}
 use Rattle.md_engine.specs.declared.tokenizer.Line.{Line}
 use Rattle.md_engine.specs.Meaning.{Accepts, Behaviour, Cell, Feed, Here, Refuses, Steps, here, line_of}
 use Rattle.md_engine.specs.World.{World, after}
-use Rattle.md_engine.proofs.StepOf.{Sees, ahead, moves, passes}
+use Rattle.md_engine.specs.Sees.{Sees, ahead}
+use Rattle.md_engine.proofs.StepOf.{moves, passes}
 use Rattle.md_leaves.specs.NonLazy.{after_code, non_lazy_transition, start_code}
 use Rattle.md_leaves.specs.NonLazyRule.{HasNonLazy, after_ending, continuation_at, is_lazy}
 use Rattle.md_seam.specs.Events.Nested.{enter, exit, pair}

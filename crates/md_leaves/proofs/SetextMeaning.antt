@@ -14,7 +14,8 @@ use Rattle.md_engine.specs.declared.tokenizer.held_leaf.HeldLeaf.TheVariants as 
 use Rattle.md_engine.specs.Meaning.{Accepts, Behaviour, Cell, Feed, Here, Refuses, Steps, here}
 use Rattle.md_engine.specs.Scheme.{After, position}
 use Rattle.md_engine.specs.World.{World, after}
-use Rattle.md_engine.proofs.StepOf.{Sees, ahead, begins, cell_here, moves, passes}
+use Rattle.md_engine.specs.Sees.{Sees, ahead, cell_here}
+use Rattle.md_engine.proofs.StepOf.{begins, moves, passes}
 use Rattle.md_leaves.specs.HeadingSetext.{after_code, before_code, inside_code, is_marker, setext_ready}
 use Rattle.md_leaves.specs.HeadingSetext.{setext_transition, without_marker}
 use Rattle.md_leaves.specs.HeadingSetextRule.{HasSetext, before_run, behind_run, in_run}

@@ -12,7 +12,7 @@ use Rattle.md_engine.specs.Scheme.{After, Ends, Rank, Scheme, Position, cells_be
 use Rattle.md_engine.specs.World.{World}
 use Rattle.md_leaves.specs.HeadingSetext.{turns_nothing}
 use Rattle.md_leaves.specs.LeafStart as leaf
-use Rattle.md_seam.specs.Spaces.{any_size, ends_line, IsRest, is_current, rest_ready, sees_white, white_then}
+use Rattle.md_seam.specs.Spaces.{any_size, ends_line, IsRest, is_current, sees_white, white_then}
 use Rattle.md_seam.specs.Transition.{Transition, entered, exited, taken}
 
 -- a marker of a break (CommonMark 4.1)
@@ -121,12 +121,16 @@ BreakNeeds (n.ThematicBreak its.Sequence) w = w.scratch.size ≤ cells_before w.
 BreakNeeds (n.ThematicBreak its.OneRun) w = w.scratch.size ≤ cells_before w.point
 BreakNeeds _ w = Unit {0}
 
+-- what holds at each state of a break
+abbrev pub BreakInvariant : StateName → Position → Type 0
+BreakInvariant (n.ThematicBreak its.AtBreak) x = IsMarked x
+BreakInvariant (n.ThematicBreak its.Sequence) x = IsMarked x
+BreakInvariant (n.ThematicBreak its.OneRun) x = IsMarked x
+BreakInvariant (n.ThematicBreak its.OneRunAfter) x = IsMarked x
+BreakInvariant _ x = IsRest x.scratch
+
 abbrev pub break_ready : StateName → Position → After → Type 0
-break_ready (n.ThematicBreak its.AtBreak) x K = IsMarked x × Ends IsRest IsRest x K
-break_ready (n.ThematicBreak its.Sequence) x K = IsMarked x × Ends IsRest IsRest x K
-break_ready (n.ThematicBreak its.OneRun) x K = IsMarked x × Ends IsRest IsRest x K
-break_ready (n.ThematicBreak its.OneRunAfter) x K = IsMarked x × Ends IsRest IsRest x K
-break_ready _ x K = rest_ready x K
+break_ready name x K = BreakInvariant name x × Ends IsRest IsRest x K
 
 abbrev pub break_rank : StateName → Position → Rank
 break_rank (n.ThematicBreak its.Start) x = ranked 6 refl

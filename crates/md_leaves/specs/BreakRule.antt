@@ -9,9 +9,13 @@ use Rattle.md_engine.specs.declared.event.Point.{Point}
 use Rattle.md_engine.specs.declared.state.Name.TheVariants as n
 use Rattle.md_engine.specs.declared.state.thematic_break.State.{State as BreakState}
 use Rattle.md_engine.specs.declared.state.thematic_break.State.TheVariants as its
+use Rattle.md_engine.specs.declared.state.State.{State}
 use Rattle.md_engine.specs.Meaning.{Accepts, Behaviour, Cell, Here, Outcome, Refuses}
+use Rattle.md_engine.specs.Scheme.{position}
+use Rattle.md_engine.specs.Sees.{IsStep}
+use Rattle.md_engine.specs.World.{World}
 use Rattle.md_leaves.specs.LeafStart.{start_at}
-use Rattle.md_leaves.specs.Break.{without_marker}
+use Rattle.md_leaves.specs.Break.{BreakInvariant, without_marker}
 use Rattle.md_leaves.specs.HeadingSetext.{turns_nothing}
 use Rattle.md_leaves.specs.HeadingSetextRule.{is_run, is_underline}
 pub use Rattle.md_leaves.specs.MarkRuns.{Apart, Marks, Run, White}
@@ -94,3 +98,9 @@ pub record HasBreak (B : Behaviour) (options : ParseOptions) : Type 0 where
   pub white : HasWhite B
   pub each : (state : BreakState) (cells : List Cell) (h : Here) →
       B (n.ThematicBreak state) cells h ≡ break_behaves options state cells h
+
+-- what a state of a break means: where what it needs holds, its call is one step of the rule
+unfoldable pub BreakMeans : BreakState → World → State → World → Type 0
+BreakMeans state old to new =
+    BreakInvariant (n.ThematicBreak state) (position old) →
+    IsStep (λ B. HasBreak B old.setting.options) (n.ThematicBreak state) to old new

@@ -22,7 +22,8 @@ use Rattle.md_engine.specs.Meaning.{Accepts, Behaviour, Cell, Fails, Feed, Here,
 use Rattle.md_engine.specs.Meaning.{resume}
 use Rattle.md_engine.specs.Scheme.{After, position}
 use Rattle.md_engine.specs.World.{Flags, World, after}
-use Rattle.md_engine.proofs.StepOf.{Sees, ahead, begins, begins_only, cell_here, moves, passes}
+use Rattle.md_engine.specs.Sees.{Sees, ahead, cell_here}
+use Rattle.md_engine.proofs.StepOf.{begins, begins_only, moves, passes}
 use Rattle.md_link_definitions.specs.Definition.{before_code, behind_white, definition_ready, definition_transition, end_code}
 use Rattle.md_link_definitions.specs.Definition.{label_after_code, refused, sees_gap, start_code, title_before_code}
 use Rattle.md_link_definitions.specs.Definition.{title_end_code, tries_part}

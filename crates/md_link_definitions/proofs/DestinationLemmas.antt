@@ -13,7 +13,7 @@ use Rattle.md_engine.specs.declared.event.Event.{Event}
 use Rattle.md_engine.specs.declared.event.Point.{Point}
 use Rattle.md_engine.specs.Meaning.{Accepts, Cell, Feed, Here, Refuses}
 use Rattle.md_engine.specs.World.{World, after}
-use Rattle.md_engine.proofs.StepOf.{ahead, cell_here}
+use Rattle.md_engine.specs.Sees.{ahead, cell_here}
 use Rattle.md_link_definitions.specs.Destination.{Begin, Closes, Escapes, Literal, Neither, Opens, Other, Piece, Raw, Stops}
 use Rattle.md_link_definitions.specs.Destination.{begins}
 use Rattle.md_link_definitions.specs.Destination.{enclosed_piece, is_escaped, raw_piece, with_size, without_size}

@@ -12,7 +12,8 @@ use Rattle.md_engine.specs.declared.tokenizer.Scratch.{Scratch}
 use Rattle.md_engine.specs.Meaning.{Accepts, Behaviour, Cell, Feed, Here, Refuses, Steps, here}
 use Rattle.md_engine.specs.Scheme.{After, position}
 use Rattle.md_engine.specs.World.{World, after}
-use Rattle.md_engine.proofs.StepOf.{Sees, ahead, cell_here, moves, passes}
+use Rattle.md_engine.specs.Sees.{Sees, ahead, cell_here}
+use Rattle.md_engine.proofs.StepOf.{moves, passes}
 use Rattle.md_link_definitions.specs.Destination.{Begin, Closes, Escapes, Literal, Neither, Opens, Other, Piece, Raw, Stops}
 use Rattle.md_link_definitions.specs.Destination.{begins}
 use Rattle.md_link_definitions.specs.Destination.{destination_ready, destination_transition, enclosed_before_code, enclosed_code}

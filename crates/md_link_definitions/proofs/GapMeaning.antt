@@ -13,7 +13,8 @@ use Rattle.md_engine.specs.declared.tokenizer.Scratch.{Scratch}
 use Rattle.md_engine.specs.Meaning.{Accepts, Behaviour, Cell, Feed, Here, Outcome, Refuses, Steps, here}
 use Rattle.md_engine.specs.Scheme.{After, position}
 use Rattle.md_engine.specs.World.{World, after}
-use Rattle.md_engine.proofs.StepOf.{Sees, ahead, begins, begins_only, cell_here, moves, passes}
+use Rattle.md_engine.specs.Sees.{Sees, ahead, cell_here}
+use Rattle.md_engine.proofs.StepOf.{begins, begins_only, moves, passes}
 use Rattle.md_link_definitions.specs.Gap.{after_eol_code, after_first_transition, at_eol_code, gap_ready, gap_transition}
 use Rattle.md_link_definitions.specs.Gap.{start_code, without_seen}
 use Rattle.md_link_definitions.specs.GapRule.{HasGap, after_first, at_eol, at_line, gap_at, past_white}

@@ -14,7 +14,8 @@ use Rattle.md_engine.specs.declared.tokenizer.Scratch.{Scratch}
 use Rattle.md_engine.specs.Meaning.{Accepts, Behaviour, Cell, Feed, Here, Refuses, Steps, here}
 use Rattle.md_engine.specs.Scheme.{After, position}
 use Rattle.md_engine.specs.World.{World, after}
-use Rattle.md_engine.proofs.StepOf.{Sees, ahead, cell_here, moves, passes}
+use Rattle.md_engine.specs.Sees.{Sees, ahead, cell_here}
+use Rattle.md_engine.proofs.StepOf.{moves, passes}
 use Rattle.md_link_definitions.specs.Chunks.{chunks, string_link}
 use Rattle.md_link_definitions.specs.Label.{at_break_code, close_code, counted, eol_after_code, escape_code, inside_code}
 use Rattle.md_link_definitions.specs.Label.{is_bracket, is_escaped, is_full, label_ready, label_transition, most, refused}

@@ -13,7 +13,8 @@ use Rattle.md_engine.specs.declared.state.State.TheVariants.{Nok, Next, Retry}
 use Rattle.md_engine.specs.Meaning.{Behaviour, Cell, Feed, Here, Refuses, Steps, here}
 use Rattle.md_engine.specs.Scheme.{After, position}
 use Rattle.md_engine.specs.World.{World, after}
-use Rattle.md_engine.proofs.StepOf.{Sees, ahead, cell_here, moves, passes}
+use Rattle.md_engine.specs.Sees.{Sees, ahead, cell_here}
+use Rattle.md_engine.proofs.StepOf.{moves, passes}
 use Rattle.md_link_definitions.specs.Chunks.{string_link}
 use Rattle.md_link_definitions.specs.Title.{IsMarked, after_eol_transition, at_break_code, begin_code, closed, escape_code}
 use Rattle.md_link_definitions.specs.Title.{inside_code, is_escaped, is_mark, opened, refused, start_code, title_ready}

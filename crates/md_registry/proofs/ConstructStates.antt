@@ -19,7 +19,7 @@ use Rattle.md_engine.specs.Meaning.{Cell, Feed, Here, Steps}
 use Rattle.md_engine.specs.Scheme.{After, Position, after_all, position}
 use Rattle.md_engine.specs.World.{World, looks}
 use Rattle.md_engine.proofs.Local.{fits}
-use Rattle.md_engine.proofs.StepOf.{Sees}
+use Rattle.md_engine.specs.Sees.{Sees}
 use Rattle.md_containers.specs.Footnote.{footnote_scheme}
 use Rattle.md_containers.specs.Item.{item_scheme}
 use Rattle.md_containers.specs.Quote.{quote_scheme}

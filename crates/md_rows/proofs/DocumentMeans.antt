@@ -15,7 +15,8 @@ use Rattle.md_engine.specs.Run.{reading}
 use Rattle.md_engine.specs.Scheme.{stands}
 use Rattle.md_engine.specs.Standing.{MeansAt, StandsOn}
 use Rattle.md_engine.specs.World.{Setting, World, looks}
-use Rattle.md_engine.proofs.StepOf.{Sees, begins_only, sees, steps-as}
+use Rattle.md_engine.specs.Sees.{Sees}
+use Rattle.md_engine.proofs.StepOf.{begins_only, sees, steps-as}
 use Rattle.md_containers.specs.FrontmatterRule.{HasFront, front_at}
 use Rattle.md_containers.proofs.FrontmatterMeaning.{front_means}
 use Rattle.md_leaves.specs.BomRule.{HasBom, bom_at}

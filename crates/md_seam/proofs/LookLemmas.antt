@@ -13,7 +13,7 @@ use Rattle.md_engine.specs.Place.{is_ending, seen_at}
 use Rattle.md_engine.specs.Scheme.{cells_left}
 use Rattle.md_engine.specs.World.{Setting, World, after}
 use Rattle.md_engine.proofs.Points.{cells-fall}
-use Rattle.md_engine.proofs.StepOf.{Sees, ahead}
+use Rattle.md_engine.specs.Sees.{Sees, ahead}
 use Rattle.md_meaning.specs.Rest.{is_white}
 use Rattle.md_seam.specs.Ahead.{white_rest}
 use Rattle.md_seam.specs.Look.{behind_code, first_behind, first_seen, looks_behind, may_with, seen_behind}

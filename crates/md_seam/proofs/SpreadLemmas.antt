@@ -12,7 +12,7 @@ use Rattle.md_engine.specs.Scheme.{cells_left}
 use Rattle.md_engine.specs.KnownRun.{EndsRun, is_of_run}
 use Rattle.md_engine.specs.World.{Setting, World, after}
 use Rattle.md_engine.proofs.Points.{cells-fall}
-use Rattle.md_engine.proofs.StepOf.{Sees}
+use Rattle.md_engine.specs.Sees.{Sees}
 use Rattle.md_meaning.specs.Rest.{is_white}
 use Rattle.md_seam.specs.Ahead.{line_bytes}
 use Rattle.md_seam.specs.Look.{as_seen, behind_code, first_behind, first_other, is_other, looks_behind, sees_other}

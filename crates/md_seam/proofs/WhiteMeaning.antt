@@ -13,7 +13,8 @@ use Rattle.md_engine.specs.declared.state.State.TheVariants.{Next}
 use Rattle.md_engine.specs.declared.tokenizer.Frame.{Frame}
 use Rattle.md_engine.specs.Meaning.{Accepts, Behaviour, Cell, Feed, Here, Steps, goes, here, resume}
 use Rattle.md_engine.specs.World.{World, after}
-use Rattle.md_engine.proofs.StepOf.{Sees, ahead, cell_here, moves, passes}
+use Rattle.md_engine.specs.Sees.{Sees, ahead, cell_here}
+use Rattle.md_engine.proofs.StepOf.{moves, passes}
 use Rattle.md_seam.specs.Ahead.{HasWhite, after_white, begins_white, inside_white, white_at, white_end, white_rest}
 use Rattle.md_seam.specs.Ahead.{white_size}
 use Rattle.md_seam.specs.Events.Nested.{enter, exit}

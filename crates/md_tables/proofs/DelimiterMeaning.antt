@@ -18,7 +18,8 @@ use Rattle.md_engine.specs.declared.tokenizer.held_leaf.HeldLeaf.TheVariants as 
 use Rattle.md_engine.specs.Meaning.{Accepts, Behaviour, Cell, Feed, Here, Refuses, Steps, goes, here}
 use Rattle.md_engine.specs.Scheme.{After, position}
 use Rattle.md_engine.specs.World.{World, after}
-use Rattle.md_engine.proofs.StepOf.{Sees, ahead, begins, begins_only, cell_here, moves, passes}
+use Rattle.md_engine.specs.Sees.{Sees, ahead, cell_here}
+use Rattle.md_engine.proofs.StepOf.{begins, begins_only, moves, passes}
 use Rattle.md_leaves.proofs.LeafSteps.{behind-joined, sees-one, white-run, white_frame}
 use Rattle.md_seam.specs.Ahead.{begins_white, white_rest}
 use Rattle.md_seam.specs.Events.Nested.{enter, exit}

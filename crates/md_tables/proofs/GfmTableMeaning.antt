@@ -11,7 +11,8 @@ use Rattle.md_engine.specs.declared.tokenizer.held_leaf.OpenText.{OpenText}
 use Rattle.md_engine.specs.Meaning.{Behaviour, Cell, Feed, Here, Steps, goes, here}
 use Rattle.md_engine.specs.Scheme.{After, position}
 use Rattle.md_engine.specs.World.{World}
-use Rattle.md_engine.proofs.StepOf.{Sees, passes}
+use Rattle.md_engine.specs.Sees.{Sees}
+use Rattle.md_engine.proofs.StepOf.{passes}
 use Rattle.md_tables.specs.Delimiter.{IsOfDelimiter}
 use Rattle.md_tables.specs.Delimiter.IsOfDelimiter.{Before, CellAfter, CellBefore, Filler, LeftAfter, RightAfter, Start}
 use Rattle.md_tables.specs.Delimiter.IsOfDelimiter.{ValueBefore}

@@ -15,7 +15,8 @@ use Rattle.md_engine.specs.Staying.{StaysOn}
 use Rattle.md_engine.specs.World.{Setting, World, looks}
 use Rattle.md_engine.proofs.Local.{fits}
 use Rattle.md_engine.proofs.Loops.{call-runs, call-sees}
-use Rattle.md_engine.proofs.StepOf.{Sees, sees, steps-as}
+use Rattle.md_engine.specs.Sees.{Sees}
+use Rattle.md_engine.proofs.StepOf.{sees, steps-as}
 use Rattle.md_engine.proofs.Walks.{EachKeeps, Within}
 use Rattle.md_seam.specs.Ahead.{HasWhite}
 use Rattle.md_seam.specs.Stays.{TakesEach}
