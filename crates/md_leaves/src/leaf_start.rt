@@ -1,6 +1,7 @@
 // The start of a leaf that stands behind a small indent, as a heading.
 
 ghost use Rattle.std.specs.Prelude.{◌≡◌, ◌≢◌};
+ghost use Rattle.md_engine.specs.Full.{IsFull, OnError};
 ghost use Rattle.md_engine.specs.World.{world};
 ghost use Rattle.md_engine.specs.declared.state.State.{State};
 ghost use Rattle.md_leaves.specs.LeafStart.{start_transition};
@@ -22,6 +23,7 @@ pub(crate) fn start_leaf(
     ensures to { result ≢ State.Error → result ≡ (start_transition name behind is_on (world tokenizer.old)).to }
     ensures world { result ≢ State.Error →
         world tokenizer.new ≡ (start_transition name behind is_on (world tokenizer.old)).world }
+    ensures full { OnError result (IsFull tokenizer.new) }
 {
     if !is_on {
         return State::Nok;

@@ -9,13 +9,14 @@ use Rattle.md_engine.specs.declared.event.Name.TheVariants.{SpaceOrTab}
 use Rattle.md_engine.specs.declared.state.Name.TheVariants as n
 use Rattle.md_engine.specs.declared.state.space_or_tab.State.{State as WhiteState}
 use Rattle.md_engine.specs.declared.state.space_or_tab.State.TheVariants as its
+use Rattle.md_engine.specs.declared.state.State.{State}
 use Rattle.md_engine.specs.declared.state.State.TheVariants.{Next}
 use Rattle.md_engine.specs.declared.tokenizer.Frame.{Frame}
 use Rattle.md_engine.specs.Meaning.{Accepts, Behaviour, Cell, Feed, Here, Steps, goes, here, resume}
 use Rattle.md_engine.specs.World.{World, after}
 use Rattle.md_engine.specs.Sees.{Sees, ahead, cell_here}
-use Rattle.md_engine.proofs.StepOf.{moves, passes}
-use Rattle.md_seam.specs.Ahead.{HasWhite, after_white, begins_white, inside_white, white_at, white_end, white_rest}
+use Rattle.md_engine.proofs.StepOf.{moves, passes, steps-as}
+use Rattle.md_seam.specs.Ahead.{HasWhite, WhiteMeans, after_white, begins_white, inside_white, white_at, white_end, white_rest}
 use Rattle.md_seam.specs.Ahead.{white_size}
 use Rattle.md_seam.specs.Events.Nested.{enter, exit}
 use Rattle.md_meaning.specs.Rest.{is_white}
@@ -127,6 +128,12 @@ pub white_means : (B : Behaviour) (feed : Feed) (state : WhiteState) (w : World)
 white_means B feed its.Start w has s = white_start_means B feed w _ has s refl
 white_means B feed its.Inside w has s = white_inside_means B feed w _ _ has s refl refl
 white_means B feed its.After w has s = white_after_means B feed w _ has refl
+
+-- what answers as the transition of a state does means what the state means
+pub white_rule : (state : WhiteState) (w new : World) (to : State) → to ≡ (white_transition state w).to →
+    new ≡ (white_transition state w).world → WhiteMeans state w to new
+unfolding WhiteMeans
+white_rule state w new to e k B feed has s = steps-as B feed _ _ to w _ new e k (white_means B feed state w has s)
 
 white-some : (room : ℕ) (cells : List Cell) → 1 ≤ room → begins_white cells ≡ true → 1 ≤ white_size room cells
 white-some room [] le e = cc

@@ -6,7 +6,10 @@ use Rattle.md_engine.specs.declared.event.Point.{Point}
 use Rattle.md_engine.specs.declared.state.Name.TheVariants as n
 use Rattle.md_engine.specs.declared.state.space_or_tab.State.{State as WhiteState}
 use Rattle.md_engine.specs.declared.state.space_or_tab.State.TheVariants as its
+use Rattle.md_engine.specs.declared.state.State.{State}
 use Rattle.md_engine.specs.Meaning.{Accepts, Behaviour, Cell, Here, Outcome, Refuses}
+use Rattle.md_engine.specs.Sees.{IsStep}
+use Rattle.md_engine.specs.World.{World}
 use Rattle.md_seam.specs.Events.Nested.{enter, exit}
 use Rattle.md_meaning.specs.Rest.{is_white}
 use Rattle.md_seam.specs.Spaces.{asking, calmed}
@@ -93,3 +96,7 @@ white_behaves its.After cells h = after_white cells h
 pub record HasWhite (B : Behaviour) : Type 0 where
   pub each : (state : WhiteState) (cells : List Cell) (h : Here) →
       B (n.SpaceOrTab state) cells h ≡ white_behaves state cells h
+
+-- what a state of whitespace means: its call is one step of the rule
+unfoldable pub WhiteMeans : WhiteState → World → State → World → Type 0
+WhiteMeans state old to new = IsStep HasWhite (n.SpaceOrTab state) to old new

@@ -4,7 +4,9 @@
 //
 // It adds one `SpaceOrTab` around them, and nothing where there are none.
 
-ghost use Rattle.std.specs.Prelude.{◌≡◌, ◌≢◌, IfSome, OnOk, true};
+ghost use Rattle.std.specs.Prelude.{◌≡◌, ◌≢◌, IfSome, OnOk, is_err, true};
+ghost use Rattle.md_seam.specs.Ahead.{WhiteMeans};
+ghost use Rattle.md_engine.specs.Full.{IsFull, OnError};
 ghost use Rattle.md_engine.specs.Place.{is_ending};
 ghost use Rattle.md_engine.specs.World.{world};
 ghost use Rattle.md_engine.specs.declared.state.Name.{Name as StateName};
@@ -104,6 +106,7 @@ pub fn space_or_tab_min_max(
     ensures to { result ≢ State.Error → result ≡ (white_then (world tokenizer.old) min max ok nok).to }
     ensures world { result ≢ State.Error →
         world tokenizer.new ≡ (white_then (world tokenizer.old) min max ok nok).world }
+    ensures full { OnError result (IsFull tokenizer.new) }
 {
     or_error!(tokenizer.attempt(ok, nok));
     tokenizer.scratch.whitespace = Whitespace { min, max, size: 0 };
@@ -115,6 +118,7 @@ pub fn space_or_tab(tokenizer: &mut Tokenizer, ok: State, nok: State) -> State
     ensures to { result ≢ State.Error → result ≡ (white_then (world tokenizer.old) 1 any_size ok nok).to }
     ensures world { result ≢ State.Error →
         world tokenizer.new ≡ (white_then (world tokenizer.old) 1 any_size ok nok).world }
+    ensures full { OnError result (IsFull tokenizer.new) }
 {
     space_or_tab_min_max(tokenizer, 1, usize::MAX, ok, nok)
 }
@@ -134,7 +138,8 @@ pub fn is_one_space(tokenizer: &Tokenizer) -> bool
 #[inline(always)]
 pub fn take_one_space(tokenizer: &mut Tokenizer) -> Result<(), Message>
     requires { IsOneSpace (world tokenizer.old) }
-    ensures { OnOk result (world tokenizer.new ≡ spaced (world tokenizer.old)) }
+    ensures world { OnOk result (world tokenizer.new ≡ spaced (world tokenizer.old)) }
+    ensures full { is_err result ≡ true → IsFull tokenizer.new }
 {
     tokenizer.enter(Name::SpaceOrTab)?;
     tokenizer.consume();
@@ -154,10 +159,14 @@ pub fn take_one_space(tokenizer: &mut Tokenizer) -> Result<(), Message>
 /// > |   a
 ///     ^
 /// ```
+#[tactic(auto, using(crate::proofs::WhiteMeaning::white_rule))]
 pub fn start(tokenizer: &mut Tokenizer) -> State
     requires { IsAt WhiteNeeds (StateName.SpaceOrTab WhiteState.Start) (world tokenizer.old) }
     ensures to { result ≢ State.Error → result ≡ (start_transition (world tokenizer.old)).to }
     ensures world { result ≢ State.Error → world tokenizer.new ≡ (start_transition (world tokenizer.old)).world }
+    ensures rule { result ≢ State.Error →
+        WhiteMeans WhiteState.Start (world tokenizer.old) result (world tokenizer.new) }
+    ensures full { OnError result (IsFull tokenizer.new) }
 {
     if is_space_or_tab(tokenizer.current) && tokenizer.scratch.whitespace.max > 0 {
         or_error!(tokenizer.enter(Name::SpaceOrTab));
@@ -173,10 +182,14 @@ pub fn start(tokenizer: &mut Tokenizer) -> State
 /// > |   a
 ///      ^
 /// ```
+#[tactic(auto, using(crate::proofs::WhiteMeaning::white_rule))]
 pub fn inside(tokenizer: &mut Tokenizer) -> State
     requires { IsAt WhiteNeeds (StateName.SpaceOrTab WhiteState.Inside) (world tokenizer.old) }
     ensures to { result ≢ State.Error → result ≡ (inside_transition (world tokenizer.old)).to }
     ensures world { result ≢ State.Error → world tokenizer.new ≡ (inside_transition (world tokenizer.old)).world }
+    ensures rule { result ≢ State.Error →
+        WhiteMeans WhiteState.Inside (world tokenizer.old) result (world tokenizer.new) }
+    ensures full { OnError result (IsFull tokenizer.new) }
 {
     let Whitespace { max, size, .. } = tokenizer.scratch.whitespace;
     if is_space_or_tab(tokenizer.current) && size < max {
@@ -195,10 +208,12 @@ pub fn inside(tokenizer: &mut Tokenizer) -> State
 /// > |   a
 ///       ^
 /// ```
+#[tactic(auto, using(crate::proofs::WhiteMeaning::white_rule))]
 pub fn after(tokenizer: &mut Tokenizer) -> State
     requires { IsAt WhiteNeeds (StateName.SpaceOrTab WhiteState.After) (world tokenizer.old) }
     ensures to { result ≡ (after_transition (world tokenizer.old)).to }
     ensures world { world tokenizer.new ≡ (after_transition (world tokenizer.old)).world }
+    ensures rule { WhiteMeans WhiteState.After (world tokenizer.old) result (world tokenizer.new) }
 {
     let Whitespace { min, size, .. } = tokenizer.scratch.whitespace;
     tokenizer.scratch.whitespace = Whitespace {
@@ -220,10 +235,13 @@ pub fn takes_at_once(state: WhiteState) -> Option<Stay>
 }
 
 /// Calls a state of whitespace.
+#[tactic(auto, using(crate::proofs::WhiteMeaning::white_rule))]
 pub fn call(tokenizer: &mut Tokenizer, state: WhiteState) -> State
     requires { IsAt WhiteNeeds (StateName.SpaceOrTab state) (world tokenizer.old) }
     ensures to { result ≢ State.Error → result ≡ (white_transition state (world tokenizer.old)).to }
     ensures world { result ≢ State.Error → world tokenizer.new ≡ (white_transition state (world tokenizer.old)).world }
+    ensures rule { result ≢ State.Error → WhiteMeans state (world tokenizer.old) result (world tokenizer.new) }
+    ensures full { OnError result (IsFull tokenizer.new) }
 {
     match state {
         WhiteState::Start => start(tokenizer),

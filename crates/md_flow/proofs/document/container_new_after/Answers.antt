@@ -16,7 +16,7 @@ returns-3-clause-world c = λ _.
     let has_opened : is_ok c.open.result ≡ true = c.if-or_error-2.ensures.negation in
     let behind = with_asked (closed w w.flags.continued w.flags.line_end) in
     let opened : world c.open.new.self ≡ behind =
-    (rw has_opened at c.open.ensures) ∙ ap with_asked (rw has_closed at c.close.ensures) in
+    (rw has_opened at c.open.ensures.world) ∙ ap with_asked (rw has_closed at c.close.ensures.world) in
     let len_is : c.len-tokenizer.result ≡ length (world c.open.new.self).flags.containers =
     omega (arith, c.len-tokenizer.ensures) in
     ap (begun c.len-tokenizer.result) opened

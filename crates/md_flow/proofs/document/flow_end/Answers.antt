@@ -15,7 +15,7 @@ returns-in-Some-eq10-3-clause-to c = λ _.
     let ten : c.in-Some-eq10.field-0 ≡ 10 = omega (arith, c.in-Some-eq10.field-0-test) in
     ap (λ o. (flow_end_code (world c.close.new.self) o).to) (sym (here ∙ ap Some ten))
     ∙ ap (λ (x : World). (flow_end_code x x.current).to)
-    ((rw has_closed at c.close.ensures) ∙ ap (λ n. closed w n w.flags.line_end) c.kept_containers-keep.ensures)
+    ((rw has_closed at c.close.ensures.world) ∙ ap (λ n. closed w n w.flags.line_end) c.kept_containers-keep.ensures)
 
 pub returns-in-Some-eq10-3-clause-world : goal.returns-in-Some-eq10-3-clause-world
 returns-in-Some-eq10-3-clause-world c = λ _.
@@ -29,8 +29,8 @@ returns-in-Some-eq10-3-clause-world c = λ _.
     let ten : c.in-Some-eq10.field-0 ≡ 10 = omega (arith, c.in-Some-eq10.field-0-test) in
     let len_is : c.len-len.result ≡ length v.events = omega (arith, c.len-len.ensures) in
     let ended : world c.exit.new.self ≡ exited (taken (entered v name)) name =
-    (rw has_exited at c.exit.ensures)
-    ∙ ap (λ (x : World). exited x name) (c.consume.ensures ∙ ap taken (rw has_entered at c.enter.ensures)) in
+    (rw has_exited at c.exit.ensures.world)
+    ∙ ap (λ (x : World). exited x name) (c.consume.ensures ∙ ap taken (rw has_entered at c.enter.ensures.world)) in
     let next : Name → ℕ → World = λ n len. record (exited (taken (entered v n)) n) {
       flags = next_line len v.flags;
     } in
@@ -39,4 +39,4 @@ returns-in-Some-eq10-3-clause-world c = λ _.
     ∙ ap (next (ending_name v.flags.blank)) len_is
     ∙ ap (λ o. (flow_end_code v o).world) (sym (here ∙ ap Some ten))
     ∙ ap (λ (x : World). (flow_end_code x x.current).world)
-    ((rw has_closed at c.close.ensures) ∙ ap (λ n. closed w n w.flags.line_end) c.kept_containers-keep.ensures)
+    ((rw has_closed at c.close.ensures.world) ∙ ap (λ n. closed w n w.flags.line_end) c.kept_containers-keep.ensures)

@@ -30,9 +30,9 @@ words-requires c =
     let has_exited : is_ok c.exit.result ≡ true = c.if-or_error.ensures.negation in
     let has_taken : is_ok c.take_one_space.result ≡ true = c.if-or_error-2.ensures.negation in
     let one : IsOneSpace w = c.is_one_space.ensures c.if-is_one_space.true in
-    let ended : x ≡ opening_ended w = rw has_exited at c.exit.ensures in
+    let ended : x ≡ opening_ended w = rw has_exited at c.exit.ensures.world in
     let is : u ≡ spaced (opening_ended w) =
-    on-ok c.take_one_space.result (u ≡ spaced x) has_taken c.take_one_space.ensures ∙ ap spaced ended in
+    on-ok c.take_one_space.result (u ≡ spaced x) has_taken c.take_one_space.ensures.world ∙ ap spaced ended in
     record { current = subst (λ (y : World). y.current ≡ looks y) (sym is) refl; has = tt }
 
 pub returns-then-is_one_space-3-clause-runs : goal.returns-then-is_one_space-3-clause-runs
@@ -45,9 +45,9 @@ returns-then-is_one_space-3-clause-runs c = λ fine is_end s v named from may.
     let has_exited : is_ok c.exit.result ≡ true = c.if-or_error.ensures.negation in
     let has_taken : is_ok c.take_one_space.result ≡ true = c.if-or_error-2.ensures.negation in
     let one : IsOneSpace w = c.is_one_space.ensures c.if-is_one_space.true in
-    let ended : x ≡ opening_ended w = rw has_exited at c.exit.ensures in
+    let ended : x ≡ opening_ended w = rw has_exited at c.exit.ensures.world in
     let is : u ≡ spaced (opening_ended w) =
-    on-ok c.take_one_space.result (u ≡ spaced x) has_taken c.take_one_space.ensures ∙ ap spaced ended in
+    on-ok c.take_one_space.result (u ≡ spaced x) has_taken c.take_one_space.ensures.world ∙ ap spaced ended in
     let came : Came T is_end first w (n.HeadingAtx its.AtBreak) u = λ t y called saw here.
     subst (λ (z : World). CameTo T is_end t y (n.HeadingAtx its.AtBreak) z) (sym is)
     (opening-ends is_end t y w (came-first T first w is_end t y called saw here) c.requires.current
@@ -65,9 +65,9 @@ returns-then-is_one_space-3-clause-sees c = λ fine.
     let has_exited : is_ok c.exit.result ≡ true = c.if-or_error.ensures.negation in
     let has_taken : is_ok c.take_one_space.result ≡ true = c.if-or_error-2.ensures.negation in
     let one : IsOneSpace w = c.is_one_space.ensures c.if-is_one_space.true in
-    let ended : x ≡ opening_ended w = rw has_exited at c.exit.ensures in
+    let ended : x ≡ opening_ended w = rw has_exited at c.exit.ensures.world in
     let is : u ≡ spaced (opening_ended w) =
-    on-ok c.take_one_space.result (u ≡ spaced x) has_taken c.take_one_space.ensures ∙ ap spaced ended in
+    on-ok c.take_one_space.result (u ≡ spaced x) has_taken c.take_one_space.ensures.world ∙ ap spaced ended in
     let next : u.point.index < u.setting.limit =
     subst (λ (y : World). y.point.index < y.setting.limit) (sym is) one.next in
     let seen : u.current ≡ looks u = subst (λ (y : World). y.current ≡ looks y) (sym is) refl in

@@ -44,7 +44,7 @@ returns-then-see_or_wait-clause-runs c = λ fine is_end s v named sees may.
     let w1 = world c.enter_link.new.self in
     let u = world c.see_word.new.self in
     let has_entered : is_ok c.enter_link.result ≡ true = c.if-or_error.ensures.negation in
-    let e : w1 ≡ entered_link w Data heading_link = rw has_entered at c.enter_link.ensures in
+    let e : w1 ≡ entered_link w Data heading_link = rw has_entered at c.enter_link.ensures.world in
     let is : begins_word w.current ≡ true = sym c.begins_word.ensures ∙ c.loop-tokenizer-test.true in
     let seen : w1.current ≡ looks w1 =
     subst (λ (x : World). x.current ≡ looks x) (sym e) c.loop-tokenizer.invariant.current in
@@ -66,7 +66,7 @@ returns-then-not-is_one_space-clause-runs c = λ fine is_end s v named from may.
     let u = world c.see_word.new.self in
     let w3 = world c.see_or_wait.new.self in
     let has_entered : is_ok c.enter_link.result ≡ true = c.if-or_error.ensures.negation in
-    let e : w1 ≡ entered_link w Data heading_link = rw has_entered at c.enter_link.ensures in
+    let e : w1 ≡ entered_link w Data heading_link = rw has_entered at c.enter_link.ensures.world in
     let is : begins_word w.current ≡ true = sym c.begins_word.ensures ∙ c.loop-tokenizer-test.true in
     let seen : w1.current ≡ looks w1 =
     subst (λ (x : World). x.current ≡ looks x) (sym e) c.loop-tokenizer.invariant.current in
@@ -112,12 +112,12 @@ loop-tokenizer-smaller c =
     let has_entered : is_ok c.enter_link.result ≡ true = c.if-or_error.ensures.negation in
     let has_exited : is_ok c.exit.result ≡ true = c.if-or_error-2.ensures.negation in
     let has_taken : is_ok c.take_one_space.result ≡ true = c.if-or_error-3.ensures.negation in
-    let e : w1 ≡ entered_link w Data heading_link = rw has_entered at c.enter_link.ensures in
-    let x : w4 ≡ exited w3 Data = rw has_exited at c.exit.ensures in
+    let e : w1 ≡ entered_link w Data heading_link = rw has_entered at c.enter_link.ensures.world in
+    let x : w4 ≡ exited w3 Data = rw has_exited at c.exit.ensures.world in
     let sees : w3 ≡ reading u = c.if-see_or_wait.ensures.sees refl in
     let spaces : world c.take_one_space.new.tokenizer ≡ spaced w4 =
     on-ok c.take_one_space.result (world c.take_one_space.new.tokenizer ≡ spaced w4) has_taken
-    c.take_one_space.ensures in
+    c.take_one_space.ensures.world in
     let all : world c.take_one_space.new.tokenizer ≡ spaced (exited (reading u) Data) =
     spaces ∙ ap spaced (x ∙ ap (λ (y : World). exited y Data) sees) in
     let some = some-falls Word w1 u c.see_word.ensures.some in
@@ -140,13 +140,13 @@ loop-tokenizer-preserved c =
     let has_entered : is_ok c.enter_link.result ≡ true = c.if-or_error.ensures.negation in
     let has_exited : is_ok c.exit.result ≡ true = c.if-or_error-2.ensures.negation in
     let has_taken : is_ok c.take_one_space.result ≡ true = c.if-or_error-3.ensures.negation in
-    let e : w1 ≡ entered_link w Data heading_link = rw has_entered at c.enter_link.ensures in
-    let x : w4 ≡ exited w3 Data = rw has_exited at c.exit.ensures in
+    let e : w1 ≡ entered_link w Data heading_link = rw has_entered at c.enter_link.ensures.world in
+    let x : w4 ≡ exited w3 Data = rw has_exited at c.exit.ensures.world in
     let sees : w3 ≡ reading u = c.if-see_or_wait.ensures.sees refl in
     let one : IsOneSpace w3 = c.if-not-is_one_space.ensures refl in
     let spaces : world c.take_one_space.new.tokenizer ≡ spaced w4 =
     on-ok c.take_one_space.result (world c.take_one_space.new.tokenizer ≡ spaced w4) has_taken
-    c.take_one_space.ensures in
+    c.take_one_space.ensures.world in
     let all : world c.take_one_space.new.tokenizer ≡ spaced (exited w3 Data) = spaces ∙ ap spaced x in
     let is : begins_word w.current ≡ true = sym c.begins_word.ensures ∙ c.loop-tokenizer-test.true in
     let seen : w1.current ≡ looks w1 =

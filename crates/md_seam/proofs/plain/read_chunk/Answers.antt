@@ -9,7 +9,7 @@ returns-in_ok-exit-clause-events c =
     (world c.read_line.new.tokenizer) (world c.enter.new.self) (world c.consume.new.self)
     (world c.exit.new.self) c.args.chunk.now
     c.requires.skips c.requires.chunk c.requires.line c.requires.whole c.in_ok-read_line.ensures c.read_line.new.tokenizer.sound.placed
-    c.if-tokenizer-end.true c.in_ok-enter.ensures c.consume.ensures c.in_ok-exit.ensures
+    c.if-tokenizer-end.true c.in_ok-enter.ensures.world c.consume.ensures c.in_ok-exit.ensures.world
 
 pub returns-else-tokenizer-end-clause-events : goal.returns-else-tokenizer-end-clause-events
 returns-else-tokenizer-end-clause-events c =

@@ -54,7 +54,7 @@ loop-tokenizer-preserved c =
 pub returns-in_ok-exit : goal.returns-in_ok-exit
 returns-in_ok-exit c =
     let read = line-read (world c.args.tokenizer.now) (world c.enter.new.self) (world c.loop-tokenizer.tokenizer)
-    (world c.exit.new.self) c.args.end c.in_ok-enter.ensures c.loop-tokenizer.invariant.moved c.in_ok-exit.ensures c.loop-tokenizer.invariant.line in
+    (world c.exit.new.self) c.args.end c.in_ok-enter.ensures.world c.loop-tokenizer.invariant.moved c.in_ok-exit.ensures.world c.loop-tokenizer.invariant.line in
     elim c.loop-tokenizer-test.branch [
       | then-loop-tokenizer-test+else-not-ends_line-2 w ↦
           read

@@ -20,18 +20,18 @@ returns c =
     let begun : world c.enter.new.self ≡
     record (fresh bytes c.args.options.now c.args.first) {
       events = c.args.given.items ++ enter GfmTable c.args.first ∷ [];
-    } = with-begin _ _ _ _ _ c.new-tokenizer.ensures c.set_events.ensures c.in_ok-enter.ensures in
+    } = with-begin _ _ _ _ _ c.new-tokenizer.ensures c.set_events.ensures c.in_ok-enter.ensures.world in
     let pushed = c.push.ensures.setting c.in_default.not-Error in
     let kept = flushes-setting _ _ _ _ _ _ _
     (record { setting = λ n w f v r. ap (λ (x : World). x.setting) r.1 }) c.in_ok-flush.ensures in
-    let same : c.exit.new.self.bytes.now ≡ bytes = ap (λ (w : World). w.setting.bytes) c.in_ok-exit.ensures
+    let same : c.exit.new.self.bytes.now ≡ bytes = ap (λ (w : World). w.setting.bytes) c.in_ok-exit.ensures.world
     ∙ ap (λ (x : Setting). x.bytes) kept ∙ ap (λ (x : Setting). x.bytes) pushed
     ∙ ap (λ (w : World). w.setting.bytes) begun in
     record {
       events =
           head-pushed bytes c.args.options.now c.args.first c.args.after c.args.given.items _ _ _ _ _ _ _
           (omega (arith, c.requires.after.sized, c.requires.after.index)) begun
-          (c.push.ensures.runs c.in_default.not-Error) pushed c.in_ok-flush.ensures c.in_ok-exit.ensures;
+          (c.push.ensures.runs c.in_default.not-Error) pushed c.in_ok-flush.ensures c.in_ok-exit.ensures.world;
       placed = subst (λ (b : List ℕ). ArePlaced b c.exit.new.self.events.items) same c.exit.new.self.sound.right;
     }
   where

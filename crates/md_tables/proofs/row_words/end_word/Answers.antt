@@ -18,7 +18,7 @@ returns-clause-goes c =
     let x = world c.exit.new.self in
     let new = world c.gap.new.tokenizer in
     let has_exited : is_ok c.exit.result ≡ true = c.if-is_err.ensures.negation in
-    let is : x ≡ exited w Data = rw has_exited at c.exit.ensures in
+    let is : x ≡ exited w Data = rw has_exited at c.exit.ensures.world in
     let goes : Goes r name w c.gap.result new =
     gap-goes r name name w w x new c.gap.result (stood-first r name w c.in_default.ensures.goes.current)
     (within-world c.pass_rest.new.tokenizer) (within-world c.exit.new.self) (ap (λ (y : World). y.setting) is)
@@ -32,7 +32,7 @@ returns-clause-rests c = λ none.
     let w = world c.pass_rest.new.tokenizer in
     let x = world c.exit.new.self in
     let has_exited : is_ok c.exit.result ≡ true = c.if-is_err.ensures.negation in
-    let is : x ≡ exited w Data = rw has_exited at c.exit.ensures in
+    let is : x ≡ exited w Data = rw has_exited at c.exit.ensures.world in
     let same : cells_left x.setting.limit x.point ≡ cells_left w.setting.limit w.point =
     ap (λ (y : World). cells_left y.setting.limit y.point) is in
     let rests = end-rests (world c.args.tokenizer.now) w (c.in_default.ensures.falls refl) in
@@ -44,7 +44,7 @@ returns-clause-falls c = λ none text.
     let w = world c.pass_rest.new.tokenizer in
     let x = world c.exit.new.self in
     let has_exited : is_ok c.exit.result ≡ true = c.if-is_err.ensures.negation in
-    let is : x ≡ exited w Data = rw has_exited at c.exit.ensures in
+    let is : x ≡ exited w Data = rw has_exited at c.exit.ensures.world in
     let same : cells_left x.setting.limit x.point ≡ cells_left w.setting.limit w.point =
     ap (λ (y : World). cells_left y.setting.limit y.point) is in
     let less = end-falls (world c.args.tokenizer.now) w (c.in_default.ensures.falls refl) text

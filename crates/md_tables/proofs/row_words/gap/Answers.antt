@@ -12,7 +12,7 @@ returns-else-is_err-clause-none c = λ none.
     let w = world c.args.tokenizer.now in
     let u = world c.take_one_space.new.tokenizer in
     let has_taken : is_ok c.take_one_space.result ≡ true = c.if-is_err.ensures.negation in
-    let is : u ≡ spaced w = on-ok c.take_one_space.result (u ≡ spaced w) has_taken c.take_one_space.ensures in
+    let is : u ≡ spaced w = on-ok c.take_one_space.result (u ≡ spaced w) has_taken c.take_one_space.ensures.world in
     subst (IsGap w) (sym is) (OneSpace (c.is_one_space.ensures c.if-is_one_space.true))
 
 pub returns-else-is_space_or_tab-clause-none : goal.returns-else-is_space_or_tab-clause-none

@@ -15,7 +15,7 @@ returns-in-Some-clause-goes c =
     let w = world c.args.tokenizer.now in
     let x = world c.enter_link.new.self in
     let has_entered : is_ok c.enter_link.result ≡ true = c.if-is_err.ensures.negation in
-    let is : x ≡ entered_link w Data text_link = rw has_entered at c.enter_link.ensures in
+    let is : x ≡ entered_link w Data text_link = rw has_entered at c.enter_link.ensures.world in
     goes-on r (name_at r place.Break) w inner x inner (Some c.in-Some.state) (world c.pass_plain.new.tokenizer)
     (word-begins r w x c.requires.at.current (within-world c.args.tokenizer.now) c.requires.text is)
     c.in-Some.ensures.goes
@@ -29,7 +29,7 @@ returns-clause-goes c =
     let x = world c.enter_link.new.self in
     let v = world c.pass_plain.new.tokenizer in
     let has_entered : is_ok c.enter_link.result ≡ true = c.if-is_err.ensures.negation in
-    let is : x ≡ entered_link w Data text_link = rw has_entered at c.enter_link.ensures in
+    let is : x ≡ entered_link w Data text_link = rw has_entered at c.enter_link.ensures.world in
     goes-on r first w inner v first c.end_word.result (world c.end_word.new.tokenizer)
     (passes-on r first w inner x inner v
     (word-begins r w x c.requires.at.current (within-world c.args.tokenizer.now) c.requires.text is)

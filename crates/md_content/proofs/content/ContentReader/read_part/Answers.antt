@@ -39,7 +39,7 @@ define_skip-requires c =
 
 pub loop-chunk-preserved : goal.loop-chunk-preserved
 loop-chunk-preserved c =
-    let w = c.in_ok-define_skip.ensures in
+    let w = c.in_ok-define_skip.ensures.world in
     record {
       bytes = ap (λ (x : World). x.setting.bytes) w ∙ c.loop-chunk.invariant.bytes;
       scratch = ap (λ (x : World). x.scratch) w ∙ c.loop-chunk.invariant.scratch;
