@@ -14,9 +14,9 @@ use Rattle.md_engine.specs.declared.tokenizer.Scratch.{Scratch}
 use Rattle.md_engine.specs.Meaning.{Accepts, Behaviour, Cell, Feed, Here, Outcome, Refuses, Steps, goes, here, resume}
 use Rattle.md_engine.specs.World.{World}
 use Rattle.md_engine.specs.Sees.{Sees, ahead}
-use Rattle.md_engine.proofs.StepOf.{begins_only, passes}
+use Rattle.md_engine.proofs.StepOf.{steps-as, begins_only, passes}
 use Rattle.md_leaves.specs.Blank.{after_code, blank_transition, start_code}
-use Rattle.md_leaves.specs.BlankRule.{HasBlank, after_blank, blank_at}
+use Rattle.md_leaves.specs.BlankRule.{BlankMeans, HasBlank, after_blank, blank_at}
 use Rattle.md_seam.specs.Ahead.{begins_white, from_ending, line_bytes, line_end, white_end, white_rest}
 use Rattle.md_seam.specs.Events.Nested.{enter, exit}
 use Rattle.md_meaning.specs.Rest.{is_blank, is_white}
@@ -133,3 +133,9 @@ pub blank_means : (B : Behaviour) (feed : Feed) (state : BlankState) (w : World)
     Steps B feed (Next (n.BlankLine state)) w (blank_transition state w).to (blank_transition state w).world
 blank_means B feed its.Start w has s r = blank_start_means B feed w _ has s r refl
 blank_means B feed its.After w has s r = blank_after_means B feed w _ has s refl
+
+-- what answers as the transition of a state does means what the state means
+pub blank_rule : (state : BlankState) (w new : World) (to : State) → to ≡ (blank_transition state w).to →
+    new ≡ (blank_transition state w).world → BlankMeans state w to new
+unfolding BlankMeans
+blank_rule state w new to e k r B feed has s = steps-as B feed _ _ to w _ new e k (blank_means B feed state w has s r)

@@ -2,6 +2,7 @@
 use Rattle.std.proofs.Common.{◌≡◌, ℕ, zero, suc, ◌+◌, ◌<◌, Bool, true, false, nat_eq, nat_lt, List, [], ◌∷◌, ◌++◌}
 use Rattle.std.proofs.Common.{Option, Some, None, refl, sym, ◌∙◌, ap, arith, append_assoc}
 use Rattle.std.proofs.lemmas.Bool.Decides.{nat_tests}
+use Rattle.md_engine.specs.declared.state.State.{State}
 use Rattle.md_engine.specs.declared.event.Name.TheVariants as parts
 use Rattle.md_engine.specs.declared.state.Name.TheVariants as n
 use Rattle.md_engine.specs.declared.state.bom.State.{State as BomState}
@@ -12,9 +13,9 @@ use Rattle.md_engine.specs.Meaning.{Accepts, Behaviour, Cell, Feed, Here, Refuse
 use Rattle.md_engine.specs.Scheme.{After, position}
 use Rattle.md_engine.specs.World.{World, after}
 use Rattle.md_engine.specs.Sees.{Sees, ahead, cell_here}
-use Rattle.md_engine.proofs.StepOf.{moves, passes}
-use Rattle.md_leaves.specs.Bom.{bom_ready, bom_transition, inside_code, mark_at, start_code}
-use Rattle.md_leaves.specs.BomRule.{HasBom, bom_at, inside_mark}
+use Rattle.md_engine.proofs.StepOf.{steps-as, moves, passes}
+use Rattle.md_leaves.specs.Bom.{BomInvariant, bom_ready, bom_transition, inside_code, mark_at, start_code}
+use Rattle.md_leaves.specs.BomRule.{BomMeans, HasBom, bom_at, inside_mark}
 use Rattle.md_leaves.specs.Heading.{without_size}
 use Rattle.md_leaves.proofs.LeafSteps.{sees-one}
 use Rattle.md_seam.specs.Events.Nested.{enter, exit}
@@ -109,9 +110,22 @@ bom_inside_means B feed w false y has s lt e f =
     passes B feed _ _ w (inside_code w false y).world refl refl
     (has.each its.Inside _ _ ∙ rw s.next (mark-stops feed w (here w) w.current lt e))
 
--- each state of a mark takes one step of what it means
-pub bom_means : (B : Behaviour) (feed : Feed) (state : BomState) (w : World) (K : After) → HasBom B → Sees feed w →
-    bom_ready (n.Bom state) (position w) K →
+-- each state of a mark takes one step of its rule
+bom_steps : (B : Behaviour) (feed : Feed) (state : BomState) (w : World) → HasBom B → Sees feed w →
+    BomInvariant (n.Bom state) (position w) →
     Steps B feed (Next (n.Bom state)) w (bom_transition state w).to (bom_transition state w).world
-bom_means B feed its.Start w K has s at = bom_start_means B feed w _ has s at.0 refl
-bom_means B feed its.Inside w K has s at = bom_inside_means B feed w _ _ has s at.0.size refl refl
+bom_steps B feed its.Start w has s at = bom_start_means B feed w _ has s at refl
+bom_steps B feed its.Inside w has s at = bom_inside_means B feed w _ _ has s at.size refl refl
+
+-- and so where its attempts end as they have to
+pub bom_means : (B : Behaviour) (feed : Feed) (state : BomState) (w : World) (K : After) → HasBom B →
+    Sees feed w → bom_ready (n.Bom state) (position w) K →
+    Steps B feed (Next (n.Bom state)) w (bom_transition state w).to (bom_transition state w).world
+bom_means B feed state w K has s at = bom_steps B feed state w has s at.0
+
+-- what answers as the transition of a state does means what the state means
+pub bom_rule : (state : BomState) (w new : World) (to : State) → to ≡ (bom_transition state w).to →
+    new ≡ (bom_transition state w).world → BomMeans state w to new
+unfolding BomMeans
+bom_rule state w new to e k at B feed has s =
+    steps-as B feed _ _ to w _ new e k (bom_steps B feed state w has s at)

@@ -20,11 +20,11 @@ use Rattle.md_engine.specs.Meaning.{Accepts, Behaviour, Cell, Feed, Here, Refuse
 use Rattle.md_engine.specs.Scheme.{After, position}
 use Rattle.md_engine.specs.World.{World, after}
 use Rattle.md_engine.specs.Sees.{Sees, ahead, cell_here}
-use Rattle.md_engine.proofs.StepOf.{begins, moves, passes}
-use Rattle.md_leaves.specs.Heading.{at_break_code, before_code, behind_part, data_code, heading_link, heading_ready}
+use Rattle.md_engine.proofs.StepOf.{steps-as, begins, moves, passes}
+use Rattle.md_leaves.specs.Heading.{HeadingInvariant, at_break_code, before_code, behind_part, data_code, heading_link, heading_ready}
 use Rattle.md_leaves.specs.Heading.{heading_transition, sees_text, sequence_further_code, sequence_open_code}
 use Rattle.md_leaves.specs.Heading.{without_size}
-use Rattle.md_leaves.specs.HeadingRule.{Apart, HasHeading, Hashes, Run, Text, White, at_break, before_opening, begun}
+use Rattle.md_leaves.specs.HeadingRule.{HeadingMeans, Apart, HasHeading, Hashes, Run, Text, White, at_break, before_opening, begun}
 use Rattle.md_leaves.specs.HeadingRule.{closes, goes_on, in_heading, in_opening, opens}
 use Rattle.md_leaves.proofs.LeafStart.{HasStart, start-steps}
 use Rattle.md_leaves.proofs.LeafSteps.{sees-one, white_frame, behind-joined, white-run}
@@ -293,20 +293,28 @@ data_means B options feed w false y has s r e f =
     (has.each its.Data _ _
     ∙ rw s.next (run-stops feed w (here w) Text w.current (λ b is k. not_from_true _ (white-of w.current b e is k))))
 
--- each state of a heading takes one step of what it means
-pub heading_means : (B : Behaviour) (feed : Feed) (state : HeadingState) (w : World)
-    (K : After) →
-    HasHeading B w.setting.options → Sees feed w →
-    heading_ready (n.HeadingAtx state) (position w) K →
-    Steps B feed (Next (n.HeadingAtx state)) w (heading_transition state w).to
-    (heading_transition state w).world
-heading_means B feed its.Start w K has s at =
+-- each state of a heading takes one step of its rule
+heading_steps : (B : Behaviour) (feed : Feed) (state : HeadingState) (w : World) → HasHeading B w.setting.options → Sees feed w →
+    HeadingInvariant (n.HeadingAtx state) (position w) →
+    Steps B feed (Next (n.HeadingAtx state)) w (heading_transition state w).to (heading_transition state w).world
+heading_steps B feed its.Start w has s at =
     start-steps B feed parts.HeadingAtx _ before_opening _ _ w _ _ (has_start B _ has) s refl refl
-heading_means B feed its.Before w K has s at = heading_before_means B _ feed w _ has s at.0 refl
-heading_means B feed its.SequenceOpen w K has s at =
-    sequence_open_means B _ feed w _ _ _ has s at.0.rest at.0.size refl refl refl
-heading_means B feed its.AtBreak w K has s at =
-    heading_at_break_means B _ feed w _ _ _ has s refl refl refl
-heading_means B feed its.SequenceFurther w K has s at =
-    sequence_further_means B _ feed w _ _ has s at.0 refl refl
-heading_means B feed its.Data w K has s at = data_means B _ feed w _ _ has s at.0 refl refl
+heading_steps B feed its.Before w has s at = heading_before_means B _ feed w _ has s at refl
+heading_steps B feed its.SequenceOpen w has s at =
+    sequence_open_means B _ feed w _ _ _ has s at.rest at.size refl refl refl
+heading_steps B feed its.AtBreak w has s at = heading_at_break_means B _ feed w _ _ _ has s refl refl refl
+heading_steps B feed its.SequenceFurther w has s at = sequence_further_means B _ feed w _ _ has s at refl refl
+heading_steps B feed its.Data w has s at = data_means B _ feed w _ _ has s at refl refl
+
+-- and so where its attempts end as they have to
+pub heading_means : (B : Behaviour) (feed : Feed) (state : HeadingState) (w : World) (K : After) → HasHeading B w.setting.options →
+    Sees feed w → heading_ready (n.HeadingAtx state) (position w) K →
+    Steps B feed (Next (n.HeadingAtx state)) w (heading_transition state w).to (heading_transition state w).world
+heading_means B feed state w K has s at = heading_steps B feed state w has s at.0
+
+-- what answers as the transition of a state does means what the state means
+pub heading_rule : (state : HeadingState) (w new : World) (to : State) → to ≡ (heading_transition state w).to →
+    new ≡ (heading_transition state w).world → HeadingMeans state w to new
+unfolding HeadingMeans
+heading_rule state w new to e k at B feed has s =
+    steps-as B feed _ _ to w _ new e k (heading_steps B feed state w has s at)

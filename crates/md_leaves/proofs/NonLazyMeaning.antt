@@ -1,6 +1,7 @@
 -- Each state of the check that a further line is not lazy takes one step of its rule.
 use Rattle.std.proofs.Common.{◌≡◌, ℕ, Bool, true, false, List, [], ◌∷◌, ◌++◌, Option, Some, None, refl, sym, ◌∙◌, ap}
 use Rattle.std.proofs.Common.{append_assoc}
+use Rattle.md_engine.specs.declared.state.State.{State}
 use Rattle.md_engine.specs.declared.event.Event.{Event}
 use Rattle.md_engine.specs.declared.event.Name.TheVariants.{LineEnding}
 use Rattle.md_engine.specs.declared.state.Name.TheVariants as n
@@ -11,9 +12,9 @@ use Rattle.md_engine.specs.declared.tokenizer.Line.{Line}
 use Rattle.md_engine.specs.Meaning.{Accepts, Behaviour, Cell, Feed, Here, Refuses, Steps, here, line_of}
 use Rattle.md_engine.specs.World.{World, after}
 use Rattle.md_engine.specs.Sees.{Sees, ahead}
-use Rattle.md_engine.proofs.StepOf.{moves, passes}
+use Rattle.md_engine.proofs.StepOf.{steps-as, moves, passes}
 use Rattle.md_leaves.specs.NonLazy.{after_code, non_lazy_transition, start_code}
-use Rattle.md_leaves.specs.NonLazyRule.{HasNonLazy, after_ending, continuation_at, is_lazy}
+use Rattle.md_leaves.specs.NonLazyRule.{NonLazyMeans, HasNonLazy, after_ending, continuation_at, is_lazy}
 use Rattle.md_seam.specs.Events.Nested.{enter, exit, pair}
 use Rattle.md_seam.specs.Spaces.{is_current}
 
@@ -91,3 +92,10 @@ pub non_lazy_means : (B : Behaviour) (none : Line) (feed : Feed) (state : NonLaz
     (non_lazy_transition state w).world
 non_lazy_means B none feed its.Start w has s said = non_lazy_start_means B none feed w _ has s refl
 non_lazy_means B none feed its.After w has s said = non_lazy_after_means B none feed w _ has said refl
+
+-- what answers as the transition of a state does means what the state means
+pub non_lazy_rule : (state : NonLazyState) (w new : World) (to : State) → to ≡ (non_lazy_transition state w).to →
+    new ≡ (non_lazy_transition state w).world → NonLazyMeans state w to new
+unfolding NonLazyMeans
+non_lazy_rule state w new to e k none B feed has s said =
+    steps-as B feed _ _ to w _ new e k (non_lazy_means B none feed state w has s said)

@@ -2,6 +2,7 @@
 use Rattle.std.proofs.Common.{◌≡◌, ℕ, Bool, true, false, nat_eq, List, [], ◌∷◌, ◌++◌, Option, Some, None, refl}
 use Rattle.std.proofs.Common.{sym, ◌∙◌, ap, arith}
 use Rattle.std.proofs.lemmas.Bool.{eqb-true}
+use Rattle.md_engine.specs.declared.state.State.{State}
 use Rattle.md_engine.specs.declared.configuration.ParseOptions.{ParseOptions}
 use Rattle.md_engine.specs.declared.event.Name.TheVariants.{HeadingSetextUnderline, HeadingSetextUnderlineSequence}
 use Rattle.md_engine.specs.declared.event.Name.TheVariants.{SpaceOrTab}
@@ -15,10 +16,10 @@ use Rattle.md_engine.specs.Meaning.{Accepts, Behaviour, Cell, Feed, Here, Refuse
 use Rattle.md_engine.specs.Scheme.{After, position}
 use Rattle.md_engine.specs.World.{World, after}
 use Rattle.md_engine.specs.Sees.{Sees, ahead, cell_here}
-use Rattle.md_engine.proofs.StepOf.{begins, moves, passes}
-use Rattle.md_leaves.specs.HeadingSetext.{after_code, before_code, inside_code, is_marker, setext_ready}
+use Rattle.md_engine.proofs.StepOf.{steps-as, begins, moves, passes}
+use Rattle.md_leaves.specs.HeadingSetext.{SetextInvariant, after_code, before_code, inside_code, is_marker, setext_ready}
 use Rattle.md_leaves.specs.HeadingSetext.{setext_transition, without_marker}
-use Rattle.md_leaves.specs.HeadingSetextRule.{HasSetext, before_run, behind_run, in_run}
+use Rattle.md_leaves.specs.HeadingSetextRule.{SetextMeans, HasSetext, before_run, behind_run, in_run}
 use Rattle.md_leaves.proofs.BreakTermination.{marked-calm, rest-marker}
 use Rattle.md_leaves.proofs.LeafStart.{start-steps_here}
 use Rattle.md_leaves.proofs.LeafSteps.{behind-joined, sees-one, sees-other_white, white-run, white_frame}
@@ -146,13 +147,26 @@ after_means B options feed w false has s e =
     passes B feed _ _ w w refl refl
     (has.each its.After _ _ ∙ behind-other (feed w.point) (here w) (ap ends_line (first-seen feed w s) ∙ e))
 
--- All of them: each state of an underline takes one step of what it means.
-pub setext_means : (B : Behaviour) (feed : Feed) (state : SetextState) (w : World) (K : After) →
-    HasSetext B w.setting.options → Sees feed w → setext_ready (n.HeadingSetext state) (position w) K →
+-- each state of an underline takes one step of its rule
+setext_steps : (B : Behaviour) (feed : Feed) (state : SetextState) (w : World) → HasSetext B w.setting.options → Sees feed w →
+    SetextInvariant (n.HeadingSetext state) (position w) →
     Steps B feed (Next (n.HeadingSetext state)) w (setext_transition state w).to (setext_transition state w).world
-setext_means B feed its.Start w K has s at =
+setext_steps B feed its.Start w has s at =
     start-steps_here B feed HeadingSetextUnderline _ before_run _ _ w _ _ has.white (has.each its.Start _ _)
     (has.each its.Before) s refl refl
-setext_means B feed its.Before w K has s at = before_means B _ feed w has s at.0
-setext_means B feed its.Inside w K has s at = inside_means B _ feed w _ _ has s at.0.rest at.0.marker refl refl
-setext_means B feed its.After w K has s at = after_means B _ feed w _ has s refl
+setext_steps B feed its.Before w has s at = before_means B _ feed w has s at
+setext_steps B feed its.Inside w has s at = inside_means B _ feed w _ _ has s at.rest at.marker refl refl
+setext_steps B feed its.After w has s at = after_means B _ feed w _ has s refl
+
+-- and so where its attempts end as they have to
+pub setext_means : (B : Behaviour) (feed : Feed) (state : SetextState) (w : World) (K : After) → HasSetext B w.setting.options →
+    Sees feed w → setext_ready (n.HeadingSetext state) (position w) K →
+    Steps B feed (Next (n.HeadingSetext state)) w (setext_transition state w).to (setext_transition state w).world
+setext_means B feed state w K has s at = setext_steps B feed state w has s at.0
+
+-- what answers as the transition of a state does means what the state means
+pub setext_rule : (state : SetextState) (w new : World) (to : State) → to ≡ (setext_transition state w).to →
+    new ≡ (setext_transition state w).world → SetextMeans state w to new
+unfolding SetextMeans
+setext_rule state w new to e k at B feed has s =
+    steps-as B feed _ _ to w _ new e k (setext_steps B feed state w has s at)

@@ -1,5 +1,9 @@
 -- The rule of a blank line, as what is left of it at each state (CommonMark 4.9).
 use Rattle.std.specs.Prelude.{◌≡◌, if◌then◌else◌, List, [], ◌++◌}
+use Rattle.md_seam.specs.Spaces.{IsRest}
+use Rattle.md_engine.specs.World.{World}
+use Rattle.md_engine.specs.Sees.{IsStep}
+use Rattle.md_engine.specs.declared.state.State.{State}
 use Rattle.md_engine.specs.declared.event.Event.{Event}
 use Rattle.md_engine.specs.declared.event.Name.TheVariants.{SpaceOrTab}
 use Rattle.md_engine.specs.declared.event.Point.{Point}
@@ -37,3 +41,7 @@ pub record HasBlank (B : Behaviour) : Type 0 where
   pub white : HasWhite B
   pub each : (state : BlankState) (cells : List Cell) (h : Here) →
       B (n.BlankLine state) cells h ≡ blank_behaves state cells h
+
+-- what a state of a blank line means: at rest, its call is one step of the rule
+unfoldable pub BlankMeans : BlankState → World → State → World → Type 0
+BlankMeans state old to new = IsRest old.scratch → IsStep HasBlank (n.BlankLine state) to old new

@@ -9,7 +9,7 @@ use Rattle.md_engine.specs.declared.state.State.TheVariants.{Ok, Nok, Next, Retr
 use Rattle.md_engine.specs.Scheme.{After, Ends, Rank, Scheme, Position, ranked}
 use Rattle.md_engine.specs.World.{World}
 use Rattle.md_leaves.specs.Heading.{without_size}
-use Rattle.md_seam.specs.Spaces.{IsRest, is_current, rest_ready}
+use Rattle.md_seam.specs.Spaces.{IsRest, is_current}
 use Rattle.md_seam.specs.Transition.{Transition, entered, exited, taken}
 
 -- U+FEFF
@@ -59,9 +59,13 @@ pub record IsMarking (x : Position) : Type 0 where
   pub size : x.scratch.size < 3
   pub rest : IsRest (without_size x.scratch)
 
+-- what holds at each state of a mark
+abbrev pub BomInvariant : StateName → Position → Type 0
+BomInvariant (n.Bom its.Inside) x = IsMarking x
+BomInvariant _ x = IsRest x.scratch
+
 abbrev pub bom_ready : StateName → Position → After → Type 0
-bom_ready (n.Bom its.Inside) x K = IsMarking x × Ends IsRest IsRest x K
-bom_ready _ x K = rest_ready x K
+bom_ready name x K = BomInvariant name x × Ends IsRest IsRest x K
 
 abbrev pub bom_rank : StateName → Position → Rank
 bom_rank (n.Bom its.Start) x = ranked 1 refl

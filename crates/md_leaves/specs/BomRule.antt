@@ -1,12 +1,16 @@
 -- The rule of the byte order mark, as what is left of it at each state.
 use Rattle.std.specs.Prelude.{◌≡◌, ℕ, Bool, true, false, ◌&&◌, ◌==◌, if◌then◌else◌, List, [], ◌∷◌, ◌++◌, length, take}
 use Rattle.std.specs.Prelude.{drop}
+use Rattle.md_engine.specs.Scheme.{position}
+use Rattle.md_engine.specs.World.{World}
+use Rattle.md_engine.specs.Sees.{IsStep}
+use Rattle.md_engine.specs.declared.state.State.{State}
 use Rattle.md_engine.specs.declared.event.Name.TheVariants.{ByteOrderMark}
 use Rattle.md_engine.specs.declared.state.Name.TheVariants as n
 use Rattle.md_engine.specs.declared.state.bom.State.{State as BomState}
 use Rattle.md_engine.specs.declared.state.bom.State.TheVariants as its
 use Rattle.md_engine.specs.Meaning.{Accepts, Behaviour, Cell, Here, Outcome, Refuses}
-use Rattle.md_leaves.specs.Bom.{mark}
+use Rattle.md_leaves.specs.Bom.{BomInvariant, mark}
 use Rattle.md_leaves.specs.Heading.{without_size}
 use Rattle.md_seam.specs.Ahead.{point_after}
 use Rattle.md_seam.specs.Events.Nested.{exit, pair}
@@ -43,3 +47,9 @@ bom_behaves its.Inside cells h = inside_mark cells h
 
 pub record HasBom (B : Behaviour) : Type 0 where
   pub each : (state : BomState) (cells : List Cell) (h : Here) → B (n.Bom state) cells h ≡ bom_behaves state cells h
+
+-- what a state of a mark means: where what it needs holds, its call is one step of the rule
+unfoldable pub BomMeans : BomState → World → State → World → Type 0
+BomMeans state old to new =
+    BomInvariant (n.Bom state) (position old) →
+    IsStep HasBom (n.Bom state) to old new

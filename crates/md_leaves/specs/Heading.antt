@@ -15,7 +15,7 @@ use Rattle.md_engine.specs.Scheme.{After, Ends, Rank, Scheme, Position, ranked, 
 use Rattle.md_engine.specs.World.{World, registered}
 use Rattle.md_leaves.specs.LeafStart as leaf
 use Rattle.md_meaning.specs.Rest.{is_white}
-use Rattle.md_seam.specs.Spaces.{any_size, ends_line, IsRest, is_current, rest_ready, sees_white, white_then}
+use Rattle.md_seam.specs.Spaces.{any_size, ends_line, IsRest, is_current, sees_white, white_then}
 use Rattle.md_seam.specs.Transition.{Transition, entered, entered_link, exited, taken}
 
 -- what may stand first behind the indent of a heading: `#`
@@ -113,9 +113,13 @@ pub record IsOpeningPrefix (x : Position) : Type 0 where
   pub size : x.scratch.size ≤ 6
   pub rest : IsRest (without_size x.scratch)
 
+-- what holds at each state of a heading
+abbrev pub HeadingInvariant : StateName → Position → Type 0
+HeadingInvariant (n.HeadingAtx its.SequenceOpen) x = IsOpeningPrefix x
+HeadingInvariant _ x = IsRest x.scratch
+
 abbrev pub heading_ready : StateName → Position → After → Type 0
-heading_ready (n.HeadingAtx its.SequenceOpen) x K = IsOpeningPrefix x × Ends IsRest IsRest x K
-heading_ready _ x K = rest_ready x K
+heading_ready name x K = HeadingInvariant name x × Ends IsRest IsRest x K
 
 abbrev pub heading_rank : StateName → Position → Rank
 heading_rank (n.HeadingAtx its.Start) x = ranked 5 refl

@@ -1,6 +1,10 @@
 -- The rule of an ATX heading, as what is left of it at each state (CommonMark 4.2).
 use Rattle.std.specs.Prelude.{◌≡◌, ℕ, ◌+◌, Bool, false, ◌&&◌, ◌==◌, not, nat_le, if◌then◌else◌, List, [], ◌∷◌, ◌++◌}
 use Rattle.std.specs.Prelude.{drop, Some}
+use Rattle.md_engine.specs.Scheme.{position}
+use Rattle.md_engine.specs.World.{World}
+use Rattle.md_engine.specs.Sees.{IsStep}
+use Rattle.md_engine.specs.declared.state.State.{State}
 use Rattle.md_engine.specs.declared.configuration.ParseOptions.{ParseOptions}
 use Rattle.md_engine.specs.declared.event.Event.{Event}
 use Rattle.md_engine.specs.declared.event.Kind.TheVariants.{Enter}
@@ -11,7 +15,7 @@ use Rattle.md_engine.specs.declared.state.heading_atx.State.{State as HeadingSta
 use Rattle.md_engine.specs.declared.state.heading_atx.State.TheVariants as its
 use Rattle.md_engine.specs.Meaning.{Accepts, Behaviour, Cell, Here, Outcome, Refuses}
 use Rattle.md_leaves.specs.LeafStart.{start_at}
-use Rattle.md_leaves.specs.Heading.{heading_link, without_size}
+use Rattle.md_leaves.specs.Heading.{HeadingInvariant, heading_link, without_size}
 use Rattle.md_seam.specs.Ahead.{HasWhite, begins_white, from_ending, line_bytes, line_cells, line_end, white_end}
 use Rattle.md_seam.specs.Ahead.{white_rest}
 use Rattle.md_seam.specs.Events.Nested.{enter, exit, pair}
@@ -108,6 +112,12 @@ pub record HasHeading (B : Behaviour) (options : ParseOptions) : Type 0 where
   pub white : HasWhite B
   pub each : (state : HeadingState) (cells : List Cell) (h : Here) →
       B (n.HeadingAtx state) cells h ≡ heading_behaves options state cells h
+
+-- what a state of a heading means: where what it needs holds, its call is one step of the rule
+unfoldable pub HeadingMeans : HeadingState → World → State → World → Type 0
+HeadingMeans state old to new =
+    HeadingInvariant (n.HeadingAtx state) (position old) →
+    IsStep (λ B. HasHeading B old.setting.options) (n.HeadingAtx state) to old new
 
 -- A line as a whole.
 

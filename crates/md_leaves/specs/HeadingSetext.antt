@@ -16,7 +16,7 @@ use Rattle.md_engine.specs.Progress.{is_whole}
 use Rattle.md_engine.specs.Scheme.{After, Ends, Rank, Scheme, Position, cells_before, ranked, seen}
 use Rattle.md_engine.specs.World.{World}
 use Rattle.md_leaves.specs.LeafStart as leaf
-use Rattle.md_seam.specs.Spaces.{any_size, ends_line, IsRest, is_current, rest_ready, sees_white, white_then}
+use Rattle.md_seam.specs.Spaces.{any_size, ends_line, IsRest, is_current, sees_white, white_then}
 use Rattle.md_seam.specs.Transition.{Transition, entered, exited, taken}
 
 -- a marker of an underline
@@ -109,9 +109,13 @@ abbrev pub SetextNeeds : StateName → World → Type 0
 SetextNeeds (n.HeadingSetext its.Inside) w = w.scratch.size ≤ cells_before w.point
 SetextNeeds _ w = Unit {0}
 
+-- what holds at each state of an underline
+abbrev pub SetextInvariant : StateName → Position → Type 0
+SetextInvariant (n.HeadingSetext its.Inside) x = IsMarked x
+SetextInvariant _ x = IsRest x.scratch
+
 abbrev pub setext_ready : StateName → Position → After → Type 0
-setext_ready (n.HeadingSetext its.Inside) x K = IsMarked x × Ends IsRest IsRest x K
-setext_ready _ x K = rest_ready x K
+setext_ready name x K = SetextInvariant name x × Ends IsRest IsRest x K
 
 abbrev pub setext_rank : StateName → Position → Rank
 setext_rank (n.HeadingSetext its.Start) x = ranked 5 refl

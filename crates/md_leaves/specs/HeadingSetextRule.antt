@@ -1,5 +1,9 @@
 -- The rule of the underline of a setext heading, as what is left of it at each state (CommonMark 4.3).
 use Rattle.std.specs.Prelude.{◌≡◌, ℕ, Bool, false, ◌&&◌, if◌then◌else◌, List, [], ◌∷◌, ◌++◌, drop}
+use Rattle.md_engine.specs.Scheme.{position}
+use Rattle.md_engine.specs.World.{World}
+use Rattle.md_engine.specs.Sees.{IsStep}
+use Rattle.md_engine.specs.declared.state.State.{State}
 use Rattle.md_engine.specs.declared.configuration.ParseOptions.{ParseOptions}
 use Rattle.md_engine.specs.declared.event.Event.{Event}
 use Rattle.md_engine.specs.declared.event.Name.TheVariants.{HeadingSetextUnderline, HeadingSetextUnderlineSequence}
@@ -10,7 +14,7 @@ use Rattle.md_engine.specs.declared.state.heading_setext.State.{State as SetextS
 use Rattle.md_engine.specs.declared.state.heading_setext.State.TheVariants as its
 use Rattle.md_engine.specs.declared.tokenizer.held_leaf.HeldLeaf.TheVariants as held_leaf
 use Rattle.md_engine.specs.Meaning.{Accepts, Behaviour, Cell, Here, Outcome, Refuses}
-use Rattle.md_leaves.specs.HeadingSetext.{is_marker, may_turn, without_marker}
+use Rattle.md_leaves.specs.HeadingSetext.{SetextInvariant, is_marker, may_turn, without_marker}
 use Rattle.md_leaves.specs.LeafStart.{start_at}
 use Rattle.md_leaves.specs.MarkRuns.{Apart, Marks, Run, mark_runs}
 use Rattle.md_seam.specs.Ahead.{HasWhite, begins_white, from_ending, line_bytes, line_cells, line_end, white_end}
@@ -87,6 +91,12 @@ pub record HasSetext (B : Behaviour) (options : ParseOptions) : Type 0 where
   pub white : HasWhite B
   pub each : (state : SetextState) (cells : List Cell) (h : Here) →
       B (n.HeadingSetext state) cells h ≡ setext_behaves options state cells h
+
+-- what a state of an underline means: where what it needs holds, its call is one step of the rule
+unfoldable pub SetextMeans : SetextState → World → State → World → Type 0
+SetextMeans state old to new =
+    SetextInvariant (n.HeadingSetext state) (position old) →
+    IsStep (λ B. HasSetext B old.setting.options) (n.HeadingSetext state) to old new
 
 -- A line as a whole.
 

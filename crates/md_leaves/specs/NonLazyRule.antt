@@ -1,11 +1,15 @@
 -- The rule that a further line is not lazy, as what is left of it at each state (CommonMark 5.1).
 use Rattle.std.specs.Prelude.{◌≡◌, Bool, ◌&&◌, ◌==◌, not, if◌then◌else◌, List, [], ◌∷◌, ◌++◌}
+use Rattle.md_engine.specs.World.{World}
+use Rattle.md_engine.specs.Sees.{Sees}
+use Rattle.md_engine.specs.declared.state.State.TheVariants.{Next}
+use Rattle.md_engine.specs.declared.state.State.{State}
 use Rattle.md_engine.specs.declared.event.Name.TheVariants.{LineEnding}
 use Rattle.md_engine.specs.declared.state.Name.TheVariants as n
 use Rattle.md_engine.specs.declared.state.non_lazy_continuation.State.{State as NonLazyState}
 use Rattle.md_engine.specs.declared.state.non_lazy_continuation.State.TheVariants as its
 use Rattle.md_engine.specs.declared.tokenizer.Line.{Line}
-use Rattle.md_engine.specs.Meaning.{Accepts, Behaviour, Cell, Here, Outcome, Refuses, line_of}
+use Rattle.md_engine.specs.Meaning.{Steps, Feed, Accepts, Behaviour, Cell, Here, Outcome, Refuses, line_of}
 use Rattle.md_seam.specs.Events.Nested.{pair}
 
 -- whether the line of these cells is lazy; where no cell is left, it is what the parent says of the end
@@ -32,3 +36,10 @@ non_lazy_behaves none its.After cells h = after_ending none cells h
 pub record HasNonLazy (B : Behaviour) (none : Line) : Type 0 where
   pub each : (state : NonLazyState) (cells : List Cell) (h : Here) →
       B (n.NonLazyContinuation state) cells h ≡ non_lazy_behaves none state cells h
+
+-- what a state of the check means: where the line that follows is the one of which the parent says whether it is lazy,
+-- its call is one step of the rule
+unfoldable pub NonLazyMeans : NonLazyState → World → State → World → Type 0
+NonLazyMeans state old to new =
+    (none : Line) (B : Behaviour) (feed : Feed) → HasNonLazy B none → Sees feed old →
+    line_of none (feed old.point) ≡ old.setting.line → Steps B feed (Next (n.NonLazyContinuation state)) old to new

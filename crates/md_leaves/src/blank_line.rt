@@ -5,6 +5,8 @@
 // It adds the `SpaceOrTab` of its whitespace, if there is any. The line's ending is not a part of it.
 
 ghost use Rattle.std.specs.Prelude.{◌≡◌, ◌≢◌};
+ghost use Rattle.md_leaves.specs.BlankRule.{BlankMeans};
+ghost use Rattle.md_engine.specs.Full.{IsFull, OnError};
 ghost use Rattle.md_engine.specs.World.{world};
 ghost use Rattle.md_engine.specs.declared.state.Name.{Name as StateName};
 ghost use Rattle.md_engine.specs.declared.state.State.{State};
@@ -39,10 +41,14 @@ pub fn may_begin(first: Option<u8>) -> bool
 /// > |
 ///     ^
 /// ```
+#[tactic(auto, using(crate::proofs::BlankMeaning::blank_rule))]
 pub fn start(tokenizer: &mut Tokenizer) -> State
     requires { IsAt NeedsNothing (StateName.BlankLine BlankState.Start) (world tokenizer.old) }
     ensures to { result ≢ State.Error → result ≡ (start_transition (world tokenizer.old)).to }
     ensures world { result ≢ State.Error → world tokenizer.new ≡ (start_transition (world tokenizer.old)).world }
+    ensures rule { result ≢ State.Error →
+        BlankMeans BlankState.Start (world tokenizer.old) result (world tokenizer.new) }
+    ensures full { OnError result (IsFull tokenizer.new) }
 {
     if is_space_or_tab(tokenizer.current) {
         space_or_tab(
@@ -61,10 +67,12 @@ pub fn start(tokenizer: &mut Tokenizer) -> State
 /// > | a
 ///     ^
 /// ```
+#[tactic(auto, using(crate::proofs::BlankMeaning::blank_rule))]
 pub fn after(tokenizer: &mut Tokenizer) -> State
     requires { IsAt NeedsNothing (StateName.BlankLine BlankState.After) (world tokenizer.old) }
     ensures to { result ≡ (after_transition (world tokenizer.old)).to }
     ensures world { world tokenizer.new ≡ (after_transition (world tokenizer.old)).world }
+    ensures rule { BlankMeans BlankState.After (world tokenizer.old) result (world tokenizer.new) }
 {
     match tokenizer.current {
         None | Some(b'\n') => State::Ok,
@@ -73,10 +81,13 @@ pub fn after(tokenizer: &mut Tokenizer) -> State
 }
 
 /// Calls a state of a blank line.
+#[tactic(auto, using(crate::proofs::BlankMeaning::blank_rule))]
 pub fn call(tokenizer: &mut Tokenizer, state: BlankState) -> State
     requires { IsAt NeedsNothing (StateName.BlankLine state) (world tokenizer.old) }
     ensures to { result ≢ State.Error → result ≡ (blank_transition state (world tokenizer.old)).to }
     ensures world { result ≢ State.Error → world tokenizer.new ≡ (blank_transition state (world tokenizer.old)).world }
+    ensures rule { result ≢ State.Error → BlankMeans state (world tokenizer.old) result (world tokenizer.new) }
+    ensures full { OnError result (IsFull tokenizer.new) }
 {
     match state {
         BlankState::Start => start(tokenizer),

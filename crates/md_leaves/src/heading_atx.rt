@@ -8,6 +8,8 @@
 
 ghost use Rattle.std.specs.Prelude.{◌≡◌, ◌≢◌, [], IfOk, IfSome, None};
 ghost use Rattle.std.specs.Option.{option_map};
+ghost use Rattle.md_leaves.specs.HeadingRule.{HeadingMeans};
+ghost use Rattle.md_engine.specs.Full.{IsFull, OnError};
 ghost use Rattle.md_engine.specs.Found.{found_in};
 ghost use Rattle.md_engine.specs.Going.{SeesOn};
 ghost use Rattle.md_engine.specs.Run.{RunsHere};
@@ -61,10 +63,14 @@ pub fn may_begin(first: Option<u8>) -> bool
 /// > | ## aa
 ///     ^
 /// ```
+#[tactic(auto, using(crate::proofs::HeadingMeaning::heading_rule))]
 pub fn start(tokenizer: &mut Tokenizer) -> State
     requires { IsAt NeedsNothing (StateName.HeadingAtx HeadingState.Start) (world tokenizer.old) }
     ensures to { result ≢ State.Error → result ≡ (start_transition (world tokenizer.old)).to }
     ensures world { result ≢ State.Error → world tokenizer.new ≡ (start_transition (world tokenizer.old)).world }
+    ensures rule { result ≢ State.Error →
+        HeadingMeans HeadingState.Start (world tokenizer.old) result (world tokenizer.new) }
+    ensures full { OnError result (IsFull tokenizer.new) }
 {
     let is_on = tokenizer.options.constructs.heading_atx;
     start_leaf(
@@ -81,10 +87,14 @@ pub fn start(tokenizer: &mut Tokenizer) -> State
 /// > | ## aa
 ///     ^
 /// ```
+#[tactic(auto, using(crate::proofs::HeadingMeaning::heading_rule))]
 pub fn before(tokenizer: &mut Tokenizer) -> State
     requires { IsAt NeedsNothing (StateName.HeadingAtx HeadingState.Before) (world tokenizer.old) }
     ensures to { result ≢ State.Error → result ≡ (before_transition (world tokenizer.old)).to }
     ensures world { result ≢ State.Error → world tokenizer.new ≡ (before_transition (world tokenizer.old)).world }
+    ensures rule { result ≢ State.Error →
+        HeadingMeans HeadingState.Before (world tokenizer.old) result (world tokenizer.new) }
+    ensures full { OnError result (IsFull tokenizer.new) }
 {
     if tokenizer.current == Some(b'#') {
         or_error!(tokenizer.enter(Name::HeadingAtxSequence));
@@ -100,6 +110,7 @@ fn go_on(tokenizer: &mut Tokenizer) -> State
         result ≡ (behind_part (world tokenizer.old) (sees_white tokenizer.old.current)).to }
     ensures world { result ≢ State.Error →
         world tokenizer.new ≡ (behind_part (world tokenizer.old) (sees_white tokenizer.old.current)).world }
+    ensures full { OnError result (IsFull tokenizer.new) }
 {
     if is_space_or_tab(tokenizer.current) {
         space_or_tab(
@@ -118,11 +129,15 @@ fn go_on(tokenizer: &mut Tokenizer) -> State
 /// > | ## aa
 ///     ^^
 /// ```
+#[tactic(auto, using(crate::proofs::HeadingMeaning::heading_rule))]
 pub fn sequence_open(tokenizer: &mut Tokenizer) -> State
     requires { IsAt NeedsNothing (StateName.HeadingAtx HeadingState.SequenceOpen) (world tokenizer.old) }
     ensures to { result ≢ State.Error → result ≡ (sequence_open_transition (world tokenizer.old)).to }
     ensures world { result ≢ State.Error →
         world tokenizer.new ≡ (sequence_open_transition (world tokenizer.old)).world }
+    ensures rule { result ≢ State.Error →
+        HeadingMeans HeadingState.SequenceOpen (world tokenizer.old) result (world tokenizer.new) }
+    ensures full { OnError result (IsFull tokenizer.new) }
 {
     if tokenizer.current == Some(b'#') && tokenizer.scratch.size < OPENING {
         tokenizer.consume();
@@ -145,6 +160,7 @@ pub fn sequence_open(tokenizer: &mut Tokenizer) -> State
 /// > | ## aa ##
 ///        ^  ^ ^
 /// ```
+#[tactic(auto, using(crate::proofs::HeadingMeaning::heading_rule))]
 pub fn at_break(tokenizer: &mut Tokenizer) -> State
     requires { IsAt NeedsNothing (StateName.HeadingAtx HeadingState.AtBreak) (world tokenizer.old) }
     ensures to { result ≢ State.Error →
@@ -155,6 +171,9 @@ pub fn at_break(tokenizer: &mut Tokenizer) -> State
         world tokenizer.new ≡
         (at_break_transition
         (world tokenizer.old)).world }
+    ensures rule { result ≢ State.Error →
+        HeadingMeans HeadingState.AtBreak (world tokenizer.old) result (world tokenizer.new) }
+    ensures full { OnError result (IsFull tokenizer.new) }
 {
     match tokenizer.current {
         None | Some(b'\n') => {
@@ -181,11 +200,15 @@ pub fn at_break(tokenizer: &mut Tokenizer) -> State
 /// > | ## aa ##
 ///           ^^
 /// ```
+#[tactic(auto, using(crate::proofs::HeadingMeaning::heading_rule))]
 pub fn sequence_further(tokenizer: &mut Tokenizer) -> State
     requires { IsAt NeedsNothing (StateName.HeadingAtx HeadingState.SequenceFurther) (world tokenizer.old) }
     ensures to { result ≢ State.Error → result ≡ (sequence_further_transition (world tokenizer.old)).to }
     ensures world { result ≢ State.Error →
         world tokenizer.new ≡ (sequence_further_transition (world tokenizer.old)).world }
+    ensures rule { result ≢ State.Error →
+        HeadingMeans HeadingState.SequenceFurther (world tokenizer.old) result (world tokenizer.new) }
+    ensures full { OnError result (IsFull tokenizer.new) }
 {
     if tokenizer.current == Some(b'#') {
         tokenizer.consume();
@@ -202,10 +225,14 @@ pub fn sequence_further(tokenizer: &mut Tokenizer) -> State
 /// > | ## aa
 ///        ^^
 /// ```
+#[tactic(auto, using(crate::proofs::HeadingMeaning::heading_rule))]
 pub fn data(tokenizer: &mut Tokenizer) -> State
     requires { IsAt NeedsNothing (StateName.HeadingAtx HeadingState.Data) (world tokenizer.old) }
     ensures to { result ≢ State.Error → result ≡ (data_transition (world tokenizer.old)).to }
     ensures world { result ≢ State.Error → world tokenizer.new ≡ (data_transition (world tokenizer.old)).world }
+    ensures rule { result ≢ State.Error →
+        HeadingMeans HeadingState.Data (world tokenizer.old) result (world tokenizer.new) }
+    ensures full { OnError result (IsFull tokenizer.new) }
 {
     match tokenizer.current {
         None | Some(b'\t' | b'\n' | b' ') => {
@@ -242,6 +269,7 @@ pub fn words(tokenizer: &mut Tokenizer) -> State
         RunsHere HeadingStep
         (StateName.HeadingAtx HeadingState.AtBreak) (world tokenizer.old) result (world tokenizer.new) }
     ensures sees { result ≢ State.Error → SeesOn result (world tokenizer.old) (world tokenizer.new) }
+    ensures full { OnError result (IsFull tokenizer.new) }
 {
     while begins_word(tokenizer.current) {
         or_error!(tokenizer.enter_link(Name::Data, TEXT_LINK));
@@ -271,6 +299,7 @@ pub fn opens(tokenizer: &mut Tokenizer) -> State
         RunsHere HeadingStep
         (StateName.HeadingAtx HeadingState.SequenceOpen) (world tokenizer.old) result (world tokenizer.new) }
     ensures sees { result ≢ State.Error → SeesOn result (world tokenizer.old) (world tokenizer.new) }
+    ensures full { OnError result (IsFull tokenizer.new) }
 {
     if is_one_space(tokenizer) {
         tokenizer.scratch.size = 0;
@@ -284,6 +313,7 @@ pub fn opens(tokenizer: &mut Tokenizer) -> State
 
 /// Calls a state of a heading.
 #[inline(always)]
+#[tactic(auto, using(crate::proofs::HeadingMeaning::heading_rule))]
 pub fn call(tokenizer: &mut Tokenizer, state: HeadingState) -> State
     requires { IsAt NeedsNothing (StateName.HeadingAtx state) (world tokenizer.old) }
     ensures to { result ≢ State.Error →
@@ -294,6 +324,8 @@ pub fn call(tokenizer: &mut Tokenizer, state: HeadingState) -> State
         world tokenizer.new ≡
         (heading_transition state
         (world tokenizer.old)).world }
+    ensures rule { result ≢ State.Error → HeadingMeans state (world tokenizer.old) result (world tokenizer.new) }
+    ensures full { OnError result (IsFull tokenizer.new) }
 {
     match state {
         HeadingState::Start => start(tokenizer),

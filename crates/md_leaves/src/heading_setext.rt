@@ -10,6 +10,8 @@
 
 ghost use Rattle.std.specs.Prelude.{◌≡◌, ◌≢◌, ◌&&◌, [], IfOk, IfSome, None};
 ghost use Rattle.std.specs.Option.{option_map};
+ghost use Rattle.md_leaves.specs.HeadingSetextRule.{SetextMeans};
+ghost use Rattle.md_engine.specs.Full.{IsFull, OnError};
 ghost use Rattle.md_engine.specs.Found.{found_in};
 ghost use Rattle.md_engine.specs.Progress.{is_whole};
 ghost use Rattle.md_engine.specs.World.{world};
@@ -94,10 +96,14 @@ pub fn may_begin(first: Option<u8>) -> bool
 /// > | ==
 ///     ^
 /// ```
+#[tactic(auto, using(crate::proofs::SetextMeaning::setext_rule))]
 pub fn start(tokenizer: &mut Tokenizer) -> State
     requires { IsAt SetextNeeds (StateName.HeadingSetext SetextState.Start) (world tokenizer.old) }
     ensures to { result ≢ State.Error → result ≡ (start_transition (world tokenizer.old)).to }
     ensures world { result ≢ State.Error → world tokenizer.new ≡ (start_transition (world tokenizer.old)).world }
+    ensures rule { result ≢ State.Error →
+        SetextMeans SetextState.Start (world tokenizer.old) result (world tokenizer.new) }
+    ensures full { OnError result (IsFull tokenizer.new) }
 {
     let is_on = tokenizer.options.constructs.heading_setext
         && may_turn(tokenizer.options, tokenizer.flags.leaf);
@@ -116,10 +122,14 @@ pub fn start(tokenizer: &mut Tokenizer) -> State
 /// > | ==
 ///     ^
 /// ```
+#[tactic(auto, using(crate::proofs::SetextMeaning::setext_rule))]
 pub fn before(tokenizer: &mut Tokenizer) -> State
     requires { IsAt SetextNeeds (StateName.HeadingSetext SetextState.Before) (world tokenizer.old) }
     ensures to { result ≢ State.Error → result ≡ (before_transition (world tokenizer.old)).to }
     ensures world { result ≢ State.Error → world tokenizer.new ≡ (before_transition (world tokenizer.old)).world }
+    ensures rule { result ≢ State.Error →
+        SetextMeans SetextState.Before (world tokenizer.old) result (world tokenizer.new) }
+    ensures full { OnError result (IsFull tokenizer.new) }
 {
     match tokenizer.current {
         Some(byte) if is_marker(byte) => {
@@ -138,10 +148,14 @@ pub fn before(tokenizer: &mut Tokenizer) -> State
 /// > | ==
 ///     ^^
 /// ```
+#[tactic(auto, using(crate::proofs::SetextMeaning::setext_rule))]
 pub fn inside(tokenizer: &mut Tokenizer) -> State
     requires { IsAt SetextNeeds (StateName.HeadingSetext SetextState.Inside) (world tokenizer.old) }
     ensures to { result ≢ State.Error → result ≡ (inside_transition (world tokenizer.old)).to }
     ensures world { result ≢ State.Error → world tokenizer.new ≡ (inside_transition (world tokenizer.old)).world }
+    ensures rule { result ≢ State.Error →
+        SetextMeans SetextState.Inside (world tokenizer.old) result (world tokenizer.new) }
+    ensures full { OnError result (IsFull tokenizer.new) }
 {
     if tokenizer.current == Some(tokenizer.scratch.marker) {
         tokenizer.consume();
@@ -171,10 +185,14 @@ pub fn inside(tokenizer: &mut Tokenizer) -> State
 /// > | ==
 ///       ^
 /// ```
+#[tactic(auto, using(crate::proofs::SetextMeaning::setext_rule))]
 pub fn after(tokenizer: &mut Tokenizer) -> State
     requires { IsAt SetextNeeds (StateName.HeadingSetext SetextState.After) (world tokenizer.old) }
     ensures to { result ≢ State.Error → result ≡ (after_transition (world tokenizer.old)).to }
     ensures world { result ≢ State.Error → world tokenizer.new ≡ (after_transition (world tokenizer.old)).world }
+    ensures rule { result ≢ State.Error →
+        SetextMeans SetextState.After (world tokenizer.old) result (world tokenizer.new) }
+    ensures full { OnError result (IsFull tokenizer.new) }
 {
     match tokenizer.current {
         None | Some(b'\n') => {
@@ -197,10 +215,13 @@ pub fn takes_at_once(state: SetextState) -> Option<Stay>
 }
 
 /// Calls a state of an underline.
+#[tactic(auto, using(crate::proofs::SetextMeaning::setext_rule))]
 pub fn call(tokenizer: &mut Tokenizer, state: SetextState) -> State
     requires { IsAt SetextNeeds (StateName.HeadingSetext state) (world tokenizer.old) }
     ensures to { result ≢ State.Error → result ≡ (setext_transition state (world tokenizer.old)).to }
     ensures world { result ≢ State.Error → world tokenizer.new ≡ (setext_transition state (world tokenizer.old)).world }
+    ensures rule { result ≢ State.Error → SetextMeans state (world tokenizer.old) result (world tokenizer.new) }
+    ensures full { OnError result (IsFull tokenizer.new) }
 {
     match state {
         SetextState::Start => start(tokenizer),
