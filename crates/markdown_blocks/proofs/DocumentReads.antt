@@ -57,9 +57,9 @@ use Rattle.md_meaning.specs.Preamble.{has_mark}
 use Rattle.md_seam.specs.Look.{looks_behind, may_with}
 use Rattle.md_seam.specs.Spaces.{IsRest, ends_line, is_current, sees_white, white_transition}
 use Rattle.md_registry.specs.Document.{DocumentStep, ReadsFront, document_table_scheme, document_transition}
-use Rattle.md_frame.specs.Front.{FrontRead, body_point, events_of, front_events, front_read, mark_end, point_or}
-use Rattle.md_frame.specs.Front.{text_front}
-use Rattle.md_frame.specs.DocumentRule.{behind_front, document_at, document_behaves}
+use Rattle.md_front_rooms.specs.Front.{FrontRead, body_point, events_of, front_events, front_read, mark_end, point_or}
+use Rattle.md_front_rooms.specs.Front.{text_front}
+use Rattle.md_front_rooms.specs.DocumentRule.{behind_front, document_at, document_behaves}
 use Rattle.md_registry.specs.Flow.{existing_before_code, flow_end_code, opener_transition, trial_code}
 use Rattle.md_registry.specs.Registry.{may_go_on, may_open, opener_at}
 use Rattle.md_rows.specs.TextRows.{text_cells, text_setting}

@@ -19,7 +19,7 @@ use Rattle.md_seam.specs.Substituted.{Substituted}
 use Rattle.md_seam.specs.TextPart.{text_readings, wants_text}
 use Rattle.md_seam.proofs.PlainTiles.{plain-only}
 use Rattle.md_rows.specs.BlockList.{block_list}
-use Rattle.md_frame.specs.Front.{body_point, front_events}
+use Rattle.md_front_rooms.specs.Front.{body_point, front_events}
 use Rattle.md_frame.specs.ReadsPlain.{reads_plain}
 use Rattle.markdown_blocks.specs.Parsed.{IsParsed, IsRead, IsWithoutMdx}
 use Rattle.md_meaning.specs.Wrapped.{IsSmall}

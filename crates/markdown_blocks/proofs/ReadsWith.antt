@@ -34,10 +34,10 @@ use Rattle.md_seam.proofs.PartsLemmas.{tiles-spelled}
 use Rattle.md_seam.proofs.ReachedLemmas.{events-placed}
 use Rattle.md_rows.specs.BlockList.{block_list}
 use Rattle.markdown_blocks.specs.FlowReads.{FlowReads}
-use Rattle.md_frame.specs.Footnotes.{footnotes_listed}
-use Rattle.md_frame.specs.Front.{body_point, front_events}
+use Rattle.md_container_rooms.specs.Footnotes.{footnotes_listed}
+use Rattle.md_front_rooms.specs.Front.{body_point, front_events}
 use Rattle.markdown_blocks.specs.Parsed.{IsRead, IsWithoutMdx}
-use Rattle.md_frame.proofs.FrontUnlinked.{front-stays}
+use Rattle.md_front_rooms.proofs.FrontUnlinked.{front-stays}
 use Rattle.markdown_blocks.proofs.TextBlocks.{HasBlocks, blocks-read, has-blocks, parsed-footnotes, parsed-labels}
 use Rattle.md_frame.proofs.TextItemised.{text-itemised}
 use Rattle.md_frame.proofs.TextQuoted.{text-quoted}

@@ -38,10 +38,10 @@ use Rattle.md_outline.specs.Outlined.{IsOutlined}
 use Rattle.md_seam.proofs.FilledLemmas.{spelled-filled}
 use Rattle.md_seam.proofs.OnLemmas.{tree-on}
 use Rattle.md_rows.specs.BlockList.{block_list}
-use Rattle.md_frame.specs.Front.{body_point, front_events}
+use Rattle.md_front_rooms.specs.Front.{body_point, front_events}
 use Rattle.markdown_blocks.specs.FlowReads.{FlowReads}
 use Rattle.md_rows.specs.TextRows.{text_cells, text_rows}
-use Rattle.md_frame.specs.Footnotes.{footnotes_listed}
+use Rattle.md_container_rooms.specs.Footnotes.{footnotes_listed}
 use Rattle.markdown_blocks.specs.Parsed.{IsWithoutMdx}
 use Rattle.md_frame.specs.Resolving.{resolved}
 use Rattle.md_frame.specs.Row.{Row}
@@ -67,7 +67,7 @@ use Rattle.md_rows.proofs.PartedRows.{rows-parted}
 use Rattle.md_rows.proofs.SpannedGroups.{lines-joined}
 use Rattle.markdown_blocks.proofs.SpelledRows.{rows-outer}
 use Rattle.md_rows.proofs.JoinedLemmas.{EachNoContent, rows_at-no_content}
-use Rattle.md_frame.proofs.ListedOutlined.{listed-outlined}
+use Rattle.md_container_rooms.proofs.ListedOutlined.{listed-outlined}
 use Rattle.md_rows.proofs.Begun.{begun, front-nested, front-spelled, front-unlisted, fronts-defined}
 use Rattle.md_rows.proofs.Begun.{fronts-grouped, fronts-noted, fronts-shallow}
 use Rattle.md_frame.proofs.FillFacts.{fill-same}
@@ -82,7 +82,7 @@ use Rattle.md_rows.proofs.TabledGroups.{tables-set}
 use Rattle.md_rows.proofs.TileCovers.{blocks-cover}
 use Rattle.md_rows.proofs.TileParts.{blocks-chunks, blocks-nested, blocks-stand}
 use Rattle.md_rows.proofs.TileReads.{blocks-empty, end-unread, text-filled}
-use Rattle.md_frame.proofs.ListedFront.{listed-front}
+use Rattle.md_container_rooms.proofs.ListedFront.{listed-front}
 use Rattle.markdown_blocks.proofs.TreeRows.{body-rows, body-shallow, body_of, tree-body}
 
 -- the lines of a text, behind its front

@@ -11,7 +11,7 @@ ghost use Rattle.md_seam.specs.TextPart.{IsTextPart, document_of, text_kind, wan
 ghost use Rattle.md_registry.specs.Document.{ReadsFront};
 ghost use Rattle.md_frame.specs.Joins.{lines_joined, tables_set};
 ghost use Rattle.markdown_blocks.specs.FlowReads.{FlowReads};
-ghost use Rattle.md_frame.specs.Footnotes.{footnotes_listed};
+ghost use Rattle.md_container_rooms.specs.Footnotes.{footnotes_listed};
 ghost use Rattle.markdown_blocks.specs.Parsed.{IsParsed, IsRead, IsWithoutMdx};
 ghost use Rattle.md_meaning.specs.Wrapped.{IsSmall};
 ghost use Rattle.md_frame.specs.Resolving.{stays_alone};

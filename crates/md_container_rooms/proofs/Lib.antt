@@ -1,3 +1,7 @@
 pub mod BlockQuote
 pub mod GfmFootnoteDefinition
 pub mod ListItem
+pub mod ListedOutlined
+pub mod ListedFront
+pub mod GroupedBlocks
+pub mod GroupedDepths

@@ -1,1 +1,2 @@
 pub mod Containers
+pub mod Footnotes

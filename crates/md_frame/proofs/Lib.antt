@@ -17,11 +17,7 @@ pub mod FrontLemmas
 pub mod FrontNames
 pub mod FrontPlaces
 pub mod FrontStands
-pub mod FrontUnlinked
-pub mod FullLines
 pub mod GrammarFronts
-pub mod GroupedBlocks
-pub mod GroupedDepths
 pub mod LastKept
 pub mod LeafFacts
 pub mod LeafLaws
@@ -31,10 +27,7 @@ pub mod LeafStarts
 pub mod LineEnds
 pub mod LineTexts
 pub mod LineWalk
-pub mod ListedFront
-pub mod ListedOutlined
 pub mod IndentRemoved
-pub mod MarkLemmas
 pub mod MarkRuns
 pub mod NestedEvents
 pub mod OneChunk

@@ -4,10 +4,7 @@ pub mod Closed
 pub mod ContainerNames
 pub mod ContainerRules
 pub mod Context
-pub mod DocumentRule
 pub mod EndingName
-pub mod Footnotes
-pub mod Front
 pub mod HeldLeaf
 pub mod Joins
 pub mod Laid

@@ -35,11 +35,11 @@ use Rattle.md_seam.proofs.FeedLines.{front-within, line-feed, past_ending}
 use Rattle.md_seam.proofs.InlineLemmas.{past-index}
 use Rattle.md_seam.proofs.SpacesTermination.{rest-calm}
 use Rattle.md_seam.proofs.RestLines.{count-none}
-use Rattle.md_frame.specs.Front as front
-use Rattle.md_frame.specs.Front.{FrontRead, behind_these, ending_of, ending_part, fence_part, front_from}
-use Rattle.md_frame.specs.Front.{front_read, line_part, lines_read}
-use Rattle.md_frame.proofs.FullLines.{IsLines, LastLine, NextLine, NoLines, ending-is, full-lines, last-ending}
-use Rattle.md_frame.proofs.FullLines.{last-is, line-is}
+use Rattle.md_front_rooms.specs.Front as front
+use Rattle.md_front_rooms.specs.Front.{FrontRead, behind_these, ending_of, ending_part, fence_part, front_from}
+use Rattle.md_front_rooms.specs.Front.{front_read, line_part, lines_read}
+use Rattle.md_front_rooms.proofs.FullLines.{IsLines, LastLine, NextLine, NoLines, ending-is, full-lines, last-ending}
+use Rattle.md_front_rooms.proofs.FullLines.{last-is, line-is}
 use Rattle.md_front_rooms.proofs.Frontmatter.Taken.{around_fence, fence-is, fence_done, not-fence, one-line}
 
 -- All lines.

@@ -1,2 +1,5 @@
 pub mod FrontAgrees
 pub mod Frontmatter
+pub mod FrontUnlinked
+pub mod FullLines
+pub mod MarkLemmas

@@ -26,9 +26,9 @@ use Rattle.md_seam.proofs.NestedLemmas.{at_or_before-trans, balanced-append, for
 use Rattle.md_seam.proofs.PlacesLemmas.{all-append}
 use Rattle.md_seam.proofs.SpelledLemmas.{read-from}
 use Rattle.md_seam.proofs.InlineLemmas.{past-index}
-use Rattle.md_frame.specs.Front.{FrontRead, body_point, events_of, front_events, front_read, mark_end}
-use Rattle.md_frame.specs.Front.{mark_events}
-use Rattle.md_frame.specs.Front.{mark_point, point_or, text_front}
+use Rattle.md_front_rooms.specs.Front.{FrontRead, body_point, events_of, front_events, front_read, mark_end}
+use Rattle.md_front_rooms.specs.Front.{mark_events}
+use Rattle.md_front_rooms.specs.Front.{mark_point, point_or, text_front}
 use Rattle.md_frame.proofs.BetweenFacts.{between-end, ending-behind}
 use Rattle.md_front_rooms.proofs.Frontmatter.Found.{AtEnd, Ended, FrontMeans, Here, Tail, front-means}
 use Rattle.md_front_rooms.proofs.Frontmatter.Lines.{Closes, IsFront, IsRest, More}
@@ -36,7 +36,7 @@ use Rattle.md_front_rooms.proofs.Frontmatter.Parts.{end-whole}
 use Rattle.md_front_rooms.proofs.Frontmatter.Whole.{FrontPart, IsFronted, block_first, front-fronted, mark-fronted}
 use Rattle.md_front_rooms.proofs.Frontmatter.Shifted.{read-behind}
 use Rattle.md_content_rooms.proofs.Labels.Trees.{defined_in, noted_in}
-use Rattle.md_frame.proofs.MarkLemmas.{body-between, body-column, body-index, body-vs, without-mark}
+use Rattle.md_front_rooms.proofs.MarkLemmas.{body-between, body-column, body-index, body-vs, without-mark}
 use Rattle.md_frame.proofs.PlainTells.{all-tell}
 use Rattle.md_frame.proofs.SpanLemmas.{Nested_in}
 

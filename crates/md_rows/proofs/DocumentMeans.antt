@@ -27,7 +27,7 @@ use Rattle.md_seam.proofs.WhiteMeaning.{white_means}
 use Rattle.md_registry.specs.Document.{DocumentStep, before_frontmatter_transition}
 use Rattle.md_registry.specs.Document.{document_own_transition, document_table_scheme}
 use Rattle.md_registry.specs.Document.{document_transition, start_transition}
-use Rattle.md_frame.specs.DocumentRule.{document_behaves}
+use Rattle.md_front_rooms.specs.DocumentRule.{document_behaves}
 use Rattle.md_frame.specs.Rule.{tried}
 use Rattle.md_registry.proofs.DocumentStates.{document_terminates}
 

@@ -36,7 +36,7 @@ use Rattle.md_frame.proofs.FrontNames.{ends-no_parts, ends-unlinked}
 use Rattle.md_rows.specs.Rows.{group_ending, is_blank_group}
 use Rattle.std.proofs.Common.{◌≤◌, ◌<◌, ◌^◌, arith}
 use Rattle.md_seam.proofs.FeedLines.{feed-none}
-use Rattle.md_frame.specs.Front.{body_point, front_events, text_front}
+use Rattle.md_front_rooms.specs.Front.{body_point, front_events, text_front}
 use Rattle.md_rows.specs.Rows.{rows_at}
 use Rattle.md_rows.specs.TextRows.{text_setting}
 

@@ -34,7 +34,7 @@ use Rattle.md_literal_rooms.proofs.FenceFurther.Names.{either-name, parts-inside
 use Rattle.md_frame.proofs.FrontNames.{fronts-prefixes}
 use Rattle.md_table_rooms.proofs.GfmTable.Span.{table-begins}
 use Rattle.md_table_rooms.proofs.GfmTable.TableUnread.{prefix-free}
-use Rattle.md_frame.proofs.GroupedBlocks.{no-table}
+use Rattle.md_container_rooms.proofs.GroupedBlocks.{no-table}
 use Rattle.md_leaf_rooms.proofs.HeadingSetext.Line.{underline-each}
 use Rattle.md_frame.proofs.IndentRemoved.Names.{AreInside, is_inside}
 use Rattle.md_frame.proofs.PrefixNames.{IsNamed}

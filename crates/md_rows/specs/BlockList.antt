@@ -14,7 +14,7 @@ use Rattle.md_engine.specs.declared.event.Event.{Event}
 use Rattle.md_engine.specs.declared.event.Name.TheVariants as n
 use Rattle.md_containers.specs.Listed.{listed}
 use Rattle.md_seam.specs.Events.Nested.{around}
-use Rattle.md_frame.specs.Front.{body_point, front_events}
+use Rattle.md_front_rooms.specs.Front.{body_point, front_events}
 use Rattle.md_frame.specs.TextLines.{text_leaf}
 use Rattle.md_frame.specs.Row.{Row, RowKind, defined_unread, headed_unread, turned_by, span_by, ending_of}
 use Rattle.md_frame.specs.Row.{last_row}

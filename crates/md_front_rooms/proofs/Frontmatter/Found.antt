@@ -19,14 +19,14 @@ use Rattle.md_seam.specs.Events.Nested.{around, enter, exit, pair}
 use Rattle.md_seam.specs.Events.Places.{past_text}
 use Rattle.md_seam.proofs.FeedLines.{drop-past, is-ending, past_ending}
 use Rattle.md_seam.proofs.InlineLemmas.{past-index}
-use Rattle.md_frame.specs.Front.{FrontRead, behind_these, ending_of, fence_part, front_from}
-use Rattle.md_frame.specs.Front.{front_read, line_part, lines_read}
+use Rattle.md_front_rooms.specs.Front.{FrontRead, behind_these, ending_of, fence_part, front_from}
+use Rattle.md_front_rooms.specs.Front.{front_read, line_part, lines_read}
 use Rattle.md_front_rooms.proofs.FrontAgrees as agrees
 use Rattle.md_front_rooms.proofs.FrontAgrees.{from-by, last-none, lines_from, marked, marker_by, off-none, part-same}
 use Rattle.md_front_rooms.proofs.FrontAgrees.{past-same}
 use Rattle.md_front_rooms.proofs.FrontAgrees.{some-same}
-use Rattle.md_frame.proofs.FullLines.{IsLines, LastLine, NextLine, NoLines, ending-is, full-lines, last-ending}
-use Rattle.md_frame.proofs.FullLines.{last-is, line-is}
+use Rattle.md_front_rooms.proofs.FullLines.{IsLines, LastLine, NextLine, NoLines, ending-is, full-lines, last-ending}
+use Rattle.md_front_rooms.proofs.FullLines.{last-is, line-is}
 use Rattle.md_front_rooms.proofs.Frontmatter.Lines.{Closes, IsFront, IsRest, More}
 use Rattle.md_front_rooms.proofs.Frontmatter.Parts.{HasText, fence_over, has-fence}
 use Rattle.md_seam.proofs.FeedLines.{IsEnding}

@@ -34,7 +34,7 @@ use Rattle.md_seam.proofs.FeedLines.{NoFeed, Stops, all-spread, bytes_of, no_fee
 use Rattle.md_seam.proofs.FeedLines.{spread-end, stops-white}
 use Rattle.md_seam.proofs.InlineLemmas.{past_text-append}
 use Rattle.md_seam.proofs.RestLines.{blank-spread, count-none}
-use Rattle.md_frame.specs.Front.{fence_part, line_part}
+use Rattle.md_front_rooms.specs.Front.{fence_part, line_part}
 use Rattle.md_frame.specs.LineColumns.{part_over}
 
 -- What marks a fence is a byte of its own.

@@ -32,7 +32,7 @@ use Rattle.md_seam.proofs.GrammarLemmas.{leads-around}
 use Rattle.md_seam.proofs.NestedLemmas.{at_or_before-refl, balanced-none}
 use Rattle.md_seam.proofs.InlineLemmas.{same-refl}
 use Rattle.md_seam.proofs.SpelledLemmas.{read-from, read-quiet}
-use Rattle.md_frame.specs.Front.{mark_end, mark_events, mark_point}
+use Rattle.md_front_rooms.specs.Front.{mark_end, mark_events, mark_point}
 use Rattle.md_frame.proofs.BetweenFacts.{AreBetween, around-between, between-append, between-end, between-pair}
 use Rattle.md_frame.proofs.BetweenFacts.{ending-before, ending-behind}
 use Rattle.md_frame.proofs.ChunkFacts.{ending-stands, line-ending}
@@ -43,7 +43,7 @@ use Rattle.md_front_rooms.proofs.Frontmatter.Lines.{IsFront, front-fills, front-
 use Rattle.md_front_rooms.proofs.Frontmatter.Parts.{front_leaf, text_line}
 use Rattle.md_frame.proofs.LeafStands.{around-unlisted, between-stand, leaf-stands, unlisted-both}
 use Rattle.md_frame.proofs.IndentRemoved.Shown.{whole-clear}
-use Rattle.md_frame.proofs.MarkLemmas.{between-mark, body-between, body-vs}
+use Rattle.md_front_rooms.proofs.MarkLemmas.{between-mark, body-between, body-vs}
 use Rattle.md_frame.proofs.PartedFacts.{PrefixesAtLineStart, around-sits, clear, sits-append}
 use Rattle.md_frame.proofs.PartsStand.{PartsWhole, stands-around, stands-outside}
 use Rattle.md_frame.proofs.PartsStand as parts

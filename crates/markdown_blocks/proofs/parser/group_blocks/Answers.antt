@@ -3,7 +3,7 @@ use Rattle.std.specs.List.{prefix_len}
 use Rattle.md_engine.specs.declared.event.Event.{Event}
 use Rattle.md_engine.specs.World.{World, world}
 use Rattle.md_frame.specs.Resolving.{stays_alone}
-use Rattle.md_frame.proofs.GroupedBlocks.{all-alone}
+use Rattle.md_container_rooms.proofs.GroupedBlocks.{all-alone}
 use Rattle.markdown_blocks.proofs.parser.group_blocks.Goals as goal
 
 pub returns-then-until_grouped-len : goal.returns-then-until_grouped-len

@@ -5,7 +5,7 @@ use Rattle.md_engine.specs.World.{Setting, World, world}
 use Rattle.md_engine.specs.declared.event.Event.{Event}
 use Rattle.md_engine.specs.declared.parse_state.ParseState.{ParseState}
 use Rattle.md_seam.specs.TextPart.{document_of}
-use Rattle.md_frame.specs.Footnotes.{footnotes_listed}
+use Rattle.md_container_rooms.specs.Footnotes.{footnotes_listed}
 use Rattle.markdown_blocks.specs.Parsed.{IsRead}
 use Rattle.markdown_blocks.proofs.ReadsWith.{IsAhead, parts-asked, reads-with}
 use Rattle.markdown_blocks.proofs.parser.parse_with.Given.{Over}

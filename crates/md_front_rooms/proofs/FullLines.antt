@@ -8,7 +8,7 @@ use Rattle.std.proofs.lemmas.Bool.{eqb-true}
 use Rattle.std.proofs.lemmas.List.Sums.{take_while-cons}
 use Rattle.md_meaning.specs.Lines.{begins_with, full_lines_of, is_ending, without_ending}
 use Rattle.md_meaning.proofs.TextsLemmas.{Both, Ending, EndsBefore, LineFeed, NoEnding, Return, ending_bytes}
-use Rattle.md_frame.specs.Front.{ending_of}
+use Rattle.md_front_rooms.specs.Front.{ending_of}
 
 -- What the lines of a text are: none, one without an ending, or one with its ending and those behind it.
 pub data IsLines : List ℕ → List (List ℕ) → Type 0 where

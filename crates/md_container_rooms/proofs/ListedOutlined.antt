@@ -42,7 +42,7 @@ use Rattle.md_outline.specs.Outlined.{IsOutlined, IsUnlisted, OpenTextSpan, are_
 use Rattle.md_outline.specs.Outlined.{parts_by, span_by, tells_between}
 use Rattle.md_outline.specs.Roles.{is_shown, is_told}
 use Rattle.md_outline.proofs.OutlineLemmas.{all-between, names-shown}
-use Rattle.md_frame.proofs.GroupedDepths.{grouped-shallow}
+use Rattle.md_container_rooms.proofs.GroupedDepths.{grouped-shallow}
 
 -- What holds of all events.
 

@@ -5,7 +5,7 @@ use Rattle.md_engine.specs.Place.{IsPlaced, IsReached, first_point, walked}
 use Rattle.md_meaning.specs.Preamble.{has_mark, without_mark}
 use Rattle.md_meaning.proofs.PreambleLemmas.{mark-length}
 use Rattle.md_outline.specs.Between.{is_between}
-use Rattle.md_frame.specs.Front.{mark_point, mark_end}
+use Rattle.md_front_rooms.specs.Front.{mark_point, mark_end}
 
 -- The text.
 
