@@ -1,7 +1,7 @@
 // The constructs, one module each.
 
 pub use md_code::{code_indented, raw_flow};
-pub use md_containers::{block_quote, gfm_footnote_definition, list_item};
+pub use md_containers::{block_quote, frontmatter, gfm_footnote_definition, list_item};
 pub use md_content::{content, paragraph};
 pub use md_flow::{document, flow};
 pub use md_html::html_flow;
@@ -9,3 +9,5 @@ pub use md_leaves::{
     blank_line, heading_atx, heading_setext, partial_bom, partial_non_lazy_continuation,
     thematic_break,
 };
+pub use md_link_definitions::definition;
+pub use md_tables::gfm_table;

@@ -2,9 +2,11 @@
 #![tactic(auto)]
 
 pub mod construct;
+pub mod engine;
 pub mod label;
 pub mod parser;
 pub mod plain;
+pub mod seam;
 
 pub use md_engine::{configuration, event, message, state, subtokenize, table, tokenizer};
 pub use md_flow::resolve;
