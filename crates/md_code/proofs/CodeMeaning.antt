@@ -9,6 +9,7 @@ use Rattle.md_engine.specs.declared.configuration.ParseOptions.{ParseOptions}
 use Rattle.md_engine.specs.declared.event.Event.{Event}
 use Rattle.md_engine.specs.declared.event.Name.TheVariants.{CodeFlowChunk, CodeIndented, SpaceOrTab}
 use Rattle.md_engine.specs.declared.state.Name.TheVariants as n
+use Rattle.md_engine.specs.declared.state.State.{State}
 use Rattle.md_engine.specs.declared.state.State.TheVariants.{Next, Ok}
 use Rattle.md_engine.specs.declared.state.code_indented.State.{State as CodeState}
 use Rattle.md_engine.specs.declared.state.code_indented.State.TheVariants as its
@@ -20,10 +21,10 @@ use Rattle.md_engine.specs.Meaning.{restored}
 use Rattle.md_engine.specs.Meaning.{resume}
 use Rattle.md_engine.specs.World.{World, after}
 use Rattle.md_engine.specs.Sees.{Sees, ahead, cell_here}
-use Rattle.md_engine.proofs.StepOf.{begins, begins_only, moves, passes}
+use Rattle.md_engine.proofs.StepOf.{begins, begins_only, moves, passes, steps-as}
 use Rattle.md_code.specs.Code.{begun_code, blank_noted, code_transition, further_after_code, further_begin_code}
 use Rattle.md_code.specs.Code.{further_inside_code, inside_blank_code, inside_code}
-use Rattle.md_code.specs.CodeRule.{HasCode, at_break, behind_columns, blank_ends, code_ends, further_after}
+use Rattle.md_code.specs.CodeRule.{CodeMeans, HasCode, at_break, behind_columns, blank_ends, code_ends, further_after}
 use Rattle.md_code.specs.CodeRule.{further_begin, further_inside, further_line, in_blank, in_text, is_indented}
 use Rattle.md_code.specs.CodeRule.{line_at, or_blank, then_here}
 use Rattle.md_leaves.specs.Further.{further_link}
@@ -326,3 +327,10 @@ code_means B feed its.FurtherLine w has s r =
 code_means B feed its.FurtherBegin w has s r = further_begin_means B _ feed w _ has s refl
 code_means B feed its.FurtherAfter w has s r = further_after_means B _ feed w _ has s refl
 code_means B feed its.FurtherInside w has s r = further_inside_means B _ feed w _ _ has s refl refl
+
+-- what answers as the transition of a state does means what the state means
+pub code_rule : (state : CodeState) (w new : World) (to : State) → to ≡ (code_transition state w).to →
+    new ≡ (code_transition state w).world → CodeMeans state w to new
+unfolding CodeMeans
+code_rule state w new to e k at B feed has s =
+    steps-as B feed _ _ to w _ new e k (code_means B feed state w has s at)

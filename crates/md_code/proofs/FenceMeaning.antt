@@ -13,6 +13,7 @@ use Rattle.md_engine.specs.declared.state.Name.{Name as StateName}
 use Rattle.md_engine.specs.declared.state.Name.TheVariants as n
 use Rattle.md_engine.specs.declared.state.raw_flow.State.{State as RawState}
 use Rattle.md_engine.specs.declared.state.raw_flow.State.TheVariants as its
+use Rattle.md_engine.specs.declared.state.State.{State}
 use Rattle.md_engine.specs.declared.state.State.TheVariants.{Nok, Next, Retry}
 use Rattle.md_engine.specs.declared.tokenizer.Frame.{Frame}
 use Rattle.md_engine.specs.declared.tokenizer.Scratch.{Scratch}
@@ -21,17 +22,17 @@ use Rattle.md_engine.specs.Meaning.{resume}
 use Rattle.md_engine.specs.Scheme.{After, position}
 use Rattle.md_engine.specs.World.{World, after}
 use Rattle.md_engine.specs.Sees.{Sees, ahead, cell_here}
-use Rattle.md_engine.proofs.StepOf.{begins, moves, passes}
+use Rattle.md_engine.proofs.StepOf.{begins, moves, passes, steps-as}
 use Rattle.md_meaning.specs.Leaves.{is_fence_marker, least_size}
 use Rattle.md_meaning.specs.Rest.{is_white}
-use Rattle.md_code.specs.Fence.{after_transition, at_non_lazy_break_code, before_chunk_code, before_close_code}
+use Rattle.md_code.specs.Fence.{FenceInvariant, after_transition, at_non_lazy_break_code, before_chunk_code, before_close_code}
 use Rattle.md_code.specs.Fence.{before_open, before_open_code, behind_part, block_name, chunk_code}
 use Rattle.md_code.specs.Fence.{chunk_name, cleared, close_after_code, close_start_code, content_start_code, ends_word}
 use Rattle.md_code.specs.Fence.{fence_name, fence_ready, fence_transition, held_indent, held_marker, held_size}
 use Rattle.md_code.specs.Fence.{info_before_code, info_code, is_on, is_refused, line_entered, may_close}
 use Rattle.md_code.specs.Fence.{meta_before_code, meta_code, meta_name, sees_refused, sequence_close_code}
 use Rattle.md_code.specs.Fence.{sequence_name, sequence_open_code, start_code, string_link}
-use Rattle.md_code.specs.FenceRule.{HasFence, before_chunk, before_close, before_info, before_meta, before_sequence}
+use Rattle.md_code.specs.FenceRule.{FenceMeans, HasFence, before_chunk, before_close, before_info, before_meta, before_sequence}
 use Rattle.md_code.specs.FenceRule.{behind_sequence, behind_white_of, block_begun, close_at, close_end}
 use Rattle.md_code.specs.FenceRule.{closed_or_content, content_at, fence_at, further_at, in_chunk}
 use Rattle.md_code.specs.FenceRule.{in_close, in_info, in_meta, in_sequence, is_end, is_line, is_word, line_begun}
@@ -746,26 +747,39 @@ chunk_means B feed w false has s e =
     ∙ chunk-more (cell_here feed w saw.0) (feed (after w.setting w.point)) (here w) saw.2
     ∙ sym (has.each its.ContentChunk _ _))
 
--- each state of fenced code and math
+-- each state of fenced code and math takes one step of its rule
+fence_steps : (B : Behaviour) (feed : Feed) (state : RawState) (w : World) → HasFence B w.setting.options →
+    Sees feed w → FenceInvariant (n.RawFlow state) (position w) →
+    Steps B feed (Next (n.RawFlow state)) w (fence_transition state w).to (fence_transition state w).world
+fence_steps B feed its.Start w has s at = fence_start_means B feed w _ _ has s refl refl
+fence_steps B feed its.BeforeSequenceOpen w has s at = before_open_means B feed w has s
+fence_steps B feed its.SequenceOpen w has s at = sequence_means B feed w _ _ _ has s refl refl refl
+fence_steps B feed its.InfoBefore w has s at = info_before_means B feed w _ _ has s refl refl
+fence_steps B feed its.Info w has s at = info_means B feed w _ _ _ has s refl refl refl
+fence_steps B feed its.MetaBefore w has s at = meta_before_means B feed w _ _ has s refl refl
+fence_steps B feed its.Meta w has s at = meta_means B feed w _ _ has s refl refl
+fence_steps B feed its.AtNonLazyBreak w has s at = further_means B feed w _ has s at refl
+fence_steps B feed its.CloseStart w has s at = close_start_means B feed w _ has s refl
+fence_steps B feed its.BeforeSequenceClose w has s at = before_close_means B feed w _ has s refl
+fence_steps B feed its.SequenceClose w has s at = close_means B feed w _ _ _ has s refl refl refl
+fence_steps B feed its.SequenceCloseAfter w has s at = close_after_means B feed w _ has s refl
+fence_steps B feed its.ContentBefore w has s at = absurd at
+fence_steps B feed its.ContentStart w has s at = content_start_means B feed w _ has s refl
+fence_steps B feed its.BeforeContentChunk w has s at = before_chunk_means B feed w _ has s refl
+fence_steps B feed its.ContentChunk w has s at = chunk_means B feed w _ has s refl
+fence_steps B feed its.After w has s at =
+    moves B feed _ _ w (after_transition w).world (exit (block_name (held_marker w.flags.leaf)) w.point ∷ []) refl refl
+    (has.each its.After _ _)
+
+-- and so where its attempts end as they have to
 pub fence_means : (B : Behaviour) (feed : Feed) (state : RawState) (w : World) (K : After) →
     HasFence B w.setting.options → Sees feed w → fence_ready (n.RawFlow state) (position w) K →
     Steps B feed (Next (n.RawFlow state)) w (fence_transition state w).to (fence_transition state w).world
-fence_means B feed its.Start w K has s at = fence_start_means B feed w _ _ has s refl refl
-fence_means B feed its.BeforeSequenceOpen w K has s at = before_open_means B feed w has s
-fence_means B feed its.SequenceOpen w K has s at = sequence_means B feed w _ _ _ has s refl refl refl
-fence_means B feed its.InfoBefore w K has s at = info_before_means B feed w _ _ has s refl refl
-fence_means B feed its.Info w K has s at = info_means B feed w _ _ _ has s refl refl refl
-fence_means B feed its.MetaBefore w K has s at = meta_before_means B feed w _ _ has s refl refl
-fence_means B feed its.Meta w K has s at = meta_means B feed w _ _ has s refl refl
-fence_means B feed its.AtNonLazyBreak w K has s at = further_means B feed w _ has s at.0 refl
-fence_means B feed its.CloseStart w K has s at = close_start_means B feed w _ has s refl
-fence_means B feed its.BeforeSequenceClose w K has s at = before_close_means B feed w _ has s refl
-fence_means B feed its.SequenceClose w K has s at = close_means B feed w _ _ _ has s refl refl refl
-fence_means B feed its.SequenceCloseAfter w K has s at = close_after_means B feed w _ has s refl
-fence_means B feed its.ContentBefore w K has s at = absurd at
-fence_means B feed its.ContentStart w K has s at = content_start_means B feed w _ has s refl
-fence_means B feed its.BeforeContentChunk w K has s at = before_chunk_means B feed w _ has s refl
-fence_means B feed its.ContentChunk w K has s at = chunk_means B feed w _ has s refl
-fence_means B feed its.After w K has s at =
-    moves B feed _ _ w (after_transition w).world (exit (block_name (held_marker w.flags.leaf)) w.point ∷ []) refl refl
-    (has.each its.After _ _)
+fence_means B feed state w K has s at = fence_steps B feed state w has s at.0
+
+-- what answers as the transition of a state does means what the state means
+pub fence_rule : (state : RawState) (w new : World) (to : State) → to ≡ (fence_transition state w).to →
+    new ≡ (fence_transition state w).world → FenceMeans state w to new
+unfolding FenceMeans
+fence_rule state w new to e k at B feed has s =
+    steps-as B feed _ _ to w _ new e k (fence_steps B feed state w has s at)

@@ -9,11 +9,11 @@ use Rattle.md_engine.specs.declared.state.code_indented.State.TheVariants as its
 use Rattle.md_engine.specs.declared.state.State.TheVariants.{Ok, Nok, Next, Retry}
 use Rattle.md_engine.specs.declared.tokenizer.held_leaf.HeldLeaf.{HeldLeaf}
 use Rattle.md_engine.specs.declared.tokenizer.held_leaf.HeldLeaf.TheVariants as held_leaf
-use Rattle.md_engine.specs.Scheme.{Rank, Scheme, Position, ranked}
+use Rattle.md_engine.specs.Scheme.{After, Ends, Rank, Scheme, Position, ranked}
 use Rattle.md_engine.specs.World.{World}
 use Rattle.md_leaves.specs.Further.{further_link}
 use Rattle.md_seam.specs.Events.Nested.{enter, enter_link}
-use Rattle.md_seam.specs.Spaces.{ends_line, rest_ready, sees_white, white_then}
+use Rattle.md_seam.specs.Spaces.{IsRest, ends_line, sees_white, white_then}
 use Rattle.md_seam.specs.Transition.{Transition, entered, exited, taken, tried}
 
 -- whether code may begin where this leaf is open: text is not interrupted, and any other leaf has ended before
@@ -111,7 +111,14 @@ code_transition its.FurtherBegin w = further_begin_transition w
 code_transition its.FurtherAfter w = further_after_transition w
 code_transition its.FurtherInside w = further_inside_transition w
 
--- code begins and ends at rest; a further line is tried as a line of code
+-- each state of code is at rest
+abbrev pub CodeInvariant : StateName → Position → Type 0
+CodeInvariant name x = IsRest x.scratch
+
+abbrev pub code_ready : StateName → Position → After → Type 0
+code_ready name x K = CodeInvariant name x × Ends IsRest IsRest x K
+
+-- a further line is tried as a line of code
 abbrev pub code_level : StateName → ℕ
 code_level (n.CodeIndented its.FurtherStart) = 2
 code_level _ = 1
@@ -133,4 +140,4 @@ code_tries (n.CodeIndented its.FurtherAfter) = ranked 2 refl
 code_tries _ = ranked 5 refl
 
 abbrev pub code_scheme : Scheme
-code_scheme = record { ready = λ n x K. rest_ready x K; level = code_level; rank = code_rank; tries = code_tries }
+code_scheme = record { ready = code_ready; level = code_level; rank = code_rank; tries = code_tries }

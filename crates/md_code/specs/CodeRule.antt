@@ -10,8 +10,12 @@ use Rattle.md_engine.specs.declared.state.code_indented.State.{State as CodeStat
 use Rattle.md_engine.specs.declared.state.code_indented.State.TheVariants as its
 use Rattle.md_engine.specs.declared.tokenizer.held_leaf.HeldLeaf.{HeldLeaf}
 use Rattle.md_engine.specs.declared.tokenizer.held_leaf.HeldLeaf.TheVariants as held_leaf
+use Rattle.md_engine.specs.declared.state.State.{State}
 use Rattle.md_engine.specs.Meaning.{Accepts, Behaviour, Cell, Here, Outcome, Refuses}
-use Rattle.md_code.specs.Code.{may_open}
+use Rattle.md_engine.specs.Scheme.{position}
+use Rattle.md_engine.specs.Sees.{IsStep}
+use Rattle.md_engine.specs.World.{World}
+use Rattle.md_code.specs.Code.{CodeInvariant, may_open}
 use Rattle.md_leaves.specs.Further.{further_link}
 use Rattle.md_seam.specs.Ahead.{HasWhite, begins_white, from_ending, line_bytes, line_end, white_end, white_rest}
 use Rattle.md_seam.specs.Ahead.{white_size}
@@ -120,6 +124,12 @@ pub record HasCode (B : Behaviour) (options : ParseOptions) : Type 0 where
   pub white : HasWhite B
   pub each : (state : CodeState) (cells : List Cell) (h : Here) →
       B (n.CodeIndented state) cells h ≡ code_behaves options state cells h
+
+-- what a state of code means: where what it needs holds, its call is one step of the rule
+unfoldable pub CodeMeans : CodeState → World → State → World → Type 0
+CodeMeans state old to new =
+    CodeInvariant (n.CodeIndented state) (position old) →
+    IsStep (λ B. HasCode B old.setting.options) (n.CodeIndented state) to old new
 
 -- A line as a whole.
 

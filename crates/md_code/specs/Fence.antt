@@ -18,7 +18,7 @@ use Rattle.md_engine.specs.Scheme.{After, Ends, Rank, Scheme, Position, cells_be
 use Rattle.md_engine.specs.World.{World}
 use Rattle.md_meaning.specs.Leaves.{is_fence_marker, least_size}
 use Rattle.md_leaves.specs.Further.{further_link}
-use Rattle.md_seam.specs.Spaces.{any_size, ends_line, IsRest, is_current, rest_ready, sees_white, small_indent, white_then}
+use Rattle.md_seam.specs.Spaces.{any_size, ends_line, IsRest, is_current, sees_white, small_indent, white_then}
 use Rattle.md_seam.specs.Transition.{Transition, entered, entered_link, exited, taken, tried}
 
 -- what may stand first behind the indent of an opening fence
@@ -337,22 +337,25 @@ pub record IsFence (x : Position) : Type 0 where
   pub size : x.scratch.size ≤ cells_before x.point
   pub rest : IsRest (cleared x.scratch)
 
+-- what holds at each state of a fence; no tokenizer is in front of a line ending
+abbrev pub FenceInvariant : StateName → Position → Type 0
+FenceInvariant (n.RawFlow its.BeforeSequenceOpen) x = IsFence x
+FenceInvariant (n.RawFlow its.SequenceOpen) x = IsFence x
+FenceInvariant (n.RawFlow its.InfoBefore) x = IsFence x
+FenceInvariant (n.RawFlow its.Info) x = IsFence x
+FenceInvariant (n.RawFlow its.MetaBefore) x = IsFence x
+FenceInvariant (n.RawFlow its.Meta) x = IsFence x
+FenceInvariant (n.RawFlow its.CloseStart) x = IsFence x
+FenceInvariant (n.RawFlow its.BeforeSequenceClose) x = IsFence x
+FenceInvariant (n.RawFlow its.SequenceClose) x = IsFence x
+FenceInvariant (n.RawFlow its.ContentBefore) x = ⊥
+FenceInvariant _ x = IsRest x.scratch
+
 abbrev pub in_fence : Position → After → Type 0
 in_fence x K = IsFence x × Ends IsRest IsRest x K
 
--- no tokenizer stands in front of a line ending
 abbrev pub fence_ready : StateName → Position → After → Type 0
-fence_ready (n.RawFlow its.BeforeSequenceOpen) x K = in_fence x K
-fence_ready (n.RawFlow its.SequenceOpen) x K = in_fence x K
-fence_ready (n.RawFlow its.InfoBefore) x K = in_fence x K
-fence_ready (n.RawFlow its.Info) x K = in_fence x K
-fence_ready (n.RawFlow its.MetaBefore) x K = in_fence x K
-fence_ready (n.RawFlow its.Meta) x K = in_fence x K
-fence_ready (n.RawFlow its.CloseStart) x K = in_fence x K
-fence_ready (n.RawFlow its.BeforeSequenceClose) x K = in_fence x K
-fence_ready (n.RawFlow its.SequenceClose) x K = in_fence x K
-fence_ready (n.RawFlow its.ContentBefore) x K = ⊥
-fence_ready _ x K = rest_ready x K
+fence_ready name x K = FenceInvariant name x × Ends IsRest IsRest x K
 
 -- a further line tries a closing fence
 abbrev pub fence_level : StateName → ℕ

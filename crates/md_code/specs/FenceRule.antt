@@ -10,10 +10,14 @@ use Rattle.md_engine.specs.declared.state.Name.TheVariants as n
 use Rattle.md_engine.specs.declared.state.raw_flow.State.{State as RawState}
 use Rattle.md_engine.specs.declared.state.raw_flow.State.TheVariants as its
 use Rattle.md_engine.specs.declared.tokenizer.held_leaf.HeldLeaf.TheVariants as held_leaf
+use Rattle.md_engine.specs.declared.state.State.{State}
 use Rattle.md_engine.specs.Meaning.{Accepts, Behaviour, Cell, Fails, Here, Outcome, Refuses}
+use Rattle.md_engine.specs.Scheme.{position}
+use Rattle.md_engine.specs.Sees.{IsStep}
+use Rattle.md_engine.specs.World.{World}
 use Rattle.md_meaning.specs.Leaves.{is_fence_marker, least_size}
 use Rattle.md_meaning.specs.Rest.{is_white}
-use Rattle.md_code.specs.Fence.{block_name, chunk_name, cleared, fence_name, held_indent, held_marker, held_size, is_on}
+use Rattle.md_code.specs.Fence.{FenceInvariant, block_name, chunk_name, cleared, fence_name, held_indent, held_marker, held_size, is_on}
 use Rattle.md_code.specs.Fence.{is_refused, meta_name, sequence_name, string_link}
 use Rattle.md_leaves.specs.Further.{further_link}
 use Rattle.md_seam.specs.Ahead.{HasWhite, begins_white, white_end, white_rest}
@@ -279,3 +283,9 @@ pub record HasFence (B : Behaviour) (options : ParseOptions) : Type 0 where
   pub white : HasWhite B
   pub each : (state : RawState) (cells : List Cell) (h : Here) →
       B (n.RawFlow state) cells h ≡ fence_behaves options state cells h
+
+-- what a state of a fence means: where what it needs holds, its call is one step of the rule
+unfoldable pub FenceMeans : RawState → World → State → World → Type 0
+FenceMeans state old to new =
+    FenceInvariant (n.RawFlow state) (position old) →
+    IsStep (λ B. HasFence B old.setting.options) (n.RawFlow state) to old new

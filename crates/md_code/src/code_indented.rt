@@ -10,6 +10,8 @@
 // columns, and a chunk over what whitespace is left.
 
 ghost use Rattle.std.specs.Prelude.{◌≡◌, ◌≢◌, IfSome};
+ghost use Rattle.md_code.specs.CodeRule.{CodeMeans};
+ghost use Rattle.md_engine.specs.Full.{IsFull, OnError};
 ghost use Rattle.md_engine.specs.World.{world};
 ghost use Rattle.md_engine.specs.declared.state.Name.{Name as StateName};
 ghost use Rattle.md_engine.specs.declared.state.State.{State};
@@ -48,10 +50,13 @@ fn may_open(leaf: HeldLeaf) -> bool
 /// > |     aaa
 ///     ^
 /// ```
+#[tactic(auto, using(crate::proofs::CodeMeaning::code_rule))]
 pub fn start(tokenizer: &mut Tokenizer) -> State
     requires { IsAt NeedsNothing (StateName.CodeIndented CodeState.Start) (world tokenizer.old) }
     ensures to { result ≢ State.Error → result ≡ (start_transition (world tokenizer.old)).to }
     ensures world { result ≢ State.Error → world tokenizer.new ≡ (start_transition (world tokenizer.old)).world }
+    ensures rule { result ≢ State.Error → CodeMeans CodeState.Start (world tokenizer.old) result (world tokenizer.new) }
+    ensures full { OnError result (IsFull tokenizer.new) }
 {
     if tokenizer.options.constructs.code_indented
         && may_open(tokenizer.flags.leaf)
@@ -76,10 +81,14 @@ pub fn start(tokenizer: &mut Tokenizer) -> State
 /// > |     aaa
 ///         ^
 /// ```
+#[tactic(auto, using(crate::proofs::CodeMeaning::code_rule))]
 pub fn at_break(tokenizer: &mut Tokenizer) -> State
     requires { IsAt NeedsNothing (StateName.CodeIndented CodeState.AtBreak) (world tokenizer.old) }
     ensures to { result ≢ State.Error → result ≡ (at_break_transition (world tokenizer.old)).to }
     ensures world { result ≢ State.Error → world tokenizer.new ≡ (at_break_transition (world tokenizer.old)).world }
+    ensures rule { result ≢ State.Error →
+        CodeMeans CodeState.AtBreak (world tokenizer.old) result (world tokenizer.new) }
+    ensures full { OnError result (IsFull tokenizer.new) }
 {
     or_error!(tokenizer.enter(Name::CodeFlowChunk));
     State::Retry(StateName::CodeIndented(CodeState::InsideBlank))
@@ -91,10 +100,12 @@ pub fn at_break(tokenizer: &mut Tokenizer) -> State
 /// > |       aaa
 ///         ^^
 /// ```
+#[tactic(auto, using(crate::proofs::CodeMeaning::code_rule))]
 pub fn inside_blank(tokenizer: &mut Tokenizer) -> State
     requires { IsAt NeedsNothing (StateName.CodeIndented CodeState.InsideBlank) (world tokenizer.old) }
     ensures to { result ≡ (inside_blank_transition (world tokenizer.old)).to }
     ensures world { world tokenizer.new ≡ (inside_blank_transition (world tokenizer.old)).world }
+    ensures rule { CodeMeans CodeState.InsideBlank (world tokenizer.old) result (world tokenizer.new) }
 {
     match tokenizer.current {
         None | Some(b'\n') => State::Nok,
@@ -112,10 +123,14 @@ pub fn inside_blank(tokenizer: &mut Tokenizer) -> State
 /// > |     aaa
 ///         ^^^
 /// ```
+#[tactic(auto, using(crate::proofs::CodeMeaning::code_rule))]
 pub fn inside(tokenizer: &mut Tokenizer) -> State
     requires { IsAt NeedsNothing (StateName.CodeIndented CodeState.Inside) (world tokenizer.old) }
     ensures to { result ≢ State.Error → result ≡ (inside_transition (world tokenizer.old)).to }
     ensures world { result ≢ State.Error → world tokenizer.new ≡ (inside_transition (world tokenizer.old)).world }
+    ensures rule { result ≢ State.Error →
+        CodeMeans CodeState.Inside (world tokenizer.old) result (world tokenizer.new) }
+    ensures full { OnError result (IsFull tokenizer.new) }
 {
     match tokenizer.current {
         None | Some(b'\n') => {
@@ -135,10 +150,13 @@ pub fn inside(tokenizer: &mut Tokenizer) -> State
 /// > |     aaa
 ///            ^
 /// ```
+#[tactic(auto, using(crate::proofs::CodeMeaning::code_rule))]
 pub fn after(tokenizer: &mut Tokenizer) -> State
     requires { IsAt NeedsNothing (StateName.CodeIndented CodeState.After) (world tokenizer.old) }
     ensures to { result ≢ State.Error → result ≡ (after_transition (world tokenizer.old)).to }
     ensures world { result ≢ State.Error → world tokenizer.new ≡ (after_transition (world tokenizer.old)).world }
+    ensures rule { result ≢ State.Error → CodeMeans CodeState.After (world tokenizer.old) result (world tokenizer.new) }
+    ensures full { OnError result (IsFull tokenizer.new) }
 {
     or_error!(tokenizer.exit(Name::CodeIndented));
     tokenizer.flags.leaf = HeldLeaf::Code;
@@ -152,11 +170,15 @@ pub fn after(tokenizer: &mut Tokenizer) -> State
 /// > |     bbb
 ///     ^
 /// ```
+#[tactic(auto, using(crate::proofs::CodeMeaning::code_rule))]
 pub fn further_start(tokenizer: &mut Tokenizer) -> State
     requires { IsAt NeedsNothing (StateName.CodeIndented CodeState.FurtherStart) (world tokenizer.old) }
     ensures to { result ≢ State.Error → result ≡ (further_start_transition (world tokenizer.old)).to }
     ensures world { result ≢ State.Error →
         world tokenizer.new ≡ (further_start_transition (world tokenizer.old)).world }
+    ensures rule { result ≢ State.Error →
+        CodeMeans CodeState.FurtherStart (world tokenizer.old) result (world tokenizer.new) }
+    ensures full { OnError result (IsFull tokenizer.new) }
 {
     or_error!(tokenizer.attempt(
         State::Ok,
@@ -172,11 +194,15 @@ pub fn further_start(tokenizer: &mut Tokenizer) -> State
 /// > |     bbb
 ///     ^
 /// ```
+#[tactic(auto, using(crate::proofs::CodeMeaning::code_rule))]
 pub fn further_line(tokenizer: &mut Tokenizer) -> State
     requires { IsAt NeedsNothing (StateName.CodeIndented CodeState.FurtherLine) (world tokenizer.old) }
     ensures to { result ≢ State.Error → result ≡ (further_line_transition (world tokenizer.old)).to }
     ensures world { result ≢ State.Error →
         world tokenizer.new ≡ (further_line_transition (world tokenizer.old)).world }
+    ensures rule { result ≢ State.Error →
+        CodeMeans CodeState.FurtherLine (world tokenizer.old) result (world tokenizer.new) }
+    ensures full { OnError result (IsFull tokenizer.new) }
 {
     if is_space_or_tab(tokenizer.current) {
         or_error!(tokenizer.enter_link(Name::CodeIndented, FURTHER));
@@ -199,11 +225,15 @@ pub fn further_line(tokenizer: &mut Tokenizer) -> State
 /// > |   bbb
 ///     ^
 /// ```
+#[tactic(auto, using(crate::proofs::CodeMeaning::code_rule))]
 pub fn further_begin(tokenizer: &mut Tokenizer) -> State
     requires { IsAt NeedsNothing (StateName.CodeIndented CodeState.FurtherBegin) (world tokenizer.old) }
     ensures to { result ≢ State.Error → result ≡ (further_begin_transition (world tokenizer.old)).to }
     ensures world { result ≢ State.Error →
         world tokenizer.new ≡ (further_begin_transition (world tokenizer.old)).world }
+    ensures rule { result ≢ State.Error →
+        CodeMeans CodeState.FurtherBegin (world tokenizer.old) result (world tokenizer.new) }
+    ensures full { OnError result (IsFull tokenizer.new) }
 {
     if is_space_or_tab(tokenizer.current) {
         space_or_tab_min_max(
@@ -225,11 +255,15 @@ pub fn further_begin(tokenizer: &mut Tokenizer) -> State
 /// > |   bbb
 ///       ^
 /// ```
+#[tactic(auto, using(crate::proofs::CodeMeaning::code_rule))]
 pub fn further_after(tokenizer: &mut Tokenizer) -> State
     requires { IsAt NeedsNothing (StateName.CodeIndented CodeState.FurtherAfter) (world tokenizer.old) }
     ensures to { result ≢ State.Error → result ≡ (further_after_transition (world tokenizer.old)).to }
     ensures world { result ≢ State.Error →
         world tokenizer.new ≡ (further_after_transition (world tokenizer.old)).world }
+    ensures rule { result ≢ State.Error →
+        CodeMeans CodeState.FurtherAfter (world tokenizer.old) result (world tokenizer.new) }
+    ensures full { OnError result (IsFull tokenizer.new) }
 {
     match tokenizer.current {
         None | Some(b'\n') => {
@@ -250,11 +284,15 @@ pub fn further_after(tokenizer: &mut Tokenizer) -> State
 /// > |       |
 ///         ^^
 /// ```
+#[tactic(auto, using(crate::proofs::CodeMeaning::code_rule))]
 pub fn further_inside(tokenizer: &mut Tokenizer) -> State
     requires { IsAt NeedsNothing (StateName.CodeIndented CodeState.FurtherInside) (world tokenizer.old) }
     ensures to { result ≢ State.Error → result ≡ (further_inside_transition (world tokenizer.old)).to }
     ensures world { result ≢ State.Error →
         world tokenizer.new ≡ (further_inside_transition (world tokenizer.old)).world }
+    ensures rule { result ≢ State.Error →
+        CodeMeans CodeState.FurtherInside (world tokenizer.old) result (world tokenizer.new) }
+    ensures full { OnError result (IsFull tokenizer.new) }
 {
     match tokenizer.current {
         None | Some(b'\n') => {
@@ -283,10 +321,13 @@ pub fn takes_at_once(state: CodeState) -> Option<Stay>
 }
 
 /// Calls a state of code.
+#[tactic(auto, using(crate::proofs::CodeMeaning::code_rule))]
 pub fn call(tokenizer: &mut Tokenizer, state: CodeState) -> State
     requires { IsAt NeedsNothing (StateName.CodeIndented state) (world tokenizer.old) }
     ensures to { result ≢ State.Error → result ≡ (code_transition state (world tokenizer.old)).to }
     ensures world { result ≢ State.Error → world tokenizer.new ≡ (code_transition state (world tokenizer.old)).world }
+    ensures rule { result ≢ State.Error → CodeMeans state (world tokenizer.old) result (world tokenizer.new) }
+    ensures full { OnError result (IsFull tokenizer.new) }
 {
     match state {
         CodeState::Start => start(tokenizer),

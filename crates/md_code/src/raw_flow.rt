@@ -19,26 +19,30 @@
 // names begin with `MathFlow`.
 
 ghost use Rattle.std.specs.Prelude.{◌≡◌, ◌≢◌, IfSome};
-ghost use Rattle.md_meaning.specs.Leaves.{is_fence_marker, least_size};
+ghost use Rattle.md_code.specs.FenceRule.{FenceMeans};
+ghost use Rattle.md_engine.specs.Full.{IsFull, OnError};
 ghost use Rattle.md_engine.specs.World.{world};
 ghost use Rattle.md_engine.specs.declared.state.Name.{Name as StateName};
 ghost use Rattle.md_engine.specs.declared.state.State.{State};
 ghost use Rattle.md_engine.specs.declared.state.raw_flow.State.{State as RawState};
 ghost use Rattle.md_code.specs.Fence.{FenceNeeds, after_transition, at_non_lazy_break_transition, behind_part};
 ghost use Rattle.md_code.specs.Fence.{before_content_chunk_transition, before_sequence_close_transition};
-ghost use Rattle.md_code.specs.Fence.{before_sequence_open_transition, block_name, chunk_name, cleared};
-ghost use Rattle.md_code.specs.Fence.{close_start_transition, content_chunk_transition, content_start_transition};
-ghost use Rattle.md_code.specs.Fence.{fence_name, fence_transition, held_indent, held_marker, held_size};
-ghost use Rattle.md_code.specs.Fence.{info_before_transition, info_transition, is_open, is_refused, may_begin};
-ghost use Rattle.md_code.specs.Fence.{meta_before_transition, meta_name, meta_transition};
-ghost use Rattle.md_code.specs.Fence.{sequence_close_after_transition, sequence_close_transition, sequence_name};
-ghost use Rattle.md_code.specs.Fence.{sequence_open_transition, start_transition};
+ghost use Rattle.md_code.specs.Fence.{before_sequence_open_transition, close_start_transition};
+ghost use Rattle.md_code.specs.Fence.{content_chunk_transition, content_start_transition, fence_transition};
+ghost use Rattle.md_code.specs.Fence.{info_before_transition, info_transition, is_open, may_begin};
+ghost use Rattle.md_code.specs.Fence.{meta_before_transition, meta_transition, sequence_close_after_transition};
+ghost use Rattle.md_code.specs.Fence.{sequence_close_transition, sequence_open_transition, start_transition};
 ghost use Rattle.md_seam.specs.Look.{may_with};
 ghost use Rattle.md_seam.specs.Spaces.{sees_white};
 ghost use Rattle.md_seam.specs.Stays.{TakesEach};
 ghost use Rattle.md_seam.specs.Transition.{IsAt};
 
-use md_engine::configuration::ParseOptions;
+mod parts;
+
+use crate::raw_flow::parts::{
+    block_name, chunk_name, cleared, fence_name, held_indent, held_marker, held_size, is_marker,
+    is_refused, least_size, meta_name, sequence_name,
+};
 use md_engine::event::{Content, Link, Name};
 use md_engine::or_error;
 use md_engine::state::raw_flow::State as RawState;
@@ -54,128 +58,6 @@ const STRING_LINK: Link = Link {
     next: false,
     content: Content::String,
 };
-
-/// Whether this marks a block that is on.
-fn is_marker(options: &ParseOptions, byte: u8) -> bool
-    ensures { result ≡ is_fence_marker options.now byte }
-{
-    if byte == b'$' {
-        options.constructs.math_flow
-    } else {
-        options.constructs.code_fenced && (byte == b'`' || byte == b'~')
-    }
-}
-
-/// So many markers an opening sequence has at least.
-fn least_size(marker: u8) -> usize
-    ensures { result ≡ least_size marker }
-{
-    if marker == b'$' { 2 } else { 3 }
-}
-
-/// Whether this may not stand behind an opening sequence: its marker, unless that is a tilde.
-fn is_refused(marker: u8, byte: u8) -> bool
-    ensures { result ≡ is_refused marker byte }
-{
-    byte == marker && marker != b'~'
-}
-
-/// The name of a block.
-fn block_name(marker: u8) -> Name
-    ensures { result ≡ block_name marker }
-{
-    if marker == b'$' {
-        Name::MathFlow
-    } else {
-        Name::CodeFenced
-    }
-}
-
-/// That of its fences,
-fn fence_name(marker: u8) -> Name
-    ensures { result ≡ fence_name marker }
-{
-    if marker == b'$' {
-        Name::MathFlowFence
-    } else {
-        Name::CodeFencedFence
-    }
-}
-
-/// of their sequences,
-fn sequence_name(marker: u8) -> Name
-    ensures { result ≡ sequence_name marker }
-{
-    if marker == b'$' {
-        Name::MathFlowFenceSequence
-    } else {
-        Name::CodeFencedFenceSequence
-    }
-}
-
-/// of `meta`,
-fn meta_name(marker: u8) -> Name
-    ensures { result ≡ meta_name marker }
-{
-    if marker == b'$' {
-        Name::MathFlowFenceMeta
-    } else {
-        Name::CodeFencedFenceMeta
-    }
-}
-
-/// and of its lines.
-fn chunk_name(marker: u8) -> Name
-    ensures { result ≡ chunk_name marker }
-{
-    if marker == b'$' {
-        Name::MathFlowChunk
-    } else {
-        Name::CodeFlowChunk
-    }
-}
-
-/// The marker of the open block,
-fn held_marker(leaf: HeldLeaf) -> u8
-    ensures { result ≡ held_marker leaf }
-{
-    match leaf {
-        HeldLeaf::Fence { marker, .. } => marker,
-        _ => 0,
-    }
-}
-
-/// how many of it its opening sequence has,
-fn held_size(leaf: HeldLeaf) -> usize
-    ensures { result ≡ held_size leaf }
-{
-    match leaf {
-        HeldLeaf::Fence { size, .. } => size,
-        _ => 0,
-    }
-}
-
-/// and how many columns stand in front of that.
-fn held_indent(leaf: HeldLeaf) -> usize
-    ensures { result ≡ held_indent leaf }
-{
-    match leaf {
-        HeldLeaf::Fence { indent, .. } => indent,
-        _ => 0,
-    }
-}
-
-/// Without a marker and what was counted.
-fn cleared(scratch: Scratch) -> Scratch
-    ensures { result ≡ cleared scratch }
-{
-    Scratch {
-        marker: 0,
-        size: 0,
-        size_c: 0,
-        ..scratch
-    }
-}
 
 /// Whether a block may begin here, by what stands first behind whitespace: a marker, if that is known.
 pub fn may_begin(first: Option<u8>) -> bool
@@ -200,10 +82,13 @@ pub fn is_open(leaf: HeldLeaf) -> bool
 ///   | a
 ///   | ~~~
 /// ```
+#[tactic(auto, using(crate::proofs::FenceMeaning::fence_rule))]
 pub fn start(tokenizer: &mut Tokenizer) -> State
     requires { IsAt FenceNeeds (StateName.RawFlow RawState.Start) (world tokenizer.old) }
     ensures to { result ≢ State.Error → result ≡ (start_transition (world tokenizer.old)).to }
     ensures world { result ≢ State.Error → world tokenizer.new ≡ (start_transition (world tokenizer.old)).world }
+    ensures rule { result ≢ State.Error → FenceMeans RawState.Start (world tokenizer.old) result (world tokenizer.new) }
+    ensures full { OnError result (IsFull tokenizer.new) }
 {
     if !tokenizer.options.constructs.code_fenced && !tokenizer.options.constructs.math_flow {
         return State::Nok;
@@ -231,11 +116,15 @@ pub fn start(tokenizer: &mut Tokenizer) -> State
 ///   | a
 ///   | ~~~
 /// ```
+#[tactic(auto, using(crate::proofs::FenceMeaning::fence_rule))]
 pub fn before_sequence_open(tokenizer: &mut Tokenizer) -> State
     requires { IsAt FenceNeeds (StateName.RawFlow RawState.BeforeSequenceOpen) (world tokenizer.old) }
     ensures to { result ≢ State.Error → result ≡ (before_sequence_open_transition (world tokenizer.old)).to }
     ensures world { result ≢ State.Error →
         world tokenizer.new ≡ (before_sequence_open_transition (world tokenizer.old)).world }
+    ensures rule { result ≢ State.Error →
+        FenceMeans RawState.BeforeSequenceOpen (world tokenizer.old) result (world tokenizer.new) }
+    ensures full { OnError result (IsFull tokenizer.new) }
 {
     match tokenizer.current {
         Some(byte) if is_marker(tokenizer.options, byte) => {
@@ -260,6 +149,7 @@ fn go_on(tokenizer: &mut Tokenizer, behind: RawState) -> State
         result ≡ (behind_part (world tokenizer.old) behind (sees_white tokenizer.old.current)).to }
     ensures world { result ≢ State.Error →
         world tokenizer.new ≡ (behind_part (world tokenizer.old) behind (sees_white tokenizer.old.current)).world }
+    ensures full { OnError result (IsFull tokenizer.new) }
 {
     if is_space_or_tab(tokenizer.current) {
         space_or_tab_min_max(
@@ -282,11 +172,15 @@ fn go_on(tokenizer: &mut Tokenizer, behind: RawState) -> State
 ///   | a
 ///   | ~~~
 /// ```
+#[tactic(auto, using(crate::proofs::FenceMeaning::fence_rule))]
 pub fn sequence_open(tokenizer: &mut Tokenizer) -> State
     requires { IsAt FenceNeeds (StateName.RawFlow RawState.SequenceOpen) (world tokenizer.old) }
     ensures to { result ≢ State.Error → result ≡ (sequence_open_transition (world tokenizer.old)).to }
     ensures world { result ≢ State.Error →
         world tokenizer.new ≡ (sequence_open_transition (world tokenizer.old)).world }
+    ensures rule { result ≢ State.Error →
+        FenceMeans RawState.SequenceOpen (world tokenizer.old) result (world tokenizer.new) }
+    ensures full { OnError result (IsFull tokenizer.new) }
 {
     let marker = tokenizer.scratch.marker;
     if tokenizer.current == Some(marker) {
@@ -314,11 +208,15 @@ pub fn sequence_open(tokenizer: &mut Tokenizer) -> State
 ///   | a
 ///   | ~~~
 /// ```
+#[tactic(auto, using(crate::proofs::FenceMeaning::fence_rule))]
 pub fn info_before(tokenizer: &mut Tokenizer) -> State
     requires { IsAt FenceNeeds (StateName.RawFlow RawState.InfoBefore) (world tokenizer.old) }
     ensures to { result ≢ State.Error → result ≡ (info_before_transition (world tokenizer.old)).to }
     ensures world { result ≢ State.Error →
         world tokenizer.new ≡ (info_before_transition (world tokenizer.old)).world }
+    ensures rule { result ≢ State.Error →
+        FenceMeans RawState.InfoBefore (world tokenizer.old) result (world tokenizer.new) }
+    ensures full { OnError result (IsFull tokenizer.new) }
 {
     match tokenizer.current {
         None | Some(b'\n') => {
@@ -359,10 +257,13 @@ pub fn info_before(tokenizer: &mut Tokenizer) -> State
 ///   | a
 ///   | ~~~
 /// ```
+#[tactic(auto, using(crate::proofs::FenceMeaning::fence_rule))]
 pub fn info(tokenizer: &mut Tokenizer) -> State
     requires { IsAt FenceNeeds (StateName.RawFlow RawState.Info) (world tokenizer.old) }
     ensures to { result ≢ State.Error → result ≡ (info_transition (world tokenizer.old)).to }
     ensures world { result ≢ State.Error → world tokenizer.new ≡ (info_transition (world tokenizer.old)).world }
+    ensures rule { result ≢ State.Error → FenceMeans RawState.Info (world tokenizer.old) result (world tokenizer.new) }
+    ensures full { OnError result (IsFull tokenizer.new) }
 {
     match tokenizer.current {
         None | Some(b'\t' | b'\n' | b' ') => {
@@ -390,11 +291,15 @@ pub fn info(tokenizer: &mut Tokenizer) -> State
 ///   | a
 ///   | ~~~
 /// ```
+#[tactic(auto, using(crate::proofs::FenceMeaning::fence_rule))]
 pub fn meta_before(tokenizer: &mut Tokenizer) -> State
     requires { IsAt FenceNeeds (StateName.RawFlow RawState.MetaBefore) (world tokenizer.old) }
     ensures to { result ≢ State.Error → result ≡ (meta_before_transition (world tokenizer.old)).to }
     ensures world { result ≢ State.Error →
         world tokenizer.new ≡ (meta_before_transition (world tokenizer.old)).world }
+    ensures rule { result ≢ State.Error →
+        FenceMeans RawState.MetaBefore (world tokenizer.old) result (world tokenizer.new) }
+    ensures full { OnError result (IsFull tokenizer.new) }
 {
     match tokenizer.current {
         None | Some(b'\n') => State::Retry(StateName::RawFlow(RawState::InfoBefore)),
@@ -420,10 +325,13 @@ pub fn meta_before(tokenizer: &mut Tokenizer) -> State
 ///   | a
 ///   | ~~~
 /// ```
+#[tactic(auto, using(crate::proofs::FenceMeaning::fence_rule))]
 pub fn meta(tokenizer: &mut Tokenizer) -> State
     requires { IsAt FenceNeeds (StateName.RawFlow RawState.Meta) (world tokenizer.old) }
     ensures to { result ≢ State.Error → result ≡ (meta_transition (world tokenizer.old)).to }
     ensures world { result ≢ State.Error → world tokenizer.new ≡ (meta_transition (world tokenizer.old)).world }
+    ensures rule { result ≢ State.Error → FenceMeans RawState.Meta (world tokenizer.old) result (world tokenizer.new) }
+    ensures full { OnError result (IsFull tokenizer.new) }
 {
     match tokenizer.current {
         None | Some(b'\n') => {
@@ -454,11 +362,15 @@ pub fn meta(tokenizer: &mut Tokenizer) -> State
 /// > | ~~~
 ///     ^
 /// ```
+#[tactic(auto, using(crate::proofs::FenceMeaning::fence_rule))]
 pub fn at_non_lazy_break(tokenizer: &mut Tokenizer) -> State
     requires { IsAt FenceNeeds (StateName.RawFlow RawState.AtNonLazyBreak) (world tokenizer.old) }
     ensures to { result ≢ State.Error → result ≡ (at_non_lazy_break_transition (world tokenizer.old)).to }
     ensures world { result ≢ State.Error →
         world tokenizer.new ≡ (at_non_lazy_break_transition (world tokenizer.old)).world }
+    ensures rule { result ≢ State.Error →
+        FenceMeans RawState.AtNonLazyBreak (world tokenizer.old) result (world tokenizer.new) }
+    ensures full { OnError result (IsFull tokenizer.new) }
 {
     let marker = held_marker(tokenizer.flags.leaf);
     or_error!(tokenizer.enter_link(block_name(marker), FURTHER));
@@ -482,11 +394,15 @@ pub fn at_non_lazy_break(tokenizer: &mut Tokenizer) -> State
 /// > | ~~~
 ///     ^
 /// ```
+#[tactic(auto, using(crate::proofs::FenceMeaning::fence_rule))]
 pub fn close_start(tokenizer: &mut Tokenizer) -> State
     requires { IsAt FenceNeeds (StateName.RawFlow RawState.CloseStart) (world tokenizer.old) }
     ensures to { result ≢ State.Error → result ≡ (close_start_transition (world tokenizer.old)).to }
     ensures world { result ≢ State.Error →
         world tokenizer.new ≡ (close_start_transition (world tokenizer.old)).world }
+    ensures rule { result ≢ State.Error →
+        FenceMeans RawState.CloseStart (world tokenizer.old) result (world tokenizer.new) }
+    ensures full { OnError result (IsFull tokenizer.new) }
 {
     if is_space_or_tab(tokenizer.current) {
         let max = small_indent(tokenizer);
@@ -510,11 +426,15 @@ pub fn close_start(tokenizer: &mut Tokenizer) -> State
 /// > | ~~~
 ///     ^
 /// ```
+#[tactic(auto, using(crate::proofs::FenceMeaning::fence_rule))]
 pub fn before_sequence_close(tokenizer: &mut Tokenizer) -> State
     requires { IsAt FenceNeeds (StateName.RawFlow RawState.BeforeSequenceClose) (world tokenizer.old) }
     ensures to { result ≢ State.Error → result ≡ (before_sequence_close_transition (world tokenizer.old)).to }
     ensures world { result ≢ State.Error →
         world tokenizer.new ≡ (before_sequence_close_transition (world tokenizer.old)).world }
+    ensures rule { result ≢ State.Error →
+        FenceMeans RawState.BeforeSequenceClose (world tokenizer.old) result (world tokenizer.new) }
+    ensures full { OnError result (IsFull tokenizer.new) }
 {
     let marker = tokenizer.scratch.marker;
     if tokenizer.current == Some(marker) {
@@ -535,11 +455,15 @@ pub fn before_sequence_close(tokenizer: &mut Tokenizer) -> State
 /// > | ~~~
 ///     ^^^
 /// ```
+#[tactic(auto, using(crate::proofs::FenceMeaning::fence_rule))]
 pub fn sequence_close(tokenizer: &mut Tokenizer) -> State
     requires { IsAt FenceNeeds (StateName.RawFlow RawState.SequenceClose) (world tokenizer.old) }
     ensures to { result ≢ State.Error → result ≡ (sequence_close_transition (world tokenizer.old)).to }
     ensures world { result ≢ State.Error →
         world tokenizer.new ≡ (sequence_close_transition (world tokenizer.old)).world }
+    ensures rule { result ≢ State.Error →
+        FenceMeans RawState.SequenceClose (world tokenizer.old) result (world tokenizer.new) }
+    ensures full { OnError result (IsFull tokenizer.new) }
 {
     let Scratch { marker, size, .. } = tokenizer.scratch;
     if tokenizer.current == Some(marker) {
@@ -563,11 +487,15 @@ pub fn sequence_close(tokenizer: &mut Tokenizer) -> State
 /// > | ~~~
 ///        ^
 /// ```
+#[tactic(auto, using(crate::proofs::FenceMeaning::fence_rule))]
 pub fn sequence_close_after(tokenizer: &mut Tokenizer) -> State
     requires { IsAt FenceNeeds (StateName.RawFlow RawState.SequenceCloseAfter) (world tokenizer.old) }
     ensures to { result ≢ State.Error → result ≡ (sequence_close_after_transition (world tokenizer.old)).to }
     ensures world { result ≢ State.Error →
         world tokenizer.new ≡ (sequence_close_after_transition (world tokenizer.old)).world }
+    ensures rule { result ≢ State.Error →
+        FenceMeans RawState.SequenceCloseAfter (world tokenizer.old) result (world tokenizer.new) }
+    ensures full { OnError result (IsFull tokenizer.new) }
 {
     match tokenizer.current {
         None | Some(b'\n') => {
@@ -588,11 +516,15 @@ pub fn sequence_close_after(tokenizer: &mut Tokenizer) -> State
 ///     ^
 ///   | ~~~
 /// ```
+#[tactic(auto, using(crate::proofs::FenceMeaning::fence_rule))]
 pub fn content_start(tokenizer: &mut Tokenizer) -> State
     requires { IsAt FenceNeeds (StateName.RawFlow RawState.ContentStart) (world tokenizer.old) }
     ensures to { result ≢ State.Error → result ≡ (content_start_transition (world tokenizer.old)).to }
     ensures world { result ≢ State.Error →
         world tokenizer.new ≡ (content_start_transition (world tokenizer.old)).world }
+    ensures rule { result ≢ State.Error →
+        FenceMeans RawState.ContentStart (world tokenizer.old) result (world tokenizer.new) }
+    ensures full { OnError result (IsFull tokenizer.new) }
 {
     let max = held_indent(tokenizer.flags.leaf);
     if max > 0 && is_space_or_tab(tokenizer.current) {
@@ -616,11 +548,15 @@ pub fn content_start(tokenizer: &mut Tokenizer) -> State
 ///     ^^
 ///   | ~~~
 /// ```
+#[tactic(auto, using(crate::proofs::FenceMeaning::fence_rule))]
 pub fn before_content_chunk(tokenizer: &mut Tokenizer) -> State
     requires { IsAt FenceNeeds (StateName.RawFlow RawState.BeforeContentChunk) (world tokenizer.old) }
     ensures to { result ≢ State.Error → result ≡ (before_content_chunk_transition (world tokenizer.old)).to }
     ensures world { result ≢ State.Error →
         world tokenizer.new ≡ (before_content_chunk_transition (world tokenizer.old)).world }
+    ensures rule { result ≢ State.Error →
+        FenceMeans RawState.BeforeContentChunk (world tokenizer.old) result (world tokenizer.new) }
+    ensures full { OnError result (IsFull tokenizer.new) }
 {
     match tokenizer.current {
         None | Some(b'\n') => {
@@ -644,11 +580,15 @@ pub fn before_content_chunk(tokenizer: &mut Tokenizer) -> State
 ///     ^
 ///   | ~~~
 /// ```
+#[tactic(auto, using(crate::proofs::FenceMeaning::fence_rule))]
 pub fn content_chunk(tokenizer: &mut Tokenizer) -> State
     requires { IsAt FenceNeeds (StateName.RawFlow RawState.ContentChunk) (world tokenizer.old) }
     ensures to { result ≢ State.Error → result ≡ (content_chunk_transition (world tokenizer.old)).to }
     ensures world { result ≢ State.Error →
         world tokenizer.new ≡ (content_chunk_transition (world tokenizer.old)).world }
+    ensures rule { result ≢ State.Error →
+        FenceMeans RawState.ContentChunk (world tokenizer.old) result (world tokenizer.new) }
+    ensures full { OnError result (IsFull tokenizer.new) }
 {
     match tokenizer.current {
         None | Some(b'\n') => {
@@ -671,10 +611,13 @@ pub fn content_chunk(tokenizer: &mut Tokenizer) -> State
 /// > | ~~~
 ///        ^
 /// ```
+#[tactic(auto, using(crate::proofs::FenceMeaning::fence_rule))]
 pub fn after(tokenizer: &mut Tokenizer) -> State
     requires { IsAt FenceNeeds (StateName.RawFlow RawState.After) (world tokenizer.old) }
     ensures to { result ≢ State.Error → result ≡ (after_transition (world tokenizer.old)).to }
     ensures world { result ≢ State.Error → world tokenizer.new ≡ (after_transition (world tokenizer.old)).world }
+    ensures rule { result ≢ State.Error → FenceMeans RawState.After (world tokenizer.old) result (world tokenizer.new) }
+    ensures full { OnError result (IsFull tokenizer.new) }
 {
     let name = block_name(held_marker(tokenizer.flags.leaf));
     or_error!(tokenizer.exit(name));
@@ -694,10 +637,13 @@ pub fn takes_at_once(state: RawState) -> Option<Stay>
 }
 
 /// Calls a state of fenced code or math.
+#[tactic(auto, using(crate::proofs::FenceMeaning::fence_rule))]
 pub fn call(tokenizer: &mut Tokenizer, state: RawState) -> State
     requires { IsAt FenceNeeds (StateName.RawFlow state) (world tokenizer.old) }
     ensures to { result ≢ State.Error → result ≡ (fence_transition state (world tokenizer.old)).to }
     ensures world { result ≢ State.Error → world tokenizer.new ≡ (fence_transition state (world tokenizer.old)).world }
+    ensures rule { result ≢ State.Error → FenceMeans state (world tokenizer.old) result (world tokenizer.new) }
+    ensures full { OnError result (IsFull tokenizer.new) }
 {
     match state {
         RawState::Start => start(tokenizer),
