@@ -8,23 +8,23 @@ use Rattle.md_engine.specs.declared.event.Event.{Event}
 use Rattle.md_engine.specs.declared.event.Name.TheVariants as parts
 use Rattle.md_engine.specs.declared.event.Point.{Point}
 use Rattle.md_engine.specs.declared.state.Name.TheVariants as n
+use Rattle.md_engine.specs.declared.state.State.{State}
 use Rattle.md_engine.specs.declared.state.State.TheVariants.{Nok, Next}
 use Rattle.md_engine.specs.declared.state.gfm_footnote_definition.State.{State as FootnoteState}
 use Rattle.md_engine.specs.declared.state.gfm_footnote_definition.State.TheVariants as its
 use Rattle.md_engine.specs.declared.tokenizer.Frame.{Frame}
 use Rattle.md_engine.specs.Meaning.{Behaviour, Cell, Feed, Here, Refuses, Steps, here}
-use Rattle.md_engine.specs.Scheme.{After, position}
+use Rattle.md_engine.specs.Scheme.{After, Position, position}
 use Rattle.md_engine.specs.World.{World, after}
 use Rattle.md_engine.specs.Sees.{Sees, ahead, cell_here}
-use Rattle.md_engine.proofs.StepOf.{begins_only, moves, passes}
-use Rattle.md_containers.specs.Footnote.{breaks_label, closed_code, footnote_ready, footnote_transition}
+use Rattle.md_engine.proofs.StepOf.{begins_only, moves, passes, steps-as}
+use Rattle.md_containers.specs.Footnote.{FootnoteInvariant, breaks_label, closed_code, footnote_ready, footnote_transition}
 use Rattle.md_containers.specs.Footnote.{label_after_code, label_at_marker_code, label_before_code, label_escape_code}
 use Rattle.md_containers.specs.Footnote.{label_inside_code, label_link, marker_after_code, most, refused, sees_mark}
 use Rattle.md_containers.specs.Footnote.{taken_as}
-use Rattle.md_containers.specs.FootnoteRule.{HasFootnote, LabelCells, at_bracket, at_caret, at_colon, behind_colon}
-use Rattle.md_containers.specs.FootnoteRule.{behind_prefix, bracket_events, caret_events, in_label, label_by}
-use Rattle.md_containers.specs.FootnoteRule.{label_cells}
-use Rattle.md_containers.specs.FootnoteRule.{label_ended, with_cell}
+use Rattle.md_containers.specs.FootnoteRule.{FootnoteMeans, HasFootnote, LabelCells, at_bracket, at_caret, at_colon}
+use Rattle.md_containers.specs.FootnoteRule.{behind_colon, behind_prefix, bracket_events, caret_events, in_label}
+use Rattle.md_containers.specs.FootnoteRule.{label_by, label_cells, label_ended, with_cell}
 use Rattle.md_containers.specs.Item.{without_size}
 use Rattle.md_containers.specs.ItemRule.{behind_columns}
 use Rattle.md_meaning.specs.Ascii.{caret, colon, left_bracket}
@@ -392,16 +392,43 @@ has_start B options has =
     record { white = has.white; start_is = has.each its.Start; next_is = has.each its.LabelBefore }
 
 -- each state of a footnote definition takes one step of what it means
+footnote_steps : (B : Behaviour) (feed : Feed) (state : FootnoteState) (w : World) →
+    HasFootnote B w.setting.options → Sees feed w →
+    FootnoteInvariant (n.GfmFootnoteDefinition state) (position w) →
+    Steps B feed (Next (n.GfmFootnoteDefinition state)) w (footnote_transition state w).to
+    (footnote_transition state w).world
+footnote_steps B feed its.Start w has s at =
+    start-steps B feed parts.GfmFootnoteDefinition _ at_bracket _ _ w _ _ (has_start B _ has) s refl refl
+footnote_steps B feed its.LabelBefore w has s at = label_before_means B _ feed w _ has s refl
+footnote_steps B feed its.LabelAtMarker w has s at = label_at_marker_means B _ feed w _ has s refl
+footnote_steps B feed its.LabelInside w has s at = label_inside_means B _ feed w w.current has s at refl
+footnote_steps B feed its.LabelEscape w has s at = label_escape_means B _ feed w w.current _ has s refl refl
+footnote_steps B feed its.LabelAfter w has s at = label_after_means B _ feed w _ has s refl
+footnote_steps B feed its.MarkerAfter w has s at = marker_after_means B _ feed w _ has s refl
+footnote_steps B feed its.WhitespaceAfter w has s at = whitespace_after_means B _ feed w has
+
+-- what a state that is ready has, its rule needs
+ready-holds : (state : FootnoteState) (x : Position) (K : After) →
+    footnote_ready (n.GfmFootnoteDefinition state) x K → FootnoteInvariant (n.GfmFootnoteDefinition state) x
+ready-holds its.Start x K at = tt
+ready-holds its.LabelBefore x K at = tt
+ready-holds its.LabelAtMarker x K at = tt
+ready-holds its.LabelInside x K at = at.0.size
+ready-holds its.LabelEscape x K at = tt
+ready-holds its.LabelAfter x K at = tt
+ready-holds its.MarkerAfter x K at = tt
+ready-holds its.WhitespaceAfter x K at = tt
+
+-- and so where its attempts end as they have to
 pub footnote_means : (B : Behaviour) (feed : Feed) (state : FootnoteState) (w : World) (K : After) →
     HasFootnote B w.setting.options → Sees feed w → footnote_ready (n.GfmFootnoteDefinition state) (position w) K →
     Steps B feed (Next (n.GfmFootnoteDefinition state)) w (footnote_transition state w).to
     (footnote_transition state w).world
-footnote_means B feed its.Start w K has s at =
-    start-steps B feed parts.GfmFootnoteDefinition _ at_bracket _ _ w _ _ (has_start B _ has) s refl refl
-footnote_means B feed its.LabelBefore w K has s at = label_before_means B _ feed w _ has s refl
-footnote_means B feed its.LabelAtMarker w K has s at = label_at_marker_means B _ feed w _ has s refl
-footnote_means B feed its.LabelInside w K has s at = label_inside_means B _ feed w w.current has s at.0.size refl
-footnote_means B feed its.LabelEscape w K has s at = label_escape_means B _ feed w w.current _ has s refl refl
-footnote_means B feed its.LabelAfter w K has s at = label_after_means B _ feed w _ has s refl
-footnote_means B feed its.MarkerAfter w K has s at = marker_after_means B _ feed w _ has s refl
-footnote_means B feed its.WhitespaceAfter w K has s at = whitespace_after_means B _ feed w has
+footnote_means B feed state w K has s at = footnote_steps B feed state w has s (ready-holds state (position w) K at)
+
+-- what answers as the transition of a state does means what the state means
+pub footnote_rule : (state : FootnoteState) (w new : World) (to : State) → to ≡ (footnote_transition state w).to →
+    new ≡ (footnote_transition state w).world → FootnoteMeans state w to new
+unfolding FootnoteMeans
+footnote_rule state w new to e k at B feed has s =
+    steps-as B feed _ _ to w _ new e k (footnote_steps B feed state w has s at)

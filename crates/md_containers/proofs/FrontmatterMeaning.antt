@@ -10,6 +10,7 @@ use Rattle.md_engine.specs.declared.state.Name.{Name as StateName}
 use Rattle.md_engine.specs.declared.state.Name.TheVariants as n
 use Rattle.md_engine.specs.declared.state.frontmatter.State.{State as FrontState}
 use Rattle.md_engine.specs.declared.state.frontmatter.State.TheVariants as its
+use Rattle.md_engine.specs.declared.state.State.{State}
 use Rattle.md_engine.specs.declared.state.State.TheVariants.{Next}
 use Rattle.md_engine.specs.declared.tokenizer.Frame.{Frame}
 use Rattle.md_engine.specs.declared.tokenizer.Scratch.{Scratch}
@@ -17,7 +18,7 @@ use Rattle.md_engine.specs.Meaning.{Accepts, Behaviour, Cell, Fails, Feed, Here,
 use Rattle.md_engine.specs.Meaning.{resume}
 use Rattle.md_engine.specs.World.{Flags, World, after}
 use Rattle.md_engine.specs.Sees.{Sees, ahead, cell_here}
-use Rattle.md_engine.proofs.StepOf.{begins, moves, passes}
+use Rattle.md_engine.proofs.StepOf.{begins, moves, passes, steps-as}
 use Rattle.md_leaves.specs.Heading.{without_size}
 use Rattle.md_leaves.proofs.LeafSteps.{sees-one, white_frame}
 use Rattle.md_code.specs.FenceRule.{behind_white_of, is_end, run_end, run_rest, run_size, with_event}
@@ -31,8 +32,8 @@ use Rattle.md_containers.specs.Frontmatter.{after_code, begun, behind_part, clea
 use Rattle.md_containers.specs.Frontmatter.{content_end_code, content_inside_code, content_start_code}
 use Rattle.md_containers.specs.Frontmatter.{front_transition, is_marker, open_after_code, sequence_code, start_at}
 use Rattle.md_containers.specs.Frontmatter.{start_by, start_code}
-use Rattle.md_containers.specs.FrontmatterRule.{HasFront, at_line, behind_ending, behind_front, behind_line, chunk_begun}
-use Rattle.md_containers.specs.FrontmatterRule.{chunk_ended, close_end, closed_or, fence_begun}
+use Rattle.md_containers.specs.FrontmatterRule.{FrontMeans, HasFront, at_line, behind_ending, behind_front, behind_line}
+use Rattle.md_containers.specs.FrontmatterRule.{chunk_begun, chunk_ended, close_end, closed_or, fence_begun}
 use Rattle.md_containers.specs.FrontmatterRule.{front_begun, front_here, in_close, in_lines, in_open, in_sequence}
 use Rattle.md_containers.specs.FrontmatterRule.{open_end, refuses}
 
@@ -433,3 +434,9 @@ front_means B feed its.ContentStart w has s = content_start_means B feed w _ has
 front_means B feed its.ContentInside w has s = content_inside_means B feed w _ has s refl
 front_means B feed its.ContentEnd w has s = content_end_means B feed w _ has s refl
 front_means B feed its.After w has s = after_means B feed w _ has s refl
+
+-- what answers as the transition of a state does means what the state means
+pub front_rule : (state : FrontState) (w new : World) (to : State) → to ≡ (front_transition state w).to →
+    new ≡ (front_transition state w).world → FrontMeans state w to new
+unfolding FrontMeans
+front_rule state w new to e k B feed has s = steps-as B feed _ _ to w _ new e k (front_means B feed state w has s)

@@ -8,19 +8,20 @@ use Rattle.md_engine.specs.declared.configuration.ParseOptions.{ParseOptions}
 use Rattle.md_engine.specs.declared.event.Event.{Event}
 use Rattle.md_engine.specs.declared.event.Name.TheVariants as parts
 use Rattle.md_engine.specs.declared.state.Name.TheVariants as n
+use Rattle.md_engine.specs.declared.state.State.{State}
 use Rattle.md_engine.specs.declared.state.State.TheVariants.{Nok, Next}
 use Rattle.md_engine.specs.declared.state.list_item.State.{State as ItemState}
 use Rattle.md_engine.specs.declared.state.list_item.State.TheVariants as its
 use Rattle.md_engine.specs.Meaning.{Behaviour, Cell, Feed, Here, Refuses, Steps, here}
-use Rattle.md_engine.specs.Scheme.{After, position}
+use Rattle.md_engine.specs.Scheme.{After, Position, position}
 use Rattle.md_engine.specs.World.{World, after}
 use Rattle.md_engine.specs.Sees.{Sees, ahead, cell_here}
-use Rattle.md_engine.proofs.StepOf.{moves, passes}
+use Rattle.md_engine.proofs.StepOf.{moves, passes, steps-as}
 use Rattle.md_containers.specs.Interrupts.{interrupts}
-use Rattle.md_containers.specs.Item.{before_ordered_code, ends_value, is_item_marker, item_ready, item_transition}
-use Rattle.md_containers.specs.Item.{marker_code, sees, value_code, without_size}
-use Rattle.md_containers.specs.ItemRule.{HasItem, at_marker, at_value, behind_indent, behind_marker, behind_value}
-use Rattle.md_containers.specs.ItemRule.{digits_end, digits_rest, digits_size, in_value}
+use Rattle.md_containers.specs.Item.{ItemInvariant, before_ordered_code, ends_value, is_item_marker, item_ready}
+use Rattle.md_containers.specs.Item.{item_transition, marker_code, sees, value_code, without_size}
+use Rattle.md_containers.specs.ItemRule.{HasItem, ItemMeans, at_marker, at_value, behind_indent, behind_marker}
+use Rattle.md_containers.specs.ItemRule.{behind_value, digits_end, digits_rest, digits_size, in_value}
 use Rattle.md_meaning.specs.Containers.{is_digit}
 use Rattle.md_leaves.proofs.LeafStart.{HasStart, start-steps}
 use Rattle.md_seam.specs.Events.Nested.{enter, exit}
@@ -197,22 +198,53 @@ has_start : (B : Behaviour) (options : ParseOptions) → HasItem B options →
 has_start B options has = record { white = has.white; start_is = has.each its.Start; next_is = has.each its.Before }
 
 -- each state of a list item takes one step of its rule
+item_steps : (B : Behaviour) (feed : Feed) (state : ItemState) (w : World) → HasItem B w.setting.options → Sees feed w →
+    ItemInvariant (n.ListItem state) (position w) →
+    Steps B feed (Next (n.ListItem state)) w (item_transition state w).to (item_transition state w).world
+item_steps B feed its.Start w has s at =
+    start-steps B feed parts.ListItem _ (behind_indent w.setting.options) _ _ w _ _ (has_start B _ has) s refl refl
+item_steps B feed its.Before w has s at = before_means B feed w _ has s at s.next
+item_steps B feed its.BeforeUnordered w has s at = unordered_means B _ feed w has
+item_steps B feed its.BeforeOrdered w has s at = ordered_means B _ feed w _ has s refl
+item_steps B feed its.Value w has s at = value_means B _ feed w _ _ has s refl refl
+item_steps B feed its.Marker w has s at = marker_means B _ feed w _ has s refl
+item_steps B feed its.MarkerAfter w has s at = marker_after_means B _ feed w has s
+item_steps B feed its.MarkerAfterFilled w has s at = filled_means B _ feed w has at
+item_steps B feed its.Whitespace w has s at = whitespace_means B _ feed w _ has refl
+item_steps B feed its.WhitespaceAfter w has s at = whitespace_after_means B _ feed w _ has s refl
+item_steps B feed its.PrefixOther w has s at = prefix_other_means B _ feed w _ has s refl
+item_steps B feed its.After w has s at = after_means B _ feed w _ has refl
+item_steps B feed its.ContStart w has s at = cont_start_means B _ feed w _ _ has s at refl refl
+item_steps B feed its.ContBlank w has s at = cont_blank_means B _ feed w _ has s refl
+item_steps B feed its.ContFilled w has s at = cont_filled_means B _ feed w _ has s refl
+
+-- what a state that is ready has, its rule needs
+ready-holds : (state : ItemState) (x : Position) (K : After) → item_ready (n.ListItem state) x K →
+    ItemInvariant (n.ListItem state) x
+ready-holds its.Start x K at = tt
+ready-holds its.Before x K at = at.0
+ready-holds its.BeforeUnordered x K at = tt
+ready-holds its.BeforeOrdered x K at = tt
+ready-holds its.Value x K at = tt
+ready-holds its.Marker x K at = tt
+ready-holds its.MarkerAfter x K at = tt
+ready-holds its.MarkerAfterFilled x K at = at.0
+ready-holds its.Whitespace x K at = tt
+ready-holds its.WhitespaceAfter x K at = tt
+ready-holds its.PrefixOther x K at = tt
+ready-holds its.After x K at = tt
+ready-holds its.ContStart x K at = at.0.0
+ready-holds its.ContBlank x K at = tt
+ready-holds its.ContFilled x K at = tt
+
+-- and so where its attempts end as they have to
 pub item_means : (B : Behaviour) (feed : Feed) (state : ItemState) (w : World) (K : After) →
     HasItem B w.setting.options → Sees feed w → item_ready (n.ListItem state) (position w) K →
     Steps B feed (Next (n.ListItem state)) w (item_transition state w).to (item_transition state w).world
-item_means B feed its.Start w K has s at =
-    start-steps B feed parts.ListItem _ (behind_indent w.setting.options) _ _ w _ _ (has_start B _ has) s refl refl
-item_means B feed its.Before w K has s at = before_means B feed w _ has s at.0 s.next
-item_means B feed its.BeforeUnordered w K has s at = unordered_means B _ feed w has
-item_means B feed its.BeforeOrdered w K has s at = ordered_means B _ feed w _ has s refl
-item_means B feed its.Value w K has s at = value_means B _ feed w _ _ has s refl refl
-item_means B feed its.Marker w K has s at = marker_means B _ feed w _ has s refl
-item_means B feed its.MarkerAfter w K has s at = marker_after_means B _ feed w has s
-item_means B feed its.MarkerAfterFilled w K has s at = filled_means B _ feed w has at.0
-item_means B feed its.Whitespace w K has s at = whitespace_means B _ feed w _ has refl
-item_means B feed its.WhitespaceAfter w K has s at = whitespace_after_means B _ feed w _ has s refl
-item_means B feed its.PrefixOther w K has s at = prefix_other_means B _ feed w _ has s refl
-item_means B feed its.After w K has s at = after_means B _ feed w _ has refl
-item_means B feed its.ContStart w K has s at = cont_start_means B _ feed w _ _ has s at.0.0 refl refl
-item_means B feed its.ContBlank w K has s at = cont_blank_means B _ feed w _ has s refl
-item_means B feed its.ContFilled w K has s at = cont_filled_means B _ feed w _ has s refl
+item_means B feed state w K has s at = item_steps B feed state w has s (ready-holds state (position w) K at)
+
+-- what answers as the transition of a state does means what the state means
+pub item_rule : (state : ItemState) (w new : World) (to : State) → to ≡ (item_transition state w).to →
+    new ≡ (item_transition state w).world → ItemMeans state w to new
+unfolding ItemMeans
+item_rule state w new to e k at B feed has s = steps-as B feed _ _ to w _ new e k (item_steps B feed state w has s at)

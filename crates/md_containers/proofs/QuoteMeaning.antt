@@ -7,14 +7,15 @@ use Rattle.md_engine.specs.declared.event.Name.TheVariants.{BlockQuote, BlockQuo
 use Rattle.md_engine.specs.declared.state.Name.TheVariants as n
 use Rattle.md_engine.specs.declared.state.block_quote.State.{State as QuoteState}
 use Rattle.md_engine.specs.declared.state.block_quote.State.TheVariants as its
+use Rattle.md_engine.specs.declared.state.State.{State}
 use Rattle.md_engine.specs.declared.state.State.TheVariants.{Nok, Next}
 use Rattle.md_engine.specs.declared.tokenizer.Frame.{Frame}
 use Rattle.md_engine.specs.Meaning.{Accepts, Behaviour, Cell, Feed, Here, Refuses, Steps, here}
 use Rattle.md_engine.specs.World.{World, after}
 use Rattle.md_engine.specs.Sees.{Sees, ahead}
-use Rattle.md_engine.proofs.StepOf.{begins_only, moves, passes}
+use Rattle.md_engine.proofs.StepOf.{begins_only, moves, passes, steps-as}
 use Rattle.md_containers.specs.Quote.{cont_after_code, cont_before_code, cont_start_code, quote_transition, start_code}
-use Rattle.md_containers.specs.QuoteRule.{HasQuote, at_marker, behind_marker, prefix_at, quote_at}
+use Rattle.md_containers.specs.QuoteRule.{HasQuote, QuoteMeans, at_marker, behind_marker, prefix_at, quote_at}
 use Rattle.md_seam.specs.Ahead.{begins_white, white_rest}
 use Rattle.md_seam.specs.Events.Nested.{enter, exit}
 use Rattle.md_seam.specs.Spaces.{is_current, sees_white, small_indent}
@@ -171,3 +172,9 @@ quote_means B feed its.Start w has s = quote_start_means B feed w _ has refl
 quote_means B feed its.ContStart w has s = quote_cont_start_means B feed w _ has s refl
 quote_means B feed its.ContBefore w has s = quote_cont_before_means B _ feed w _ has s refl
 quote_means B feed its.ContAfter w has s = quote_cont_after_means B _ feed w _ has s refl
+
+-- what answers as the transition of a state does means what the state means
+pub quote_rule : (state : QuoteState) (w new : World) (to : State) → to ≡ (quote_transition state w).to →
+    new ≡ (quote_transition state w).world → QuoteMeans state w to new
+unfolding QuoteMeans
+quote_rule state w new to e k B feed has s = steps-as B feed _ _ to w _ new e k (quote_means B feed state w has s)

@@ -178,6 +178,11 @@ footnote_ready (n.GfmFootnoteDefinition its.Start) x K = later_ready x K
 footnote_ready (n.GfmFootnoteDefinition its.LabelBefore) x K = later_ready x K
 footnote_ready _ x K = rest_ready x K
 
+-- what the rule of a footnote definition needs at a state: no more bytes of the label were read than it may have
+abbrev pub FootnoteInvariant : StateName → Position → Type 0
+FootnoteInvariant (n.GfmFootnoteDefinition its.LabelInside) x = x.scratch.size ≤ most
+FootnoteInvariant _ x = Unit {0}
+
 abbrev pub footnote_rank : StateName → Position → Rank
 footnote_rank (n.GfmFootnoteDefinition its.Start) x = ranked 4 refl
 footnote_rank (n.GfmFootnoteDefinition its.LabelEscape) x = ranked 2 refl

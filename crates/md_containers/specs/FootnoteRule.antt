@@ -10,10 +10,14 @@ use Rattle.md_engine.specs.declared.event.Name.TheVariants.{GfmFootnoteDefinitio
 use Rattle.md_engine.specs.declared.event.Name.TheVariants.{GfmFootnoteDefinitionMarker, GfmFootnoteDefinitionPrefix}
 use Rattle.md_engine.specs.declared.event.Point.{Point}
 use Rattle.md_engine.specs.declared.state.Name.TheVariants as n
+use Rattle.md_engine.specs.declared.state.State.{State}
 use Rattle.md_engine.specs.declared.state.gfm_footnote_definition.State.{State as FootnoteState}
 use Rattle.md_engine.specs.declared.state.gfm_footnote_definition.State.TheVariants as its
 use Rattle.md_engine.specs.Meaning.{Accepts, Behaviour, Cell, Here, Outcome, Refuses}
-use Rattle.md_containers.specs.Footnote.{breaks_label, footnote_held, label_link, most}
+use Rattle.md_engine.specs.Scheme.{position}
+use Rattle.md_engine.specs.Sees.{IsStep}
+use Rattle.md_engine.specs.World.{World}
+use Rattle.md_containers.specs.Footnote.{FootnoteInvariant, breaks_label, footnote_held, label_link, most}
 use Rattle.md_containers.specs.Item.{without_size}
 use Rattle.md_containers.specs.ItemRule.{behind_columns}
 use Rattle.md_meaning.specs.Ascii.{backslash, caret, colon, left_bracket, right_bracket}
@@ -143,3 +147,9 @@ pub record HasFootnote (B : Behaviour) (options : ParseOptions) : Type 0 where
   pub white : HasWhite B
   pub each : (state : FootnoteState) (cells : List Cell) (h : Here) →
       B (n.GfmFootnoteDefinition state) cells h ≡ footnote_behaves options state cells h
+
+-- what a state of a footnote definition means: where what it needs holds, its call is one step of the rule
+unfoldable pub FootnoteMeans : FootnoteState → World → State → World → Type 0
+FootnoteMeans state old to new =
+    FootnoteInvariant (n.GfmFootnoteDefinition state) (position old) →
+    IsStep (λ B. HasFootnote B old.setting.options) (n.GfmFootnoteDefinition state) to old new

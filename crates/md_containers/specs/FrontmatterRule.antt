@@ -5,9 +5,11 @@ use Rattle.md_engine.specs.declared.event.Name.TheVariants as part
 use Rattle.md_engine.specs.declared.state.Name.TheVariants as n
 use Rattle.md_engine.specs.declared.state.frontmatter.State.{State as FrontState}
 use Rattle.md_engine.specs.declared.state.frontmatter.State.TheVariants as its
+use Rattle.md_engine.specs.declared.state.State.{State}
 use Rattle.md_engine.specs.declared.tokenizer.Scratch.{Scratch}
 use Rattle.md_engine.specs.Meaning.{Accepts, Behaviour, Cell, Fails, Here, Outcome, Refuses}
-use Rattle.md_engine.specs.World.{Flags}
+use Rattle.md_engine.specs.Sees.{IsStep}
+use Rattle.md_engine.specs.World.{Flags, World}
 use Rattle.md_leaves.specs.Heading.{without_size}
 use Rattle.md_code.specs.FenceRule.{behind_white_of, is_end, run_end, run_rest, run_size, with_event}
 use Rattle.md_seam.specs.Ahead.{HasWhite}
@@ -149,3 +151,7 @@ pub record HasFront (B : Behaviour) (options : ParseOptions) : Type 0 where
   pub white : HasWhite B
   pub each : (state : FrontState) (cells : List Cell) (h : Here) →
       B (n.Frontmatter state) cells h ≡ front_behaves options state cells h
+
+-- what a state of frontmatter means: its call is one step of the rule
+unfoldable pub FrontMeans : FrontState → World → State → World → Type 0
+FrontMeans state old to new = IsStep (λ B. HasFront B old.setting.options) (n.Frontmatter state) to old new

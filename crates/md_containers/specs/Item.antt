@@ -305,6 +305,13 @@ item_ready (n.ListItem its.ContBlank) x K = indent_ready x.scratch.whitespace.ma
 item_ready (n.ListItem its.ContFilled) x K = indent_ready x.scratch.whitespace.max x K
 item_ready _ x K = later_ready x K
 
+-- what the rule of an item needs at a state: what was begun before it is over
+abbrev pub ItemInvariant : StateName → Position → Type 0
+ItemInvariant (n.ListItem its.Before) x = IsRest x.scratch
+ItemInvariant (n.ListItem its.MarkerAfterFilled) x = IsRest x.scratch
+ItemInvariant (n.ListItem its.ContStart) x = IsRest x.scratch
+ItemInvariant _ x = Unit {0}
+
 abbrev pub item_level : StateName → ℕ
 item_level (n.ListItem its.Whitespace) = 1
 item_level (n.ListItem its.WhitespaceAfter) = 1

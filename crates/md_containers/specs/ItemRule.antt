@@ -6,12 +6,16 @@ use Rattle.md_engine.specs.declared.event.Name.TheVariants.{ListItem, ListItemMa
 use Rattle.md_engine.specs.declared.event.Name.TheVariants.{SpaceOrTab}
 use Rattle.md_engine.specs.declared.event.Point.{Point}
 use Rattle.md_engine.specs.declared.state.Name.TheVariants as n
+use Rattle.md_engine.specs.declared.state.State.{State}
 use Rattle.md_engine.specs.declared.state.list_item.State.{State as ItemState}
 use Rattle.md_engine.specs.declared.state.list_item.State.TheVariants as its
 use Rattle.md_engine.specs.Meaning.{Accepts, Behaviour, Cell, Here, Outcome, Refuses}
+use Rattle.md_engine.specs.Scheme.{position}
+use Rattle.md_engine.specs.Sees.{IsStep}
+use Rattle.md_engine.specs.World.{World}
 use Rattle.md_containers.specs.Interrupts.{interrupts}
-use Rattle.md_containers.specs.Item.{ends_value, is_item_marker, item_gone_on, item_held, least_width, unseen}
-use Rattle.md_containers.specs.Item.{without_size}
+use Rattle.md_containers.specs.Item.{ItemInvariant, ends_value, is_item_marker, item_gone_on, item_held, least_width}
+use Rattle.md_containers.specs.Item.{unseen, without_size}
 use Rattle.md_meaning.specs.Containers.{is_bullet, is_digit}
 use Rattle.md_meaning.specs.Leaves.{is_rule}
 use Rattle.md_meaning.specs.Rest.{is_blank, is_white}
@@ -228,3 +232,9 @@ pub record HasItem (B : Behaviour) (options : ParseOptions) : Type 0 where
   pub breaks : HasBreak B options
   pub each : (state : ItemState) (cells : List Cell) (h : Here) →
       B (n.ListItem state) cells h ≡ item_behaves options state cells h
+
+-- what a state of an item means: where what it needs holds, its call is one step of the rule
+unfoldable pub ItemMeans : ItemState → World → State → World → Type 0
+ItemMeans state old to new =
+    ItemInvariant (n.ListItem state) (position old) →
+    IsStep (λ B. HasItem B old.setting.options) (n.ListItem state) to old new

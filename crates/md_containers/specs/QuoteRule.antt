@@ -7,7 +7,10 @@ use Rattle.md_engine.specs.declared.event.Point.{Point}
 use Rattle.md_engine.specs.declared.state.Name.TheVariants as n
 use Rattle.md_engine.specs.declared.state.block_quote.State.{State as QuoteState}
 use Rattle.md_engine.specs.declared.state.block_quote.State.TheVariants as its
+use Rattle.md_engine.specs.declared.state.State.{State}
 use Rattle.md_engine.specs.Meaning.{Accepts, Behaviour, Cell, Here, Outcome, Refuses}
+use Rattle.md_engine.specs.Sees.{IsStep}
+use Rattle.md_engine.specs.World.{World}
 use Rattle.md_seam.specs.Ahead.{HasWhite, begins_white, white_end, white_rest}
 use Rattle.md_seam.specs.Events.Nested.{enter, exit, pair}
 use Rattle.md_meaning.specs.Rest.{is_white}
@@ -124,3 +127,7 @@ pub record HasQuote (B : Behaviour) (options : ParseOptions) : Type 0 where
   pub white : HasWhite B
   pub each : (state : QuoteState) (cells : List Cell) (h : Here) →
       B (n.BlockQuote state) cells h ≡ quote_behaves options state cells h
+
+-- what a state of the prefix of a quote means: its call is one step of the rule
+unfoldable pub QuoteMeans : QuoteState → World → State → World → Type 0
+QuoteMeans state old to new = IsStep (λ B. HasQuote B old.setting.options) (n.BlockQuote state) to old new

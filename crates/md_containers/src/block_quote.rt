@@ -6,7 +6,9 @@
 // `BlockQuote` in front of the prefix. The prefix is its indent, and `BlockQuotePrefix` around `BlockQuoteMarker` and
 // at most one column of whitespace.
 
-ghost use Rattle.std.specs.Prelude.{◌≡◌, ◌≢◌, OnOk, true};
+ghost use Rattle.std.specs.Prelude.{◌≡◌, ◌≢◌, OnOk, is_err, true};
+ghost use Rattle.md_containers.specs.QuoteRule.{QuoteMeans};
+ghost use Rattle.md_engine.specs.Full.{IsFull, OnError};
 ghost use Rattle.md_engine.specs.World.{world};
 ghost use Rattle.md_engine.specs.declared.state.Name.{Name as StateName};
 ghost use Rattle.md_engine.specs.declared.state.State.{State};
@@ -38,10 +40,14 @@ pub fn may_begin(first: Option<u8>) -> bool
 /// > | > a
 ///     ^
 /// ```
+#[tactic(auto, using(crate::proofs::QuoteMeaning::quote_rule))]
 pub fn start(tokenizer: &mut Tokenizer) -> State
     requires { IsAt NeedsNothing (StateName.BlockQuote QuoteState.Start) (world tokenizer.old) }
     ensures to { result ≢ State.Error → result ≡ (start_transition (world tokenizer.old)).to }
     ensures world { result ≢ State.Error → world tokenizer.new ≡ (start_transition (world tokenizer.old)).world }
+    ensures rule { result ≢ State.Error →
+        QuoteMeans QuoteState.Start (world tokenizer.old) result (world tokenizer.new) }
+    ensures full { OnError result (IsFull tokenizer.new) }
 {
     if !tokenizer.options.constructs.block_quote {
         return State::Nok;
@@ -57,10 +63,14 @@ pub fn start(tokenizer: &mut Tokenizer) -> State
 /// > | > b
 ///     ^
 /// ```
+#[tactic(auto, using(crate::proofs::QuoteMeaning::quote_rule))]
 pub fn cont_start(tokenizer: &mut Tokenizer) -> State
     requires { IsAt NeedsNothing (StateName.BlockQuote QuoteState.ContStart) (world tokenizer.old) }
     ensures to { result ≢ State.Error → result ≡ (cont_start_transition (world tokenizer.old)).to }
     ensures world { result ≢ State.Error → world tokenizer.new ≡ (cont_start_transition (world tokenizer.old)).world }
+    ensures rule { result ≢ State.Error →
+        QuoteMeans QuoteState.ContStart (world tokenizer.old) result (world tokenizer.new) }
+    ensures full { OnError result (IsFull tokenizer.new) }
 {
     if is_space_or_tab(tokenizer.current) {
         let max = small_indent(tokenizer);
@@ -82,10 +92,14 @@ pub fn cont_start(tokenizer: &mut Tokenizer) -> State
 /// > | > a
 ///     ^
 /// ```
+#[tactic(auto, using(crate::proofs::QuoteMeaning::quote_rule))]
 pub fn cont_before(tokenizer: &mut Tokenizer) -> State
     requires { IsAt NeedsNothing (StateName.BlockQuote QuoteState.ContBefore) (world tokenizer.old) }
     ensures to { result ≢ State.Error → result ≡ (cont_before_transition (world tokenizer.old)).to }
     ensures world { result ≢ State.Error → world tokenizer.new ≡ (cont_before_transition (world tokenizer.old)).world }
+    ensures rule { result ≢ State.Error →
+        QuoteMeans QuoteState.ContBefore (world tokenizer.old) result (world tokenizer.new) }
+    ensures full { OnError result (IsFull tokenizer.new) }
 {
     if tokenizer.current != Some(b'>') {
         return State::Nok;
@@ -103,10 +117,14 @@ pub fn cont_before(tokenizer: &mut Tokenizer) -> State
 /// > | > a
 ///      ^
 /// ```
+#[tactic(auto, using(crate::proofs::QuoteMeaning::quote_rule))]
 pub fn cont_after(tokenizer: &mut Tokenizer) -> State
     requires { IsAt NeedsNothing (StateName.BlockQuote QuoteState.ContAfter) (world tokenizer.old) }
     ensures to { result ≢ State.Error → result ≡ (cont_after_transition (world tokenizer.old)).to }
     ensures world { result ≢ State.Error → world tokenizer.new ≡ (cont_after_transition (world tokenizer.old)).world }
+    ensures rule { result ≢ State.Error →
+        QuoteMeans QuoteState.ContAfter (world tokenizer.old) result (world tokenizer.new) }
+    ensures full { OnError result (IsFull tokenizer.new) }
 {
     if is_space_or_tab(tokenizer.current) {
         or_error!(tokenizer.enter(Name::SpaceOrTab));
@@ -133,7 +151,8 @@ pub fn is_plain_prefix(tokenizer: &Tokenizer) -> bool
 #[inline(always)]
 pub fn take_plain_prefix(tokenizer: &mut Tokenizer) -> Result<(), Message>
     requires { IsPlainPrefix (world tokenizer.old) }
-    ensures { OnOk result (world tokenizer.new ≡ prefixed (world tokenizer.old)) }
+    ensures world { OnOk result (world tokenizer.new ≡ prefixed (world tokenizer.old)) }
+    ensures full { is_err result ≡ true → IsFull tokenizer.new }
 {
     tokenizer.enter(Name::BlockQuotePrefix)?;
     tokenizer.enter(Name::BlockQuoteMarker)?;
@@ -148,10 +167,13 @@ pub fn take_plain_prefix(tokenizer: &mut Tokenizer) -> Result<(), Message>
 }
 
 /// Calls a state of a quote.
+#[tactic(auto, using(crate::proofs::QuoteMeaning::quote_rule))]
 pub fn call(tokenizer: &mut Tokenizer, state: QuoteState) -> State
     requires { IsAt NeedsNothing (StateName.BlockQuote state) (world tokenizer.old) }
     ensures to { result ≢ State.Error → result ≡ (quote_transition state (world tokenizer.old)).to }
     ensures world { result ≢ State.Error → world tokenizer.new ≡ (quote_transition state (world tokenizer.old)).world }
+    ensures rule { result ≢ State.Error → QuoteMeans state (world tokenizer.old) result (world tokenizer.new) }
+    ensures full { OnError result (IsFull tokenizer.new) }
 {
     match state {
         QuoteState::Start => start(tokenizer),

@@ -14,6 +14,8 @@
 // as many. That is what an item of this width asks for that did not start blank; so the states of an item read it.
 
 ghost use Rattle.std.specs.Prelude.{◌≡◌, ◌≢◌, ◌<◌, ◌==◌, length};
+ghost use Rattle.md_containers.specs.FootnoteRule.{FootnoteMeans};
+ghost use Rattle.md_engine.specs.Full.{IsFull, OnError};
 ghost use Rattle.md_engine.specs.World.{world};
 ghost use Rattle.md_engine.specs.declared.state.Name.{Name as StateName};
 ghost use Rattle.md_engine.specs.declared.state.State.{State};
@@ -62,10 +64,14 @@ pub fn may_begin(first: Option<u8>) -> bool
 /// > | [^a]: b
 ///     ^
 /// ```
+#[tactic(auto, using(crate::proofs::FootnoteMeaning::footnote_rule))]
 pub fn start(tokenizer: &mut Tokenizer) -> State
     requires { IsAt NeedsNothing (StateName.GfmFootnoteDefinition FootnoteState.Start) (world tokenizer.old) }
     ensures to { result ≢ State.Error → result ≡ (start_transition (world tokenizer.old)).to }
     ensures world { result ≢ State.Error → world tokenizer.new ≡ (start_transition (world tokenizer.old)).world }
+    ensures rule { result ≢ State.Error →
+        FootnoteMeans FootnoteState.Start (world tokenizer.old) result (world tokenizer.new) }
+    ensures full { OnError result (IsFull tokenizer.new) }
 {
     if !tokenizer.options.constructs.gfm_footnote_definition {
         return State::Nok;
@@ -91,11 +97,15 @@ pub fn start(tokenizer: &mut Tokenizer) -> State
 /// > | [^a]: b
 ///     ^
 /// ```
+#[tactic(auto, using(crate::proofs::FootnoteMeaning::footnote_rule))]
 pub fn label_before(tokenizer: &mut Tokenizer) -> State
     requires { IsAt NeedsNothing (StateName.GfmFootnoteDefinition FootnoteState.LabelBefore) (world tokenizer.old) }
     ensures to { result ≢ State.Error → result ≡ (label_before_transition (world tokenizer.old)).to }
     ensures world { result ≢ State.Error →
         world tokenizer.new ≡ (label_before_transition (world tokenizer.old)).world }
+    ensures rule { result ≢ State.Error →
+        FootnoteMeans FootnoteState.LabelBefore (world tokenizer.old) result (world tokenizer.new) }
+    ensures full { OnError result (IsFull tokenizer.new) }
 {
     if tokenizer.current != Some(b'[') {
         return State::Nok;
@@ -114,11 +124,15 @@ pub fn label_before(tokenizer: &mut Tokenizer) -> State
 /// > | [^a]: b
 ///      ^
 /// ```
+#[tactic(auto, using(crate::proofs::FootnoteMeaning::footnote_rule))]
 pub fn label_at_marker(tokenizer: &mut Tokenizer) -> State
     requires { IsAt NeedsNothing (StateName.GfmFootnoteDefinition FootnoteState.LabelAtMarker) (world tokenizer.old) }
     ensures to { result ≢ State.Error → result ≡ (label_at_marker_transition (world tokenizer.old)).to }
     ensures world { result ≢ State.Error →
         world tokenizer.new ≡ (label_at_marker_transition (world tokenizer.old)).world }
+    ensures rule { result ≢ State.Error →
+        FootnoteMeans FootnoteState.LabelAtMarker (world tokenizer.old) result (world tokenizer.new) }
+    ensures full { OnError result (IsFull tokenizer.new) }
 {
     if tokenizer.current != Some(b'^') {
         return State::Nok;
@@ -166,6 +180,7 @@ fn close(tokenizer: &mut Tokenizer) -> State
         result ≡ (closed_code (world tokenizer.old) ((world tokenizer.old).scratch.size == 0)).to }
     ensures world { result ≢ State.Error →
         world tokenizer.new ≡ (closed_code (world tokenizer.old) ((world tokenizer.old).scratch.size == 0)).world }
+    ensures full { OnError result (IsFull tokenizer.new) }
 {
     if tokenizer.scratch.size == 0 {
         return refuse(tokenizer);
@@ -186,11 +201,15 @@ fn close(tokenizer: &mut Tokenizer) -> State
 /// > | [^a]: b
 ///       ^
 /// ```
+#[tactic(auto, using(crate::proofs::FootnoteMeaning::footnote_rule))]
 pub fn label_inside(tokenizer: &mut Tokenizer) -> State
     requires { IsAt NeedsNothing (StateName.GfmFootnoteDefinition FootnoteState.LabelInside) (world tokenizer.old) }
     ensures to { result ≢ State.Error → result ≡ (label_inside_transition (world tokenizer.old)).to }
     ensures world { result ≢ State.Error →
         world tokenizer.new ≡ (label_inside_transition (world tokenizer.old)).world }
+    ensures rule { result ≢ State.Error →
+        FootnoteMeans FootnoteState.LabelInside (world tokenizer.old) result (world tokenizer.new) }
+    ensures full { OnError result (IsFull tokenizer.new) }
 {
     match tokenizer.current {
         Some(b']') => close(tokenizer),
@@ -206,10 +225,12 @@ pub fn label_inside(tokenizer: &mut Tokenizer) -> State
 /// > | [^\]]: b
 ///        ^
 /// ```
+#[tactic(auto, using(crate::proofs::FootnoteMeaning::footnote_rule))]
 pub fn label_escape(tokenizer: &mut Tokenizer) -> State
     requires { IsAt NeedsNothing (StateName.GfmFootnoteDefinition FootnoteState.LabelEscape) (world tokenizer.old) }
     ensures to { result ≡ (label_escape_transition (world tokenizer.old)).to }
     ensures world { world tokenizer.new ≡ (label_escape_transition (world tokenizer.old)).world }
+    ensures rule { FootnoteMeans FootnoteState.LabelEscape (world tokenizer.old) result (world tokenizer.new) }
 {
     match tokenizer.current {
         Some(byte) if is_label_mark(byte) => take(tokenizer, FootnoteState::LabelInside),
@@ -223,11 +244,15 @@ pub fn label_escape(tokenizer: &mut Tokenizer) -> State
 /// > | [^a]: b
 ///         ^
 /// ```
+#[tactic(auto, using(crate::proofs::FootnoteMeaning::footnote_rule))]
 pub fn label_after(tokenizer: &mut Tokenizer) -> State
     requires { IsAt NeedsNothing (StateName.GfmFootnoteDefinition FootnoteState.LabelAfter) (world tokenizer.old) }
     ensures to { result ≢ State.Error → result ≡ (label_after_transition (world tokenizer.old)).to }
     ensures world { result ≢ State.Error →
         world tokenizer.new ≡ (label_after_transition (world tokenizer.old)).world }
+    ensures rule { result ≢ State.Error →
+        FootnoteMeans FootnoteState.LabelAfter (world tokenizer.old) result (world tokenizer.new) }
+    ensures full { OnError result (IsFull tokenizer.new) }
 {
     if tokenizer.current != Some(b':') {
         return State::Nok;
@@ -244,11 +269,15 @@ pub fn label_after(tokenizer: &mut Tokenizer) -> State
 /// > | [^a]: b
 ///          ^
 /// ```
+#[tactic(auto, using(crate::proofs::FootnoteMeaning::footnote_rule))]
 pub fn marker_after(tokenizer: &mut Tokenizer) -> State
     requires { IsAt NeedsNothing (StateName.GfmFootnoteDefinition FootnoteState.MarkerAfter) (world tokenizer.old) }
     ensures to { result ≢ State.Error → result ≡ (marker_after_transition (world tokenizer.old)).to }
     ensures world { result ≢ State.Error →
         world tokenizer.new ≡ (marker_after_transition (world tokenizer.old)).world }
+    ensures rule { result ≢ State.Error →
+        FootnoteMeans FootnoteState.MarkerAfter (world tokenizer.old) result (world tokenizer.new) }
+    ensures full { OnError result (IsFull tokenizer.new) }
 {
     if is_space_or_tab(tokenizer.current) {
         space_or_tab(
@@ -267,12 +296,16 @@ pub fn marker_after(tokenizer: &mut Tokenizer) -> State
 /// > | [^a]: b
 ///           ^
 /// ```
+#[tactic(auto, using(crate::proofs::FootnoteMeaning::footnote_rule))]
 pub fn whitespace_after(tokenizer: &mut Tokenizer) -> State
     requires { IsAt NeedsNothing (StateName.GfmFootnoteDefinition FootnoteState.WhitespaceAfter)
         (world tokenizer.old) }
     ensures to { result ≢ State.Error → result ≡ (whitespace_after_transition (world tokenizer.old)).to }
     ensures world { result ≢ State.Error →
         world tokenizer.new ≡ (whitespace_after_transition (world tokenizer.old)).world }
+    ensures rule { result ≢ State.Error →
+        FootnoteMeans FootnoteState.WhitespaceAfter (world tokenizer.old) result (world tokenizer.new) }
+    ensures full { OnError result (IsFull tokenizer.new) }
 {
     tokenizer.flags.asked.width = WIDTH;
     tokenizer.flags.asked.starts_blank = false;
@@ -281,11 +314,14 @@ pub fn whitespace_after(tokenizer: &mut Tokenizer) -> State
 }
 
 /// Calls a state of a footnote definition.
+#[tactic(auto, using(crate::proofs::FootnoteMeaning::footnote_rule))]
 pub fn call(tokenizer: &mut Tokenizer, state: FootnoteState) -> State
     requires { IsAt NeedsNothing (StateName.GfmFootnoteDefinition state) (world tokenizer.old) }
     ensures to { result ≢ State.Error → result ≡ (footnote_transition state (world tokenizer.old)).to }
     ensures world { result ≢ State.Error →
         world tokenizer.new ≡ (footnote_transition state (world tokenizer.old)).world }
+    ensures rule { result ≢ State.Error → FootnoteMeans state (world tokenizer.old) result (world tokenizer.new) }
+    ensures full { OnError result (IsFull tokenizer.new) }
 {
     match state {
         FootnoteState::Start => start(tokenizer),

@@ -14,6 +14,8 @@
 // footnote definition too.
 
 ghost use Rattle.std.specs.Prelude.{◌≡◌, ◌≢◌, IfSome};
+ghost use Rattle.md_containers.specs.ItemRule.{ItemMeans};
+ghost use Rattle.md_engine.specs.Full.{IsFull, OnError};
 ghost use Rattle.md_engine.specs.World.{world};
 ghost use Rattle.md_engine.specs.declared.state.Name.{Name as StateName};
 ghost use Rattle.md_engine.specs.declared.state.State.{State};
@@ -96,10 +98,13 @@ pub fn may_begin(first: Option<u8>) -> bool
 /// > | * a
 ///     ^
 /// ```
+#[tactic(auto, using(crate::proofs::ItemMeaning::item_rule))]
 pub fn start(tokenizer: &mut Tokenizer) -> State
     requires { IsAt NeedsNothing (StateName.ListItem ItemState.Start) (world tokenizer.old) }
     ensures to { result ≢ State.Error → result ≡ (start_transition (world tokenizer.old)).to }
     ensures world { result ≢ State.Error → world tokenizer.new ≡ (start_transition (world tokenizer.old)).world }
+    ensures rule { result ≢ State.Error → ItemMeans ItemState.Start (world tokenizer.old) result (world tokenizer.new) }
+    ensures full { OnError result (IsFull tokenizer.new) }
 {
     if !tokenizer.options.constructs.list_item {
         return State::Nok;
@@ -125,10 +130,14 @@ pub fn start(tokenizer: &mut Tokenizer) -> State
 /// > | * a
 ///     ^
 /// ```
+#[tactic(auto, using(crate::proofs::ItemMeaning::item_rule))]
 pub fn before(tokenizer: &mut Tokenizer) -> State
     requires { IsAt NeedsNothing (StateName.ListItem ItemState.Before) (world tokenizer.old) }
     ensures to { result ≢ State.Error → result ≡ (before_transition (world tokenizer.old)).to }
     ensures world { result ≢ State.Error → world tokenizer.new ≡ (before_transition (world tokenizer.old)).world }
+    ensures rule { result ≢ State.Error →
+        ItemMeans ItemState.Before (world tokenizer.old) result (world tokenizer.new) }
+    ensures full { OnError result (IsFull tokenizer.new) }
 {
     let Some(byte) = tokenizer.current else {
         return State::Nok;
@@ -155,11 +164,15 @@ pub fn before(tokenizer: &mut Tokenizer) -> State
 /// > | * a
 ///     ^
 /// ```
+#[tactic(auto, using(crate::proofs::ItemMeaning::item_rule))]
 pub fn before_unordered(tokenizer: &mut Tokenizer) -> State
     requires { IsAt NeedsNothing (StateName.ListItem ItemState.BeforeUnordered) (world tokenizer.old) }
     ensures to { result ≢ State.Error → result ≡ (before_unordered_transition (world tokenizer.old)).to }
     ensures world { result ≢ State.Error →
         world tokenizer.new ≡ (before_unordered_transition (world tokenizer.old)).world }
+    ensures rule { result ≢ State.Error →
+        ItemMeans ItemState.BeforeUnordered (world tokenizer.old) result (world tokenizer.new) }
+    ensures full { OnError result (IsFull tokenizer.new) }
 {
     or_error!(tokenizer.enter(Name::ListItemPrefix));
     State::Retry(StateName::ListItem(ItemState::Marker))
@@ -171,11 +184,15 @@ pub fn before_unordered(tokenizer: &mut Tokenizer) -> State
 /// > | 1. a
 ///     ^
 /// ```
+#[tactic(auto, using(crate::proofs::ItemMeaning::item_rule))]
 pub fn before_ordered(tokenizer: &mut Tokenizer) -> State
     requires { IsAt NeedsNothing (StateName.ListItem ItemState.BeforeOrdered) (world tokenizer.old) }
     ensures to { result ≢ State.Error → result ≡ (before_ordered_transition (world tokenizer.old)).to }
     ensures world { result ≢ State.Error →
         world tokenizer.new ≡ (before_ordered_transition (world tokenizer.old)).world }
+    ensures rule { result ≢ State.Error →
+        ItemMeans ItemState.BeforeOrdered (world tokenizer.old) result (world tokenizer.new) }
+    ensures full { OnError result (IsFull tokenizer.new) }
 {
     match tokenizer.current {
         Some(byte) if is_digit(byte) => {
@@ -193,10 +210,13 @@ pub fn before_ordered(tokenizer: &mut Tokenizer) -> State
 /// > | 1. a
 ///     ^
 /// ```
+#[tactic(auto, using(crate::proofs::ItemMeaning::item_rule))]
 pub fn value(tokenizer: &mut Tokenizer) -> State
     requires { IsAt NeedsNothing (StateName.ListItem ItemState.Value) (world tokenizer.old) }
     ensures to { result ≢ State.Error → result ≡ (value_transition (world tokenizer.old)).to }
     ensures world { result ≢ State.Error → world tokenizer.new ≡ (value_transition (world tokenizer.old)).world }
+    ensures rule { result ≢ State.Error → ItemMeans ItemState.Value (world tokenizer.old) result (world tokenizer.new) }
+    ensures full { OnError result (IsFull tokenizer.new) }
 {
     let size = tokenizer.scratch.size;
     match tokenizer.current {
@@ -225,10 +245,14 @@ pub fn value(tokenizer: &mut Tokenizer) -> State
 /// > | 1. b
 ///      ^
 /// ```
+#[tactic(auto, using(crate::proofs::ItemMeaning::item_rule))]
 pub fn marker(tokenizer: &mut Tokenizer) -> State
     requires { IsAt NeedsNothing (StateName.ListItem ItemState.Marker) (world tokenizer.old) }
     ensures to { result ≢ State.Error → result ≡ (marker_transition (world tokenizer.old)).to }
     ensures world { result ≢ State.Error → world tokenizer.new ≡ (marker_transition (world tokenizer.old)).world }
+    ensures rule { result ≢ State.Error →
+        ItemMeans ItemState.Marker (world tokenizer.old) result (world tokenizer.new) }
+    ensures full { OnError result (IsFull tokenizer.new) }
 {
     match tokenizer.current {
         Some(byte) if is_bullet(byte) || ends_value(byte) => {
@@ -247,6 +271,7 @@ fn by_blank(tokenizer: &mut Tokenizer, blank: ItemState, filled: ItemState) -> S
         result ≡ (blank_code blank filled (world tokenizer.old) (looks_behind (world tokenizer.old))).to }
     ensures world { result ≢ State.Error →
         world tokenizer.new ≡ (blank_code blank filled (world tokenizer.old) (looks_behind (world tokenizer.old))).world }
+    ensures full { OnError result (IsFull tokenizer.new) }
 {
     match look_behind(tokenizer) {
         Some(b'\n') => State::Retry(StateName::ListItem(blank)),
@@ -269,10 +294,14 @@ fn by_blank(tokenizer: &mut Tokenizer, blank: ItemState, filled: ItemState) -> S
 /// > | 1. b
 ///       ^
 /// ```
+#[tactic(auto, using(crate::proofs::ItemMeaning::item_rule))]
 pub fn marker_after(tokenizer: &mut Tokenizer) -> State
     requires { IsAt NeedsNothing (StateName.ListItem ItemState.MarkerAfter) (world tokenizer.old) }
     ensures to { result ≢ State.Error → result ≡ (marker_after_transition (world tokenizer.old)).to }
     ensures world { result ≢ State.Error → world tokenizer.new ≡ (marker_after_transition (world tokenizer.old)).world }
+    ensures rule { result ≢ State.Error →
+        ItemMeans ItemState.MarkerAfter (world tokenizer.old) result (world tokenizer.new) }
+    ensures full { OnError result (IsFull tokenizer.new) }
 {
     by_blank(tokenizer, ItemState::After, ItemState::MarkerAfterFilled)
 }
@@ -283,10 +312,14 @@ pub fn marker_after(tokenizer: &mut Tokenizer) -> State
 /// > | * a
 ///      ^
 /// ```
+#[tactic(auto, using(crate::proofs::ItemMeaning::item_rule))]
 pub fn marker_after_filled(tokenizer: &mut Tokenizer) -> State
     requires { IsAt NeedsNothing (StateName.ListItem ItemState.MarkerAfterFilled) (world tokenizer.old) }
     ensures to { result ≢ State.Error → result ≡ (filled_transition (world tokenizer.old)).to }
     ensures world { result ≢ State.Error → world tokenizer.new ≡ (filled_transition (world tokenizer.old)).world }
+    ensures rule { result ≢ State.Error →
+        ItemMeans ItemState.MarkerAfterFilled (world tokenizer.old) result (world tokenizer.new) }
+    ensures full { OnError result (IsFull tokenizer.new) }
 {
     or_error!(tokenizer.attempt(
         State::Next(StateName::ListItem(ItemState::After)),
@@ -302,10 +335,14 @@ pub fn marker_after_filled(tokenizer: &mut Tokenizer) -> State
 /// > | * a
 ///      ^
 /// ```
+#[tactic(auto, using(crate::proofs::ItemMeaning::item_rule))]
 pub fn whitespace(tokenizer: &mut Tokenizer) -> State
     requires { IsAt NeedsNothing (StateName.ListItem ItemState.Whitespace) (world tokenizer.old) }
     ensures to { result ≢ State.Error → result ≡ (whitespace_transition (world tokenizer.old)).to }
     ensures world { result ≢ State.Error → world tokenizer.new ≡ (whitespace_transition (world tokenizer.old)).world }
+    ensures rule { result ≢ State.Error →
+        ItemMeans ItemState.Whitespace (world tokenizer.old) result (world tokenizer.new) }
+    ensures full { OnError result (IsFull tokenizer.new) }
 {
     space_or_tab_min_max(
         tokenizer,
@@ -322,10 +359,12 @@ pub fn whitespace(tokenizer: &mut Tokenizer) -> State
 /// > | * a
 ///       ^
 /// ```
+#[tactic(auto, using(crate::proofs::ItemMeaning::item_rule))]
 pub fn whitespace_after(tokenizer: &mut Tokenizer) -> State
     requires { IsAt NeedsNothing (StateName.ListItem ItemState.WhitespaceAfter) (world tokenizer.old) }
     ensures to { result ≡ (whitespace_after_transition (world tokenizer.old)).to }
     ensures world { world tokenizer.new ≡ (whitespace_after_transition (world tokenizer.old)).world }
+    ensures rule { ItemMeans ItemState.WhitespaceAfter (world tokenizer.old) result (world tokenizer.new) }
 {
     if is_space_or_tab(tokenizer.current) {
         State::Nok
@@ -340,10 +379,14 @@ pub fn whitespace_after(tokenizer: &mut Tokenizer) -> State
 /// > | *      a
 ///      ^
 /// ```
+#[tactic(auto, using(crate::proofs::ItemMeaning::item_rule))]
 pub fn prefix_other(tokenizer: &mut Tokenizer) -> State
     requires { IsAt NeedsNothing (StateName.ListItem ItemState.PrefixOther) (world tokenizer.old) }
     ensures to { result ≢ State.Error → result ≡ (prefix_other_transition (world tokenizer.old)).to }
     ensures world { result ≢ State.Error → world tokenizer.new ≡ (prefix_other_transition (world tokenizer.old)).world }
+    ensures rule { result ≢ State.Error →
+        ItemMeans ItemState.PrefixOther (world tokenizer.old) result (world tokenizer.new) }
+    ensures full { OnError result (IsFull tokenizer.new) }
 {
     if is_space_or_tab(tokenizer.current) {
         or_error!(tokenizer.enter(Name::SpaceOrTab));
@@ -381,6 +424,7 @@ pub(crate) fn width_here(tokenizer: &Tokenizer, blank: bool) -> usize
 /// > | * a
 ///       ^
 /// ```
+#[tactic(auto, using(crate::proofs::ItemMeaning::item_rule))]
 pub fn after(tokenizer: &mut Tokenizer) -> State
     requires { IsAt NeedsNothing (StateName.ListItem ItemState.After) (world tokenizer.old) }
     ensures to { result ≢ State.Error →
@@ -389,6 +433,8 @@ pub fn after(tokenizer: &mut Tokenizer) -> State
     ensures world { result ≢ State.Error →
         world tokenizer.new ≡
         (after_transition (world tokenizer.old)).world }
+    ensures rule { result ≢ State.Error → ItemMeans ItemState.After (world tokenizer.old) result (world tokenizer.new) }
+    ensures full { OnError result (IsFull tokenizer.new) }
 {
     let blank = !tokenizer.scratch.seen;
     tokenizer.scratch.seen = false;
@@ -408,10 +454,14 @@ pub fn after(tokenizer: &mut Tokenizer) -> State
 /// > |   b
 ///     ^
 /// ```
+#[tactic(auto, using(crate::proofs::ItemMeaning::item_rule))]
 pub fn cont_start(tokenizer: &mut Tokenizer) -> State
     requires { IsAt NeedsNothing (StateName.ListItem ItemState.ContStart) (world tokenizer.old) }
     ensures to { result ≢ State.Error → result ≡ (cont_start_transition (world tokenizer.old)).to }
     ensures world { result ≢ State.Error → world tokenizer.new ≡ (cont_start_transition (world tokenizer.old)).world }
+    ensures rule { result ≢ State.Error →
+        ItemMeans ItemState.ContStart (world tokenizer.old) result (world tokenizer.new) }
+    ensures full { OnError result (IsFull tokenizer.new) }
 {
     if !ends_line(tokenizer.current) {
         return by_blank(tokenizer, ItemState::ContBlank, ItemState::ContFilled);
@@ -437,6 +487,7 @@ fn begin_indent(tokenizer: &mut Tokenizer, state: ItemState, min: usize) -> Stat
         result ≡ (indent_code state min (world tokenizer.old) (sees_white tokenizer.old.current)).to }
     ensures world { result ≢ State.Error →
         world tokenizer.new ≡ (indent_code state min (world tokenizer.old) (sees_white tokenizer.old.current)).world }
+    ensures full { OnError result (IsFull tokenizer.new) }
 {
     if !is_space_or_tab(tokenizer.current) {
         return State::Nok;
@@ -453,6 +504,7 @@ fn go_on_indent(tokenizer: &mut Tokenizer, state: ItemState) -> State
     requires { IsAt NeedsNothing (StateName.ListItem state) (world tokenizer.old) }
     ensures to { result ≢ State.Error → result ≡ (inside_transition state (world tokenizer.old)).to }
     ensures world { result ≢ State.Error → world tokenizer.new ≡ (inside_transition state (world tokenizer.old)).world }
+    ensures full { OnError result (IsFull tokenizer.new) }
 {
     let Whitespace { min, max, size } = tokenizer.scratch.whitespace;
     if is_space_or_tab(tokenizer.current) && size < max {
@@ -481,10 +533,14 @@ fn go_on_indent(tokenizer: &mut Tokenizer, state: ItemState) -> State
 ///     ^^
 ///   |   b
 /// ```
+#[tactic(auto, using(crate::proofs::ItemMeaning::item_rule))]
 pub fn cont_blank(tokenizer: &mut Tokenizer) -> State
     requires { IsAt NeedsNothing (StateName.ListItem ItemState.ContBlank) (world tokenizer.old) }
     ensures to { result ≢ State.Error → result ≡ (cont_blank_transition (world tokenizer.old)).to }
     ensures world { result ≢ State.Error → world tokenizer.new ≡ (cont_blank_transition (world tokenizer.old)).world }
+    ensures rule { result ≢ State.Error →
+        ItemMeans ItemState.ContBlank (world tokenizer.old) result (world tokenizer.new) }
+    ensures full { OnError result (IsFull tokenizer.new) }
 {
     if tokenizer.scratch.whitespace.max > 0 {
         go_on_indent(tokenizer, ItemState::ContBlank)
@@ -502,10 +558,14 @@ pub fn cont_blank(tokenizer: &mut Tokenizer) -> State
 /// > |   b
 ///     ^^
 /// ```
+#[tactic(auto, using(crate::proofs::ItemMeaning::item_rule))]
 pub fn cont_filled(tokenizer: &mut Tokenizer) -> State
     requires { IsAt NeedsNothing (StateName.ListItem ItemState.ContFilled) (world tokenizer.old) }
     ensures to { result ≢ State.Error → result ≡ (cont_filled_transition (world tokenizer.old)).to }
     ensures world { result ≢ State.Error → world tokenizer.new ≡ (cont_filled_transition (world tokenizer.old)).world }
+    ensures rule { result ≢ State.Error →
+        ItemMeans ItemState.ContFilled (world tokenizer.old) result (world tokenizer.new) }
+    ensures full { OnError result (IsFull tokenizer.new) }
 {
     if tokenizer.scratch.whitespace.max > 0 {
         go_on_indent(tokenizer, ItemState::ContFilled)
@@ -526,6 +586,7 @@ pub fn takes_at_once(state: ItemState) -> Option<Stay>
 }
 
 /// Calls a state of an item.
+#[tactic(auto, using(crate::proofs::ItemMeaning::item_rule))]
 pub fn call(tokenizer: &mut Tokenizer, state: ItemState) -> State
     requires { IsAt NeedsNothing (StateName.ListItem state) (world tokenizer.old) }
     ensures to { result ≢ State.Error →
@@ -534,6 +595,8 @@ pub fn call(tokenizer: &mut Tokenizer, state: ItemState) -> State
     ensures world { result ≢ State.Error →
         world tokenizer.new ≡
         (item_transition state (world tokenizer.old)).world }
+    ensures rule { result ≢ State.Error → ItemMeans state (world tokenizer.old) result (world tokenizer.new) }
+    ensures full { OnError result (IsFull tokenizer.new) }
 {
     match state {
         ItemState::Start => start(tokenizer),

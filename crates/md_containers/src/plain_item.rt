@@ -1,7 +1,8 @@
 // What of a list item is taken at once: the begin of one without a number, where one space stands behind its marker;
 // and the indent of a further line, where it is spaces and the line is not blank.
 
-ghost use Rattle.std.specs.Prelude.{◌≡◌, ◌+◌, ◌≤◌, OnOk, length, true};
+ghost use Rattle.std.specs.Prelude.{◌≡◌, ◌+◌, ◌≤◌, OnOk, is_err, length, true};
+ghost use Rattle.md_engine.specs.Full.{IsFull};
 ghost use Rattle.md_engine.specs.World.{world};
 ghost use Rattle.md_engine.specs.declared.tokenizer.container.Container.{Container};
 ghost use Rattle.md_containers.specs.Item.{least_width};
@@ -41,7 +42,8 @@ pub fn is_plain_bullet(tokenizer: &Tokenizer) -> bool
 #[inline(always)]
 pub fn take_plain_bullet(tokenizer: &mut Tokenizer) -> Result<(), Message>
     requires { IsPlainBullet (world tokenizer.old) }
-    ensures { OnOk result (world tokenizer.new ≡ bulleted (world tokenizer.old)) }
+    ensures world { OnOk result (world tokenizer.new ≡ bulleted (world tokenizer.old)) }
+    ensures full { is_err result ≡ true → IsFull tokenizer.new }
 {
     tokenizer.enter(Name::ListItem)?;
     tokenizer.enter(Name::ListItemPrefix)?;
@@ -119,8 +121,9 @@ fn take_spaces(tokenizer: &mut Tokenizer, columns: usize)
 #[inline(always)]
 pub fn take_plain_indent(tokenizer: &mut Tokenizer) -> Result<(), Message>
     requires { IsPlainIndent (least_width (world tokenizer.old).flags.asked) (world tokenizer.old) }
-    ensures { OnOk result
+    ensures world { OnOk result
         (world tokenizer.new ≡ indented (least_width (world tokenizer.old).flags.asked) (world tokenizer.old)) }
+    ensures full { is_err result ≡ true → IsFull tokenizer.new }
 {
     let columns = at_least_one(tokenizer.flags.asked.width);
     tokenizer.enter(Name::SpaceOrTab)?;
