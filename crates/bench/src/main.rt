@@ -1,6 +1,7 @@
-// The bench. The first argument says what is tried: `blocks` the parser, `plain` the plain program, `agree` both against each other;
-// without one it is all three. Behind the first two stands a task of `test_runner::task`, and behind `agree` the most letters of a
-// text. It prints what disagreed, and then how much was tried.
+// The bench. The first argument says what is tried: `blocks` the parser, `plain` the plain program, `agree` both against each other on
+// short texts, `nasty` the same where constructs meet; without one it is all of these. Behind the first two is a task of
+// `test_runner::task`, behind `agree` the most letters of a text, behind `nasty` a task of `test_runner::nasty`. It prints what
+// disagreed, and then how much was tried.
 #![tactic(auto)]
 
 use blocks_body::Blocks;
@@ -9,6 +10,7 @@ use std::alloc::Global;
 use std::{env, io};
 use test_rows::case::CaseError;
 use test_runner::agree::try_agree;
+use test_runner::nasty::Nasty;
 use test_runner::report::Report;
 use test_runner::task::Task;
 
@@ -21,14 +23,18 @@ enum Bench {
     Blocks(Task),
     Plain(Task),
     Agree(usize),
+    Nasty(Nasty),
 }
 
 impl Bench {
     /// What is tried without an argument.
-    const ALL: [Bench; 3] = [
+    const ALL: [Bench; 6] = [
         Bench::Blocks(Task::Rows),
         Bench::Plain(Task::Rows),
         Bench::Agree(MOST),
+        Bench::Nasty(Nasty::LETTERS),
+        Bench::Nasty(Nasty::FRAGMENTS),
+        Bench::Nasty(Nasty::RANDOM),
     ];
 
     /// What these arguments name, or `None` where they name nothing.
@@ -39,6 +45,7 @@ impl Bench {
             ("plain", others) => Some(Bench::Plain(Task::asked_for(others)?)),
             ("agree", []) => Some(Bench::Agree(MOST)),
             ("agree", [most]) => Some(Bench::Agree(most.as_str().parse().ok()?)),
+            ("nasty", others) => Some(Bench::Nasty(Nasty::asked_for(others)?)),
             _ => None,
         }
     }
@@ -49,6 +56,7 @@ impl Bench {
             Bench::Blocks(task) => task.perform::<Blocks>(alloc, report),
             Bench::Plain(task) => task.perform::<Plain>(alloc, report),
             Bench::Agree(most) => try_agree::<Blocks, Plain>(alloc, most, report),
+            Bench::Nasty(nasty) => nasty.perform::<Blocks, Plain>(alloc, report),
         }
     }
 }
@@ -61,7 +69,7 @@ fn main(rt: HostRuntime) -> io::Result<()> {
     let asked = Bench::asked_for(args.as_slice());
     if asked.is_none() && !args.is_empty() {
         return println!(rt;
-            "blocks or plain, and rows, short LENGTH, or random SEED COUNT; or agree LENGTH"
+            "blocks or plain, and rows, short LENGTH, or random SEED COUNT; agree LENGTH; or nasty, and letters MOST, fragments MOST, or random SEED COUNT"
         );
     }
     for bench in Bench::ALL {
