@@ -68,7 +68,7 @@ for body in blocks plain; do
     : >"$cases/$body"
     printf '%s\nrows\n' "$body" >"$cases/$body.args"
 done
-said=$(cd crates/bench && rt try --steps 1 --cases "$cases" 2>&1) || true
+said=$(cd crates/bench && rt try --steps 1 --seconds 300 --cases "$cases" 2>&1) || true
 if [ "$(grep -cE '^[1-9][0-9]* tried, 0 wrong$' <<<"$said")" -ne 2 ]; then
     echo "quick: rows:" && tail -n 20 <<<"$said"
     exit 1

@@ -7,7 +7,7 @@
 # which have a field for it in the copy, or in `md_program` of the program's name. The copy of `bench` then tries the rows with the
 # number of its argument, and 0 stands for the bodies as they are. It also tells the events of a text, by a sum of what is printed of
 # them, and the status of a run with an argument that is none. An edit of a crate of the plain program changes that body, each
-# other the parser.
+# other the parser. One with the line `# bench` is tried with each construct off too, and by its events, and something must be wrong.
 set -euo pipefail
 cd "$(dirname "$0")/.."
 work=$(mktemp -d)
@@ -31,8 +31,11 @@ def replaced(name, old, new, why):
 
 
 bodies = [(0, "Blocks"), (0, "Plain")]
+by_bench = set()
 for number, edit in enumerate(edits, 1):
     lines = [line.rstrip("\n").split(": ", 1) for line in open(edit) if line.strip() and not line.startswith("#")]
+    if "# bench\n" in open(edit):
+        by_bench.add(number)
     tells = False
     while lines:
         (_, name), (_, old), (_, new) = lines[:3]
@@ -62,7 +65,10 @@ use blocks_body::Blocks;
 use events_body::Events;
 use test_runner::report::Report;
 use test_runner::rows::try_rows;
+use test_runner::without::try_without;
+use test_rows::case::CaseError;
 use md_engine::configuration::{Constructs, ParseOptions};
+use md_engine::event::Event;
 use md_engine::message::Message;
 use md_program::body::{Body, Outlined};
 use md_program::printing::{OutlineOf, Printing};
@@ -74,6 +80,12 @@ use std::{env, io};
 // each kind of block, prefixes of one and of two columns, a cut tab, an item that started blank, and the endings behind open fences
 const TEXT: &str = "\\u{feff}> a\\n\\tb\\n>\\n# c #\\n\\t\\n***\\n\\n1. d\\n\\n   >  > e\\n2. f\\n\\n-\\n\\tg\\n\\n\\th\\n\\n\
   ~~~ i m\\n   j\\n  ~~~\\n> ```\\n>\\nk\\n- ```\\n\\nl";
+
+/// Tries a body on rows, and on their texts with each construct off.
+fn try_bench<B: Body>(alloc: Global, rows: &str, report: &mut Report) -> Result<(), CaseError> {
+    try_rows::<B>(alloc, rows, report)?;
+    try_without::<B>(alloc, rows, report)
+}
 
 /// A sum of what is printed of the events of a text.
 fn events<B: Body>(alloc: Global) -> Result<u64, Message> {
@@ -99,10 +111,14 @@ impl Body for {body}{number} {{
     fn outlined<'a>(alloc: Global, text: &'a str, options: &'a ParseOptions) -> Result<Outlined<'a>, Message> {{
         {body}::outlined(alloc, text, options)
     }}
+    fn events(alloc: Global, text: &str, options: &ParseOptions) -> Result<Option<Vec<Event>>, Message> {{
+        {body}::events(alloc, text, options)
+    }}
 }}
 """
     case = f"{body}{number}"
-    arms += f'                "{case}" => try_rows::<{case}>(rt.alloc(), rows, &mut report).is_err(),\n'
+    tries = "try_bench" if number in by_bench else "try_rows"
+    arms += f'                "{case}" => {tries}::<{case}>(rt.alloc(), rows, &mut report).is_err(),\n'
     if body == "Blocks":
         sums += f'            "{case}" => events::<{case}>(rt.alloc()),\n'
     open(f"{work}/cases/{case}", "w").close()
@@ -133,7 +149,7 @@ fn main(rt: HostRuntime) -> io::Result<()> {{
 """
 open(f"{work}/crates/bench/src/main.rt", "w").write(main)
 PYTHON
-(cd "$work/crates/bench" && rt try --steps 1 --cases "$work/cases" >"$work/said" 2>"$work/ends" </dev/null) || true
+(cd "$work/crates/bench" && rt try --steps 1 --seconds 300 --cases "$work/cases" >"$work/said" 2>"$work/ends" </dev/null) || true
 python3 - "$work" scripts/wrong-bodies/*.edit <<'PYTHON'
 import re, sys
 
@@ -147,7 +163,8 @@ for body in ("Blocks", "Plain"):
 failed = 0
 for number, edit in enumerate(edits, 1):
     body, found = next(((it[0], said[it]) for it in said if it[1] == number), ("", "no result"))
-    if not re.search(r"^\d+ tried, ", found, re.M) or found == said.get((body, 0)):
+    is_wrong = r"^\d+ tried, [1-9]" if "# bench\n" in open(edit) else r"^\d+ tried, "
+    if not re.search(is_wrong, found, re.M) or found == said.get((body, 0)):
         print(f"{edit}: no row changes ({found})")
         failed += 1
 print(f"wrong bodies: {len(edits) - failed} passed, {failed} failed")

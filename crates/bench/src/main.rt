@@ -1,6 +1,7 @@
-// The bench. The first argument says what is tried: `blocks` the parser, `plain` the plain program, `agree` both against each other;
-// without one it is all three. Behind the first two stands a task of `test_runner::task`, and behind `agree` the most letters of a
-// text. It prints what disagreed, and then how much was tried.
+// The bench. The first argument says what is tried: `blocks` the parser, `plain` the plain program, `levels` the parser on deep
+// nesting, `agree` both against each other on short texts, `nasty` the same where constructs meet; without one it is all of these.
+// Behind the first two is a task of `test_runner::task`, behind `levels` how many containers are in one another, behind `agree` the
+// most letters of a text, behind `nasty` a task of `test_runner::nasty`. It prints what disagreed, and then how much was tried.
 #![tactic(auto)]
 
 use blocks_body::Blocks;
@@ -9,26 +10,37 @@ use std::alloc::Global;
 use std::{env, io};
 use test_rows::case::CaseError;
 use test_runner::agree::try_agree;
+use test_runner::deep::try_levels;
+use test_runner::nasty::Nasty;
 use test_runner::report::Report;
 use test_runner::task::Task;
 
 /// So many letters where no argument says it.
 const MOST: usize = 7;
 
+/// So many levels where no argument says it.
+const LEVELS: usize = 100_000;
+
 /// Something to try.
 #[derive(Clone, Copy)]
 enum Bench {
     Blocks(Task),
     Plain(Task),
+    Levels(usize),
     Agree(usize),
+    Nasty(Nasty),
 }
 
 impl Bench {
     /// What is tried without an argument.
-    const ALL: [Bench; 3] = [
+    const ALL: [Bench; 7] = [
         Bench::Blocks(Task::Rows),
         Bench::Plain(Task::Rows),
+        Bench::Levels(LEVELS),
         Bench::Agree(MOST),
+        Bench::Nasty(Nasty::LETTERS),
+        Bench::Nasty(Nasty::FRAGMENTS),
+        Bench::Nasty(Nasty::RANDOM),
     ];
 
     /// What these arguments name, or `None` where they name nothing.
@@ -37,8 +49,11 @@ impl Bench {
         match (word.as_str(), others) {
             ("blocks", others) => Some(Bench::Blocks(Task::asked_for(others)?)),
             ("plain", others) => Some(Bench::Plain(Task::asked_for(others)?)),
+            ("levels", []) => Some(Bench::Levels(LEVELS)),
+            ("levels", [levels]) => Some(Bench::Levels(levels.as_str().parse().ok()?)),
             ("agree", []) => Some(Bench::Agree(MOST)),
             ("agree", [most]) => Some(Bench::Agree(most.as_str().parse().ok()?)),
+            ("nasty", others) => Some(Bench::Nasty(Nasty::asked_for(others)?)),
             _ => None,
         }
     }
@@ -48,7 +63,9 @@ impl Bench {
         match self {
             Bench::Blocks(task) => task.perform::<Blocks>(alloc, report),
             Bench::Plain(task) => task.perform::<Plain>(alloc, report),
+            Bench::Levels(levels) => try_levels::<Blocks>(alloc, levels, report),
             Bench::Agree(most) => try_agree::<Blocks, Plain>(alloc, most, report),
+            Bench::Nasty(nasty) => nasty.perform::<Blocks, Plain>(alloc, report),
         }
     }
 }
@@ -61,7 +78,7 @@ fn main(rt: HostRuntime) -> io::Result<()> {
     let asked = Bench::asked_for(args.as_slice());
     if asked.is_none() && !args.is_empty() {
         return println!(rt;
-            "blocks or plain, and rows, short LENGTH, or random SEED COUNT; or agree LENGTH"
+            "blocks or plain, and rows, short LENGTH, or random SEED COUNT; levels COUNT; agree LENGTH; or nasty, and letters MOST, fragments MOST, or random SEED COUNT"
         );
     }
     for bench in Bench::ALL {

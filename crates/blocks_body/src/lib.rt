@@ -8,6 +8,7 @@ pub mod run;
 use markdown_blocks::outline::outline;
 use markdown_blocks::parser::parse;
 use md_engine::configuration::{Constructs, ParseOptions};
+use md_engine::event::Event;
 use md_engine::message::Message;
 use md_program::body::{Body, Outlined};
 use std::alloc::Global;
@@ -57,5 +58,14 @@ impl Body for Blocks {
             definitions: state.definitions,
             footnotes: state.gfm_footnote_definitions,
         })
+    }
+
+    fn events(
+        alloc: Global,
+        text: &str,
+        options: &ParseOptions,
+    ) -> Result<Option<Vec<Event>>, Message> {
+        let (events, _state) = parse(alloc, text, options)?;
+        Ok(Some(events))
     }
 }

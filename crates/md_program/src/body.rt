@@ -1,10 +1,11 @@
-// What turns a text into an outline: the part in which the programs that print one differ.
+// What turns a text into an outline: the part in which the programs that print one differ. The bench also takes its events.
 ghost use Rattle.std.specs.Prelude.{◌≡◌, ◌≤◌, List, ℕ, length, IfOk};
 ghost use Rattle.md_engine.specs.declared.configuration.ParseOptions.{ParseOptions};
 ghost use Rattle.md_program.specs.Listing.{Listing, listing_of};
 ghost use Rattle.md_program.specs.Sets.{IsWithoutMdx};
 
 use md_engine::configuration::ParseOptions;
+use md_engine::event::Event;
 use md_engine::message::Message;
 use md_meaning::outline::OutlineLine;
 use std::alloc::Global;
@@ -51,4 +52,15 @@ pub trait Body {
         requires size { length text.now ≤ MOST }
         requires accepted { accepts options.now }
         ensures { IfOk result (λ outlined. outlines text.now options.now (listing_of outlined)) };
+
+    /// The events of `text`, or none of a body that makes an outline without them.
+    ///
+    /// It refuses only for want of memory, and then hands out nothing.
+    fn events(
+        alloc: Global,
+        text: &str,
+        options: &ParseOptions,
+    ) -> Result<Option<Vec<Event>>, Message>
+        requires size { length text.now ≤ MOST }
+        requires accepted { accepts options.now };
 }

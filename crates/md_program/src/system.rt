@@ -9,14 +9,21 @@ use std::io::ErrorKind;
 
 /// The arguments after the program's name.
 ///
-/// Where they cannot be read, it answers want of memory for want of memory, and else that an argument is unknown.
+/// Where they cannot be read, it answers want of memory for want of memory, and else that an argument is unknown. `collect` would ask
+/// for less where a request is refused, so each is pushed: no refused request goes on.
 pub fn arguments<S: Env + AllocGlobal>(system: &S) -> Result<Vec<String>, Failure>
     ensures { IfErr result (λ failure. (failure ≡ UnknownArgument) ⊎ (failure ≡ OutOfMemory)) }
 {
     match env::args(system) {
         Ok(mut args) => {
             args.next();
-            Ok(args.collect(system.alloc())?)
+            let mut words = Vec::new(system.alloc());
+            for word in args {
+                if words.push(word).is_err() {
+                    return Err(Failure::OutOfMemory);
+                }
+            }
+            Ok(words)
         }
         Err(error) if error.kind() == ErrorKind::OutOfMemory => Err(Failure::OutOfMemory),
         Err(_) => Err(Failure::UnknownArgument),

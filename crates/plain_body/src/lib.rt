@@ -7,6 +7,7 @@ ghost use Rattle.plain_body.specs.Outlines.{Lists, Outlines};
 ghost use Rattle.md_grammars.specs.WholeTrees.{tree_meaning};
 
 use md_engine::configuration::ParseOptions;
+use md_engine::event::Event;
 use md_engine::message::Message;
 use md_grammars::label::labels_of;
 use md_grammars::tree::Tree;
@@ -48,5 +49,13 @@ impl Body for Plain {
     ) -> Result<Outlined<'a>, Message> {
         let meant = tree(alloc, text, options)?;
         listed(alloc, &meant)
+    }
+
+    fn events(
+        _alloc: Global,
+        _text: &str,
+        _options: &ParseOptions,
+    ) -> Result<Option<Vec<Event>>, Message> {
+        Ok(None)
     }
 }

@@ -7,6 +7,7 @@ use md_program::body::Outlined;
 use md_program::print::print;
 use reference_tree::meaning::tree;
 use reference_tree::outline_lines::outline;
+use reference_tree::step::DEPTH;
 use std::alloc::Global;
 
 const TEXT: &str = "> a\nb | c\n> --|--";
@@ -42,4 +43,23 @@ fn prints_the_outline_of_a_text(rt: HostRuntime) {
         Err(Message) => printed(rt.alloc()),
     };
     assert!(rt; matches!(printed, Ok(ref text) if text.as_str() == PRINTED));
+}
+
+/// How many lines the outline of so many quotes in one another has.
+fn lines_of_quotes(alloc: Global, levels: usize) -> Result<usize, Message> {
+    let mut text = String::new(alloc);
+    for _ in 0..levels {
+        if text.push('>').is_err() {
+            return Err(Message);
+        }
+    }
+    let tree = tree(alloc, text.as_str(), &ParseOptions::COMMONMARK)?;
+    Ok(outline(alloc, &tree)?.len())
+}
+
+// The plain program answers want of memory to more than 2,000 containers in one another.
+#[test]
+fn containers_have_a_limit(rt: HostRuntime) {
+    assert!(rt; lines_of_quotes(rt.alloc(), DEPTH) == Ok(2000));
+    assert!(rt; lines_of_quotes(rt.alloc(), DEPTH + 1) == Err(Message));
 }

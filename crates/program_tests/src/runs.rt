@@ -11,18 +11,21 @@ enum Program {
     Events,
 }
 
-/// What a program is run on: its arguments, each behind a space; its input, so many bytes a call, which fails after
-/// `reads` calls; and how its outputs take what it writes, of which the first fails after `writes` calls.
+/// What a program is run on: its arguments, each behind a space; its input, `step` bytes a call, which fails after
+/// `reads` calls; and how its outputs take what it writes, `takes` bytes a call, of which the first fails after `writes` calls.
 #[derive(Clone, Copy)]
 struct Given<'a> {
     words: &'a str,
     text: &'a [u8],
     step: usize,
     reads: usize,
+    takes: usize,
     writes: usize,
     flushes: bool,
     /// After so many calls a write to the standard error fails.
     messages: usize,
+    /// Whether the standard error can be flushed.
+    flushes_messages: bool,
 }
 
 impl<'a> Given<'a> {
@@ -32,9 +35,11 @@ impl<'a> Given<'a> {
             text,
             step: usize::MAX,
             reads: usize::MAX,
+            takes: usize::MAX,
             writes: usize::MAX,
             flushes: true,
             messages: usize::MAX,
+            flushes_messages: true,
         }
     }
 }
@@ -54,8 +59,8 @@ fn ran(program: Program, alloc: Global, given: Given) -> Result<(u8, Sink, Sink)
         step: given.step,
         calls: given.reads,
     };
-    let mut output = Sink::new(given.step, given.writes, given.flushes);
-    let mut errors = Sink::new(given.step, given.messages, true);
+    let mut output = Sink::new(given.takes, given.writes, given.flushes);
+    let mut errors = Sink::new(given.takes, given.messages, given.flushes_messages);
     let status = match program {
         Program::Blocks => {
             blocks_body::run::run(alloc, args.as_slice(), &mut input, &mut output, &mut errors)
@@ -104,6 +109,12 @@ const TEXT: &[u8] = b"a\n\n***";
 
 const OUTLINE: &[u8] = b"paragraph\n  | a\nbreak\n\ndefinitions 0\nfootnotes 0\n";
 
+/// What is printed of the text `a`.
+const LETTER: &[u8] = b"paragraph\n  | a\n\ndefinitions 0\nfootnotes 0\n";
+
+/// What is printed of a text without blocks.
+const NOTHING: &[u8] = b"\ndefinitions 0\nfootnotes 0\n";
+
 const HEADING: &[u8] = b"##\n";
 
 const EVENTS: &[u8] = b"+ HeadingAtx 1 1 0 0
@@ -138,6 +149,7 @@ fn prints_the_outline(rt: HostRuntime) {
     let mut given = Given::of(TEXT);
     check(&rt, rt.alloc(), given, Ended(0, OUTLINE, b""));
     given.step = 1;
+    given.takes = 1;
     check(&rt, rt.alloc(), given, Ended(0, OUTLINE, b""));
 }
 
@@ -146,26 +158,57 @@ fn prints_the_events(rt: HostRuntime) {
     check_events(&rt, rt.alloc(), Given::of(HEADING), Ended(0, EVENTS, b""));
 }
 
+/// Tries a run of which the first read fails, one of which the second does, and so on, and one of which the last does that is made of
+/// an input with so many reads. None of these prints anything; the run after these meets no failed read and prints this.
+fn check_reads(rt: &impl Abort, alloc: Global, given: Given, count: usize, printed: &[u8]) {
+    let mut given = given;
+    for reads in 0..count {
+        given.reads = reads;
+        check(rt, alloc, given, Ended(4, b"", b"blocks: read failed\n"));
+    }
+    given.reads = count;
+    check(rt, alloc, given, Ended(0, printed, b""));
+}
+
+/// A paragraph of one character of two bytes.
+const ACCENT: &[u8] = b"\xc3\xa9";
+
+const ACCENT_OUTLINE: &[u8] = b"paragraph\n  | \xc3\xa9\n\ndefinitions 0\nfootnotes 0\n";
+
+/// So many bytes the program asks for in one read.
+const BUFFER: usize = 8192;
+
+// The last read is the one that gives nothing. The second of the accent is in the middle of the character.
 #[test]
 fn a_failed_read_leaves_no_output(rt: HostRuntime) {
-    for reads in 0..4 {
-        let mut given = Given::of(TEXT);
-        given.step = 1;
-        given.reads = reads;
-        check(
-            &rt,
-            rt.alloc(),
-            given,
-            Ended(4, b"", b"blocks: read failed\n"),
-        );
-    }
+    let alloc = rt.alloc();
+    let mut given = Given::of(TEXT);
+    check_reads(&rt, alloc, given, 2, OUTLINE);
+    given.step = 1;
+    check_reads(&rt, alloc, given, TEXT.len() + 1, OUTLINE);
+    given.text = ACCENT;
+    check_reads(&rt, alloc, given, 3, ACCENT_OUTLINE);
     let mut given = Given::of(HEADING);
     given.reads = 1;
-    check_events(
+    check_events(&rt, alloc, given, Ended(4, b"", b"events: read failed\n"));
+}
+
+// Blank lines that fill the buffer of a read, with a character behind them, of which the buffer may have half.
+#[test]
+fn a_failed_read_at_the_size_of_a_buffer_leaves_no_output(rt: HostRuntime) {
+    let alloc = rt.alloc();
+    let mut text = [b'\n'; BUFFER + 2];
+    check_reads(&rt, alloc, Given::of(&text[..BUFFER - 1]), 2, NOTHING);
+    check_reads(&rt, alloc, Given::of(&text[..BUFFER]), 2, NOTHING);
+    check_reads(&rt, alloc, Given::of(&text[..BUFFER + 1]), 3, NOTHING);
+    text[BUFFER - 1] = 0xc3;
+    text[BUFFER] = 0xa9;
+    check_reads(
         &rt,
-        rt.alloc(),
-        given,
-        Ended(4, b"", b"events: read failed\n"),
+        alloc,
+        Given::of(&text[..BUFFER + 1]),
+        3,
+        ACCENT_OUTLINE,
     );
 }
 
@@ -186,24 +229,31 @@ fn an_input_that_is_not_text_leaves_no_output(rt: HostRuntime) {
     );
 }
 
+// Each write takes a byte, and a run of which no write fails has as many writes as bytes.
 #[test]
 fn a_failed_write_leaves_a_beginning(rt: HostRuntime) {
-    let mut given = Given::of(TEXT);
-    given.step = 1;
-    given.writes = 16;
-    let want = Ended(4, b"paragraph\n  | a\n", b"blocks: write failed\n");
-    check(&rt, rt.alloc(), given, want);
+    let alloc = rt.alloc();
+    let mut given = Given::of(b"a");
+    given.takes = 1;
+    assert!(rt; LETTER.len() == 43 && LETTER.starts_with(b"paragraph\n  | a\n"));
+    for (writes, _) in LETTER.iter().enumerate() {
+        given.writes = writes;
+        let want = Ended(4, &LETTER[..writes], b"blocks: write failed\n");
+        check(&rt, alloc, given, want);
+    }
+    given.writes = LETTER.len();
+    check(&rt, alloc, given, Ended(0, LETTER, b""));
     given.text = HEADING;
     given.writes = 21;
     let want = Ended(4, b"+ HeadingAtx 1 1 0 0\n", b"events: write failed\n");
-    check_events(&rt, rt.alloc(), given, want);
+    check_events(&rt, alloc, given, want);
 }
 
 // Neither does the message find a place.
 #[test]
 fn a_write_that_takes_nothing_has_failed(rt: HostRuntime) {
-    let mut given = Given::of(b"");
-    given.step = 0;
+    let mut given = Given::of(b"a");
+    given.takes = 0;
     check(&rt, rt.alloc(), given, Ended(4, b"", b""));
 }
 
@@ -219,14 +269,19 @@ fn a_failed_flush_is_a_failed_write(rt: HostRuntime) {
     );
 }
 
+// Of the message a beginning may be written. The name is flushed before the rest.
 #[test]
 fn a_failed_write_of_the_message_changes_nothing(rt: HostRuntime) {
     let mut given = Given::of(b"\xff");
-    given.step = 1;
+    given.takes = 1;
+    given.flushes_messages = false;
+    check(&rt, rt.alloc(), given, Ended(2, b"", b"blocks"));
     given.messages = 0;
     check(&rt, rt.alloc(), given, Ended(2, b"", b""));
     given.messages = 2;
     check(&rt, rt.alloc(), given, Ended(2, b"", b"bl"));
+    given.reads = 0;
+    check(&rt, rt.alloc(), given, Ended(4, b"", b"bl"));
 }
 
 #[test]

@@ -188,7 +188,7 @@ fn leaf_line<'a>(
 }
 
 /// So many containers may be open at once: blocks in blocks are walked by recursion.
-const DEPTH: usize = 2000;
+pub const DEPTH: usize = 2000;
 
 /// Opens one more container. Beyond the depth that is walked, that is want of memory.
 fn push_frame<'a>(frames: &mut Vec<Frame<'a>>, frame: Frame<'a>) -> Result<(), Message>

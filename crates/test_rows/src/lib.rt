@@ -30,12 +30,13 @@ pub mod lists;
 pub mod quotes;
 pub mod table_parts;
 pub mod tables;
+pub mod tabs;
 pub mod underlines;
 pub mod wrap;
 pub mod wraps;
 
 /// The rows of all modules.
-pub fn all() -> [&'static str; 15] {
+pub fn all() -> [&'static str; 16] {
     [
         lines::rows(),
         breaks::rows(),
@@ -52,5 +53,6 @@ pub fn all() -> [&'static str; 15] {
         tables::rows(),
         table_parts::rows(),
         extensions::rows(),
+        tabs::rows(),
     ]
 }

@@ -1,6 +1,7 @@
 // Tries the laws of nesting: a text that is quoted, or indented as an item, has the same outline one container deeper,
-// and the same labels.
+// and the same labels. Its events nest and tile, too.
 
+use crate::events::try_events;
 use crate::report::Report;
 use crate::rows::printed;
 use crate::wraps::{itemised, quoted};
@@ -34,7 +35,8 @@ fn below(alloc: Global, output: &str, heads: &str, indent: &str) -> Result<Strin
     Ok(deeper)
 }
 
-/// Tries both laws on a text with constructs that the body has, as far as they speak of it: not of frontmatter either.
+/// Tries both laws on a text with constructs that the body has, as far as they speak of it: not of frontmatter either. The events of
+/// the text in its container are tried with each.
 pub fn try_laws<B: Body>(
     alloc: Global,
     text: &str,
@@ -58,12 +60,14 @@ pub fn try_laws<B: Body>(
             wanted.as_str(),
             got.as_str(),
         )?;
+        try_events::<B>(alloc, quote.as_str(), constructs, report)?;
     }
     if constructs.list_item && begins_with_text(text) {
         let item = itemised(alloc, text)?;
         let got = printed::<B>(alloc, item.as_str(), constructs)?;
         let wanted = below(alloc, output.as_str(), "list +\n  item\n", "    ")?;
         report.add("the list law", item.as_str(), wanted.as_str(), got.as_str())?;
+        try_events::<B>(alloc, item.as_str(), constructs, report)?;
     }
     Ok(())
 }

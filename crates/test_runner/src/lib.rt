@@ -1,8 +1,10 @@
-// Tries bodies of the parser: on the rows of `test_rows`, on long texts, on the laws of nesting, and against each
-// other.
+// Tries bodies of the parser: on the rows of `test_rows`, on long and deep texts, on the laws of nesting, against each other, and
+// whether their events nest and tile.
 #![tactic(auto)]
 
 pub mod agree;
+pub mod deep;
+pub mod events;
 pub mod laws;
 pub mod long;
 pub mod nasty;

@@ -61,15 +61,17 @@ pub enum Nasty {
 }
 
 impl Nasty {
-    /// What is tried where no argument says it.
-    pub const ALL: [Nasty; 3] = [
-        Nasty::Letters { most: 5 },
-        Nasty::Fragments { most: 3 },
-        Nasty::Random {
-            seed: 1,
-            count: 50_000,
-        },
-    ];
+    /// The letters where no argument says how many.
+    pub const LETTERS: Nasty = Nasty::Letters { most: 5 };
+
+    /// The fragments where no argument says how many.
+    pub const FRAGMENTS: Nasty = Nasty::Fragments { most: 3 };
+
+    /// The random texts where no argument says how many.
+    pub const RANDOM: Nasty = Nasty::Random {
+        seed: 1,
+        count: 50_000,
+    };
 
     /// What these arguments name, or `None` where they name nothing.
     pub fn asked_for(args: &[String]) -> Option<Nasty> {

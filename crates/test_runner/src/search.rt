@@ -1,5 +1,7 @@
-// Looks for texts that break the laws of nesting: begins of the rows' texts, all short texts, and random longer ones.
+// Looks for texts that break the laws of nesting, or whose events do not tile: begins of the rows' texts, all short texts, and random
+// longer ones.
 
+use crate::events::try_events;
 use crate::laws::try_laws;
 use crate::report::Report;
 use crate::rows::built_of;
@@ -45,22 +47,31 @@ pub fn try_short<B: Body>(
     Ok(())
 }
 
-/// Tries the laws on the texts of rows, each cut behind each of its characters, with all constructs of the body.
+/// Tries the texts of rows, each cut at each of its characters: the laws with all constructs of the body, and the events under the
+/// three sets.
 pub fn try_begins<B: Body>(
     alloc: Global,
     rows: &str,
     report: &mut Report,
 ) -> Result<(), CaseError> {
-    let constructs = built_of::<B>(&Constructs::ALL);
     for row in rows.split("\n\n") {
         let case = Case::read(alloc, row)?;
         let mut begin = String::new(alloc);
+        try_begin::<B>(alloc, "", report)?;
         for c in case.text.as_str().chars() {
             begin.push(c)?;
-            try_laws::<B>(alloc, begin.as_str(), &constructs, report)?;
+            try_begin::<B>(alloc, begin.as_str(), report)?;
         }
     }
     Ok(())
+}
+
+/// Tries one begin of a text so.
+fn try_begin<B: Body>(alloc: Global, text: &str, report: &mut Report) -> Result<(), CaseError> {
+    for set in [Constructs::COMMONMARK, Constructs::GFM, Constructs::ALL] {
+        try_events::<B>(alloc, text, &set, report)?;
+    }
+    try_laws::<B>(alloc, text, &built_of::<B>(&Constructs::ALL), report)
 }
 
 /// Tries the laws on so many random texts, each with random constructs of the body.

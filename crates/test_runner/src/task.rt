@@ -1,11 +1,12 @@
 // What a bench does, by its arguments.
 //
 //     rows                 the rows, long labels, deep nesting, and the texts of the rows otherwise: with each construct
-//                          switched off, and their begins by the laws of nesting
+//                          switched off, and their begins by their events and by the laws of nesting
 //     short LENGTH         the laws on all texts of so many letters
 //     random SEED COUNT    the laws on so many random texts
 
-use crate::long::{try_depths, try_labels};
+use crate::deep::try_depths;
+use crate::long::try_labels;
 use crate::report::Report;
 use crate::rows::{built_of, try_rows};
 use crate::search::{try_begins, try_random, try_short};

@@ -1,15 +1,18 @@
-// Tries each construct switched off: it must not occur in an outline.
+// Tries each construct switched off: it must not occur.
 
+use crate::events::{add_events, events_of};
 use crate::report::Report;
 use crate::rows::options_of;
 use md_engine::configuration::Constructs;
+use md_engine::event::{Event, Name};
 use md_meaning::outline::Word;
 use md_program::body::{Body, MOST};
 use std::alloc::Global;
 use test_rows::case::{Case, CaseError};
 use test_rows::constructs::{NAMES, switch};
 
-/// Whether only the construct of this name makes a word. Headings of depth 1 and 2 come from two constructs.
+/// Whether only the construct of this name makes a word. Headings of depth 1 and 2 are of two constructs, which their events tell
+/// apart.
 fn is_of(word: Word, name: &str) -> bool {
     match word {
         Word::Frontmatter(_) => name == "frontmatter",
@@ -24,6 +27,15 @@ fn is_of(word: Word, name: &str) -> bool {
         Word::Quote => name == "block_quote",
         Word::List(_) => name == "list_item",
         Word::Footnote => name == "gfm_footnote_definition",
+        _ => false,
+    }
+}
+
+/// Whether this is an event of a heading of the construct of this name.
+fn is_heading_of(event: &Event, name: &str) -> bool {
+    match event.name {
+        Name::HeadingAtx => name == "heading_atx",
+        Name::HeadingSetext => name == "heading_setext",
         _ => false,
     }
 }
@@ -45,7 +57,8 @@ fn occurs<B: Body>(
     }
 }
 
-/// Tries the texts of rows with all constructs but one, for each of them.
+/// Tries the texts of rows with all constructs but one, for each of them: that one is not in the outline, a heading's not among the
+/// events either, and the events nest and tile.
 pub fn try_without<B: Body>(
     alloc: Global,
     rows: &str,
@@ -54,16 +67,31 @@ pub fn try_without<B: Body>(
     for row in rows.split("\n\n") {
         let case = Case::read(alloc, row)?;
         for name in NAMES {
-            let mut constructs = Constructs::ALL;
-            let _ = switch(&mut constructs, name, false);
-            let there = occurs::<B>(alloc, case.text.as_str(), &constructs, name)?;
-            report.add(
-                name,
-                case.text.as_str(),
-                "is off",
-                if there { "occurs" } else { "is off" },
-            )?;
+            try_off::<B>(alloc, case.text.as_str(), name, report)?;
         }
     }
+    Ok(())
+}
+
+/// Tries a text with all constructs but that of this name.
+fn try_off<B: Body>(
+    alloc: Global,
+    text: &str,
+    name: &str,
+    report: &mut Report,
+) -> Result<(), CaseError> {
+    let mut constructs = Constructs::ALL;
+    let _ = switch(&mut constructs, name, false);
+    let mut is_there = occurs::<B>(alloc, text, &constructs, name)?;
+    if let Some(events) = events_of::<B>(alloc, text, &constructs)? {
+        is_there = is_there || events.iter().any(|event| is_heading_of(event, name));
+        add_events(alloc, text, events.as_slice(), report)?;
+    }
+    report.add(
+        name,
+        text,
+        "is off",
+        if is_there { "occurs" } else { "is off" },
+    )?;
     Ok(())
 }
