@@ -1,20 +1,11 @@
 // The program `html_example`: it reads a Markdown text from its standard input and prints the HTML of its blocks.
 //
-// It shows how to render from events. `render` walks the list of events once and writes, `tags` says what is written
-// around the parts of a text, `ahead` reads what has to be known where a block begins, and `escape` writes text. What
-// stands within a paragraph, as emphasis and links, is not read: that is the work of another layer, so it is written as
-// it stands. Raw HTML is escaped, so that no text can bring a script into a page.
+// The crate `html_blocks` renders; this program reads, parses and writes.
 #![tactic(auto)]
 
 ghost use Rattle.markdown_blocks.specs.Parsed.{IsSmall};
 
-mod ahead;
-mod escape;
-mod loose;
-mod render;
-mod tags;
-
-use crate::render::render;
+use html_blocks::render::render;
 use markdown_blocks::configuration::ParseOptions;
 use markdown_blocks::message::Message;
 use markdown_blocks::parser::parse;

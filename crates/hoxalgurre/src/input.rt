@@ -1,0 +1,77 @@
+// The text of a file or of the standard input.
+
+use std::alloc::Global;
+use std::io::{self, ErrorKind, Read};
+use std::{fs, str};
+
+/// Why a text is not had.
+#[derive(Clone, Copy)]
+pub(crate) enum Trouble {
+    /// Want of memory.
+    OutOfMemory,
+    /// There is no such file.
+    NotFound,
+    /// A read failed.
+    ReadFailed,
+}
+
+impl Trouble {
+    /// What the line on the standard error says.
+    pub(crate) fn reason(self) -> &'static str {
+        match self {
+            Trouble::OutOfMemory => "out of memory",
+            Trouble::NotFound => "no such file",
+            Trouble::ReadFailed => "read failed",
+        }
+    }
+
+    pub(crate) fn status(self) -> u8 {
+        match self {
+            Trouble::OutOfMemory => 3,
+            Trouble::NotFound | Trouble::ReadFailed => 4,
+        }
+    }
+}
+
+/// The bytes of a file, or of the standard input for `-`.
+pub(crate) fn read(rt: &HostRuntime, file: &str) -> Result<Vec<u8>, Trouble> {
+    let read = if file == "-" {
+        read_stdin(rt)
+    } else {
+        fs::read(rt, file)
+    };
+    match read {
+        Ok(bytes) => Ok(bytes),
+        Err(error) => Err(match error.kind() {
+            ErrorKind::OutOfMemory => Trouble::OutOfMemory,
+            ErrorKind::NotFound => Trouble::NotFound,
+            _ => Trouble::ReadFailed,
+        }),
+    }
+}
+
+fn read_stdin(rt: &HostRuntime) -> io::Result<Vec<u8>> {
+    let mut bytes = Vec::new(rt.alloc());
+    let _count = rt.stdin().read_to_end(&mut bytes)?;
+    Ok(bytes)
+}
+
+/// The line and the column of a byte, both from 1, as an editor counts them: a line ends with a line feed, a carriage
+/// return, or both.
+pub(crate) fn place_of(bytes: &[u8], at: usize) -> (usize, usize) {
+    let mut line: usize = 1;
+    let mut column: usize = 1;
+    let mut is_return = false;
+    for byte in bytes.iter().take(at) {
+        if *byte == b'\n' || *byte == b'\r' {
+            if !(is_return && *byte == b'\n') {
+                line = line.saturating_add(1);
+            }
+            column = 1;
+        } else {
+            column = column.saturating_add(1);
+        }
+        is_return = *byte == b'\r';
+    }
+    (line, column)
+}

@@ -1,0 +1,77 @@
+#!/usr/bin/env bash
+# Builds the examples in C and Python over the library for C, runs them on the texts of `examples/texts`, and compares what
+# they print with what the program `events` prints. The header must have the names and numbers of the enum, and a call that
+# does not meet what the header asks for must be answered.
+#
+# It takes what `rt ci` has built, or a library LIBRARY and the programs of the folder PROGRAMS, where these are set.
+set -euo pipefail
+cd "$(dirname "$0")/.."
+scripts/c_header.py --check
+library=${LIBRARY:-crates/hoxalgurre_c/out/libhoxalgurre_c.a}
+events=${PROGRAMS:-crates/events/out}/events
+if [ ! -f "$library" ]; then
+    (cd crates/hoxalgurre_c && rt lib >/dev/null)
+fi
+work=$(mktemp -d)
+trap 'rm -rf "$work"' EXIT
+gcc -std=c11 -O2 -Wall -Wextra -Werror -Iinclude examples/c/events.c "$library" -o "$work/events"
+gcc -shared -o "$work/libhoxalgurre.so" -Wl,--whole-archive "$library" -Wl,--no-whole-archive
+passed=0
+failed=0
+compare() {
+    if cmp -s "$work/wanted" "$work/told"; then
+        passed=$((passed + 1))
+    else
+        echo "$1: prints something else than events"
+        failed=$((failed + 1))
+    fi
+}
+for text in examples/texts/*.md docs/events.md; do
+    for set in commonmark gfm all; do
+        "$events" "$set" <"$text" >"$work/wanted"
+        "$work/events" "$set" <"$text" >"$work/told"
+        compare "examples/c $set $text"
+        python3 examples/python/hoxalgurre.py "$work/libhoxalgurre.so" "$set" <"$text" >"$work/told"
+        compare "examples/python $set $text"
+    done
+done
+
+# Calls that are refused: a byte that is not UTF-8, and a set that there is not.
+refused() {
+    printf 'ab\xffc' | "$@" >"$work/told" 2>&1 || echo "status $?" >>"$work/told"
+    compare "$*"
+}
+printf 'events: not UTF-8 at byte 2\nstatus 1\n' >"$work/wanted"
+refused "$work/events" gfm
+refused python3 examples/python/hoxalgurre.py "$work/libhoxalgurre.so" gfm
+printf 'events: unknown set\nstatus 4\n' >"$work/wanted"
+refused "$work/events" none
+refused python3 examples/python/hoxalgurre.py "$work/libhoxalgurre.so" none
+
+# An array with room for a part of the events has that part, and the number of all of them.
+cat >"$work/room.c" <<'C'
+#include "hoxalgurre.h"
+int main(void) {
+    const uint8_t *text = (const uint8_t *)"# a\n\n> b\n";
+    struct hoxalgurre_event few[3], all[64];
+    few[2].name = 999;
+    struct hoxalgurre_answer part = hoxalgurre_events(text, 9, HOXALGURRE_GFM, few, 2);
+    struct hoxalgurre_answer whole = hoxalgurre_events(text, 9, HOXALGURRE_GFM, all, 64);
+    if (part.status || whole.status || part.count != whole.count || part.count < 3 || few[2].name != 999) {
+        return 1;
+    }
+    for (int at = 0; at < 2; at++) {
+        if (few[at].name != all[at].name || few[at].index != all[at].index || few[at].is_exit != all[at].is_exit) {
+            return 2;
+        }
+    }
+    struct hoxalgurre_answer none = hoxalgurre_events(text, 0, HOXALGURRE_ALL, few, 0);
+    return none.status || none.count ? 3 : 0;
+}
+C
+gcc -std=c11 -Wall -Wextra -Werror -Iinclude "$work/room.c" "$library" -o "$work/room"
+echo 0 >"$work/wanted"
+"$work/room" && echo $? >"$work/told" || echo $? >"$work/told"
+compare "an array with little room"
+echo "c and python: $passed passed, $failed failed"
+[ "$failed" -eq 0 ]

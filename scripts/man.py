@@ -1,0 +1,63 @@
+#!/usr/bin/env python3
+"""man.py [--check]: writes the manual page docs/hoxalgurre.1 from what `hoxalgurre --help` prints, and the help of each of
+its commands. With --check the page is compared and not written.
+
+It takes the program that `rt ci` has built, or that of the folder PROGRAMS, where that is set."""
+import os, re, subprocess, sys
+
+os.chdir(os.path.join(os.path.dirname(os.path.abspath(__file__)), ".."))
+PAGE = "docs/hoxalgurre.1"
+PROGRAM = os.path.join(os.environ.get("PROGRAMS", "crates/hoxalgurre/out"), "hoxalgurre")
+
+
+def help_of(*words):
+    """The paragraphs of a help text."""
+    told = subprocess.run([PROGRAM, *words, "--help"], capture_output=True, text=True, check=True, timeout=60).stdout
+    return [part.split("\n") for part in re.split(r"\n\n+", told.strip("\n"))]
+
+
+def escaped(text):
+    return re.sub(r"^([.'])", r"\\&\1", text.replace("\\", "\\e").replace("-", "\\-").replace("`", ""), flags=re.M)
+
+
+def listed(part):
+    """The lines behind a head as a list: what is shown in bold, and what it means."""
+    rows = (re.fullmatch(r"\s+(\S.*?)(?:\s{2,}(.*))?", line) for line in part[1:])
+    return "".join(f".TP\n.B {escaped(row[1])}\n{escaped(row[2] or '')}\n" for row in rows)
+
+
+def page():
+    parts = help_of()
+    about = parts[0][0]
+    version = subprocess.run([PROGRAM, "--version"], capture_output=True, text=True, check=True).stdout.split()[1]
+    made = f'.\\" Made by scripts/man.py from the help of the program.\n.TH HOXALGURRE 1 "" "hoxalgurre {version}"\n'
+    made += f".SH NAME\nhoxalgurre \\- {escaped(about[0].lower() + about[1:].rstrip('.'))}\n"
+    made += ".SH SYNOPSIS\n.B hoxalgurre\n.I COMMAND\n[\\fIOPTION\\fR]... [\\fIFILE\\fR]...\n"
+    rest, commands = "", []
+    for part in parts[1:]:
+        if part[0] == "Commands:":
+            commands = [line.split()[0] for line in part[1:] if line.split()[0] != "help"]
+            made += ".SH COMMANDS\n" + listed(part)
+        elif part[0] == "Options:":
+            made += ".SH OPTIONS\n" + listed(part)
+        elif not part[0].startswith("Usage:"):
+            rest += ".PP\n" + escaped("\n".join(part)) + "\n"
+    own = [listed(part) for name in commands for part in help_of(name) if part[0] in ("Options:", "Arguments:")]
+    shared = list(dict.fromkeys(own))
+    if len(shared) != 2:
+        sys.exit("man: the commands do not have the same options")
+    made += ".SS Of each command\n" + "".join(shared) + ".SH NOTES\n" + rest
+    return made
+
+
+if not os.path.isfile(PROGRAM):
+    sys.exit(f"man: {PROGRAM} is not built")
+wanted = page()
+if sys.argv[1:] == ["--check"]:
+    if open(PAGE, encoding="utf-8").read() != wanted:
+        sys.exit("man: docs/hoxalgurre.1 is not what the help says; run scripts/man.py")
+    print("man: 1 passed, 0 failed")
+elif sys.argv[1:]:
+    sys.exit("usage: man.py [--check]")
+else:
+    open(PAGE, "w", encoding="utf-8").write(wanted)
