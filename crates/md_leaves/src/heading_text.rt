@@ -307,6 +307,17 @@ impl Walk {
     }
 }
 
+/// The list without the memory that it does not need. An `Err` says that there was none for the smaller list.
+fn cut_to_size(mut events: Vec<Event>) -> Result<Vec<Event>, Message>
+    ensures { IfOk result (λ cut. cut.items ≡ events.items) }
+{
+    events.shrink_to_fit();
+    if events.capacity() > events.len() {
+        return Err(Message);
+    }
+    Ok(events)
+}
+
 /// The events with the text of each heading set: from the run behind its opening sequence to the last that does not
 /// close it. They stand in the list of the events, which keeps no more memory than they need. What finds no place there
 /// is put into `spare` first, which is handed back empty.
@@ -327,10 +338,7 @@ pub fn put_texts(events: Vec<Event>, spare: Vec<Event>) -> Result<(Vec<Event>, V
         walk.step(event)?;
         walk.pass();
     }
-    let (mut all, spare) = walk.finish()?;
-    all.shrink_to_fit();
-    if all.capacity() > all.len() {
-        return Err(Message);
-    }
-    Ok((all, spare))
+    let (all, spare) = walk.finish()?;
+    let cut = cut_to_size(all)?;
+    Ok((cut, spare))
 }
