@@ -32,7 +32,7 @@ use Rattle.md_tables.specs.Delimiter.{cell_after_code, delimiter_ready, delimite
 use Rattle.md_tables.specs.Delimiter.{is_counted, left_after_code, mark, mark_of, marked, refused, row_entered}
 use Rattle.md_tables.specs.Delimiter.{uncounted, unfilled, value_before_code, white_on}
 use Rattle.md_tables.specs.Delimiter.IsOfDelimiter.{Before, CellAfter, CellBefore, Filler as InFiller, LeftAfter, RightAfter}
-use Rattle.md_tables.specs.Delimiter.IsOfDelimiter.{Start, ValueBefore}
+use Rattle.md_tables.specs.Delimiter.IsOfDelimiter.{Refused, Start, ValueBefore}
 use Rattle.md_tables.specs.DelimiterRule.{Apart, Behind, Colon, Counts, Dashes, Fails, Filler, Front, Goes, HasDelimiter}
 use Rattle.md_tables.specs.DelimiterRule.{Left, Marks, Open, Pipe, Place, Run, Space, begun, behind_white, closes}
 use Rattle.md_tables.specs.DelimiterRule.{counted, delimiter_at, goes_on, in_row, may_end, met, move}
@@ -528,3 +528,4 @@ delimiter_means B feed _ w K RightAfter has s at =
     white_means B _ feed _ w Behind its.HeadDelimiterCellAfter _ has InBehind s at.0.rest refl
     (has.each its.HeadDelimiterRightAlignmentAfter RightAfter _ _) (has.each its.HeadDelimiterCellAfter CellAfter)
 delimiter_means B feed _ w K CellAfter has s at = cell_after_means B _ feed w _ has s refl
+delimiter_means B feed _ w K Refused has s at = refused_means B feed _ w (has.each its.HeadDelimiterNok Refused _ _)

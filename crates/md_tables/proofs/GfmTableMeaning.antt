@@ -14,8 +14,8 @@ use Rattle.md_engine.specs.World.{World}
 use Rattle.md_engine.specs.Sees.{Sees}
 use Rattle.md_engine.proofs.StepOf.{passes}
 use Rattle.md_tables.specs.Delimiter.{IsOfDelimiter}
-use Rattle.md_tables.specs.Delimiter.IsOfDelimiter.{Before, CellAfter, CellBefore, Filler, LeftAfter, RightAfter, Start}
-use Rattle.md_tables.specs.Delimiter.IsOfDelimiter.{ValueBefore}
+use Rattle.md_tables.specs.Delimiter.IsOfDelimiter.{Before, CellAfter, CellBefore, Filler, LeftAfter, Refused, RightAfter}
+use Rattle.md_tables.specs.Delimiter.IsOfDelimiter.{Start, ValueBefore}
 use Rattle.md_tables.specs.DelimiterRule.{HasDelimiter, delimiter_behaves}
 use Rattle.md_tables.specs.GfmTable.{head_code, may_head, start_code, table_scheme, table_transition}
 use Rattle.md_tables.specs.GfmTableRule.{HasTable, head_at, table_at, table_behaves, table_by}
@@ -61,6 +61,7 @@ has-delimiter B options has = record {
     same _ Filler cells h = refl
     same _ RightAfter cells h = refl
     same _ CellAfter cells h = refl
+    same _ Refused cells h = refl
 
 -- In front of a row.
 
@@ -93,7 +94,8 @@ pub table_means : (B : Behaviour) (feed : Feed) (state : TableState) (w : World)
     Steps B feed (Next (n.GfmTable state)) w (table_transition state w).to (table_transition state w).world
 table_means B feed its.Start w K has s at = begins_means B feed w has
 table_means B feed its.HeadRowBefore w K has s at = row_means B feed Head place.Start w (has-row B _ Head has) s at.0
-table_means B feed its.HeadRowStart w K has s at = absurd at
+table_means B feed its.HeadRowStart w K has s at =
+    passes B feed _ _ w w refl refl (has.each its.HeadRowStart _ _ ∙ sym (has.each its.HeadRowBreak _ _))
 table_means B feed its.HeadRowBreak w K has s at = row_means B feed Head place.Break w (has-row B _ Head has) s at.0
 table_means B feed its.HeadRowData w K has s at = row_means B feed Head place.Data w (has-row B _ Head has) s at.0
 table_means B feed its.HeadRowEscape w K has s at = row_means B feed Head place.Escape w (has-row B _ Head has) s at.0
@@ -115,7 +117,8 @@ table_means B feed its.HeadDelimiterRightAlignmentAfter w K has s at =
     delimiter_means B feed _ w K RightAfter (has-delimiter B _ has) s at
 table_means B feed its.HeadDelimiterCellAfter w K has s at =
     delimiter_means B feed _ w K CellAfter (has-delimiter B _ has) s at
-table_means B feed its.HeadDelimiterNok w K has s at = absurd at
+table_means B feed its.HeadDelimiterNok w K has s at =
+    delimiter_means B feed _ w K Refused (has-delimiter B _ has) s at
 table_means B feed its.BodyRowStart w K has s at = row_means B feed Body place.Start w (has-row B _ Body has) s at.0
 table_means B feed its.BodyRowBreak w K has s at = row_means B feed Body place.Break w (has-row B _ Body has) s at.0
 table_means B feed its.BodyRowData w K has s at = row_means B feed Body place.Data w (has-row B _ Body has) s at.0

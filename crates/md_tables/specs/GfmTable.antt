@@ -57,10 +57,15 @@ start_code w _ = record { to = Nok; world = w }
 abbrev pub start_transition : World → Transition
 start_transition w = start_code w w.flags.leaf
 
+-- behind the indent of a head its first part begins
+abbrev pub head_row_start_transition : World → Transition
+head_row_start_transition w = record { to = Retry (n.GfmTable its.HeadRowBreak); world = w }
+
 -- all of them
 abbrev pub table_transition : TableState → World → Transition
 table_transition its.Start w = start_transition w
 table_transition its.HeadRowBefore w = row_transition Head place.Start w
+table_transition its.HeadRowStart w = head_row_start_transition w
 table_transition its.HeadRowBreak w = row_transition Head place.Break w
 table_transition its.HeadRowData w = row_transition Head place.Data w
 table_transition its.HeadRowEscape w = row_transition Head place.Escape w
@@ -84,16 +89,15 @@ start_scheme = record {
   tries = λ name. ranked 0 refl;
 }
 
--- which part of a table has each state; two have none
+-- which part of a table has each state
 abbrev pub part_scheme : TableState → Scheme
 part_scheme its.Start = start_scheme
 part_scheme its.HeadRowBefore = row_scheme
-part_scheme its.HeadRowStart = nowhere
+part_scheme its.HeadRowStart = row_scheme
 part_scheme its.HeadRowBreak = row_scheme
 part_scheme its.HeadRowData = row_scheme
 part_scheme its.HeadRowEscape = row_scheme
 part_scheme its.HeadRowCellBefore = row_scheme
-part_scheme its.HeadDelimiterNok = nowhere
 part_scheme its.BodyRowStart = row_scheme
 part_scheme its.BodyRowBreak = row_scheme
 part_scheme its.BodyRowData = row_scheme

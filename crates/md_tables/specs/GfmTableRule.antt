@@ -35,6 +35,7 @@ table_at options cells h = table_by options h.flags.leaf cells h
 abbrev pub table_behaves : ParseOptions → TableState → List Cell → Here → Outcome
 table_behaves options its.Start cells h = table_at options cells h
 table_behaves options its.HeadRowBefore cells h = row_behaves Head place.Start cells h
+table_behaves options its.HeadRowStart cells h = row_behaves Head place.Break cells h
 table_behaves options its.HeadRowBreak cells h = row_behaves Head place.Break cells h
 table_behaves options its.HeadRowData cells h = row_behaves Head place.Data cells h
 table_behaves options its.HeadRowEscape cells h = row_behaves Head place.Escape cells h

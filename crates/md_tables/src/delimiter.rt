@@ -42,15 +42,6 @@ fn uncounted(scratch: Scratch) -> Scratch
     }
 }
 
-/// Refuses, at rest.
-fn refuse(tokenizer: &mut Tokenizer) -> State
-    ensures to { result ≡ State.Nok }
-    ensures world { world tokenizer.new ≡ (refused (world tokenizer.old)).world }
-{
-    tokenizer.scratch = uncounted(tokenizer.scratch);
-    State::Nok
-}
-
 /// Goes on behind whitespace, if some stands here, and at most so much of it.
 #[inline(always)]
 fn behind_white(tokenizer: &mut Tokenizer, max: usize, next: TableState) -> State
@@ -122,7 +113,7 @@ pub fn before(tokenizer: &mut Tokenizer) -> State
             Name::GfmTableCellDivider,
             TableState::HeadDelimiterCellBefore,
         ),
-        _ => refuse(tokenizer),
+        _ => head_delimiter_nok(tokenizer),
     }
 }
 
@@ -167,7 +158,7 @@ pub fn value_before(tokenizer: &mut Tokenizer) -> State
         Some(b'-') => State::Retry(StateName::GfmTable(
             TableState::HeadDelimiterLeftAlignmentAfter,
         )),
-        _ => refuse(tokenizer),
+        _ => head_delimiter_nok(tokenizer),
     }
 }
 
@@ -190,7 +181,7 @@ pub fn left_alignment_after(tokenizer: &mut Tokenizer) -> State
         tokenizer.scratch.size += 1;
         State::Next(StateName::GfmTable(TableState::HeadDelimiterFiller))
     } else {
-        refuse(tokenizer)
+        head_delimiter_nok(tokenizer)
     }
 }
 
@@ -270,8 +261,24 @@ pub fn cell_after(tokenizer: &mut Tokenizer) -> State
             Name::GfmTableCellDivider,
             TableState::HeadDelimiterCellBefore,
         ),
-        _ => refuse(tokenizer),
+        _ => head_delimiter_nok(tokenizer),
     }
+}
+
+/// Where a row can't go on: refuses, at rest. The other states call it where they refuse.
+///
+/// ```markdown
+///   | | a |
+/// > | | x |
+///       ^
+/// ```
+pub fn head_delimiter_nok(tokenizer: &mut Tokenizer) -> State
+    requires { IsAt DelimiterNeeds (StateName.GfmTable TableState.HeadDelimiterNok) (world tokenizer.old) }
+    ensures to { result ≡ (refused (world tokenizer.old)).to }
+    ensures world { world tokenizer.new ≡ (refused (world tokenizer.old)).world }
+{
+    tokenizer.scratch = uncounted(tokenizer.scratch);
+    State::Nok
 }
 
 /// What a state of a delimiter row only takes.
@@ -301,6 +308,6 @@ pub fn call(tokenizer: &mut Tokenizer, state: TableState) -> State
         TableState::HeadDelimiterFiller => filler(tokenizer),
         TableState::HeadDelimiterRightAlignmentAfter => right_alignment_after(tokenizer),
         TableState::HeadDelimiterCellAfter => cell_after(tokenizer),
-        _ => refuse(tokenizer),
+        _ => head_delimiter_nok(tokenizer),
     }
 }

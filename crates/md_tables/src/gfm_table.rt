@@ -14,8 +14,8 @@ ghost use Rattle.md_engine.specs.declared.state.gfm_table.State.{State as TableS
 ghost use Rattle.md_seam.specs.Stays.{TakesEach};
 ghost use Rattle.md_seam.specs.Transition.{IsAt};
 ghost use Rattle.md_seam.specs.Look.{may_with};
-ghost use Rattle.md_tables.specs.GfmTable.{AnswersWith, TableNeeds, may_begin, may_head, start_transition};
-ghost use Rattle.md_tables.specs.GfmTable.{table_transition};
+ghost use Rattle.md_tables.specs.GfmTable.{AnswersWith, TableNeeds, head_row_start_transition, may_begin, may_head};
+ghost use Rattle.md_tables.specs.GfmTable.{start_transition, table_transition};
 
 use crate::delimiter;
 use crate::row::{self, Place, Row};
@@ -76,6 +76,21 @@ pub fn start(tokenizer: &mut Tokenizer) -> State
     }
 }
 
+/// Behind the indent of the head: goes on with its first part.
+///
+/// ```markdown
+/// > | | a |
+///     ^
+///   | | - |
+/// ```
+pub fn head_row_start(tokenizer: &mut Tokenizer) -> State
+    requires { IsAt TableNeeds (StateName.GfmTable TableState.HeadRowStart) (world tokenizer.old) }
+    ensures to { result ≡ (head_row_start_transition (world tokenizer.old)).to }
+    ensures world { world tokenizer.new ≡ (head_row_start_transition (world tokenizer.old)).world }
+{
+    State::Retry(StateName::GfmTable(TableState::HeadRowBreak))
+}
+
 /// What a state of a table only takes.
 pub fn takes_at_once(state: TableState) -> Option<Stay>
     ensures { IfSome result (λ stay. TakesEach stay (StateName.GfmTable state) (table_transition state)) }
@@ -98,6 +113,7 @@ pub fn call(tokenizer: &mut Tokenizer, state: TableState) -> State
     match state {
         TableState::Start => start(tokenizer),
         TableState::HeadRowBefore => row::call(tokenizer, Row::Head, Place::Start),
+        TableState::HeadRowStart => head_row_start(tokenizer),
         TableState::HeadRowBreak => row::call(tokenizer, Row::Head, Place::Break),
         TableState::HeadRowData => row::call(tokenizer, Row::Head, Place::Data),
         TableState::HeadRowEscape => row::call(tokenizer, Row::Head, Place::Escape),
