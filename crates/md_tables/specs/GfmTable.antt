@@ -15,13 +15,13 @@ use Rattle.md_engine.specs.declared.tokenizer.held_leaf.HeldLeaf.{HeldLeaf}
 use Rattle.md_engine.specs.declared.tokenizer.held_leaf.HeldLeaf.TheVariants as held_leaf
 use Rattle.md_engine.specs.declared.tokenizer.held_leaf.OpenText.{OpenText}
 use Rattle.md_engine.specs.Run.{reading}
-use Rattle.md_engine.specs.Scheme.{Scheme, nowhere, of_owners, ranked}
+use Rattle.md_engine.specs.Scheme.{Position, Scheme, nowhere, of_owners, ranked}
 use Rattle.md_engine.specs.World.{World}
 use Rattle.md_meaning.specs.Ascii.{colon, hyphen, pipe}
 use Rattle.md_meaning.specs.Rest.{is_small}
-use Rattle.md_seam.specs.Spaces.{rest_ready}
+use Rattle.md_seam.specs.Spaces.{IsRest, rest_ready}
 use Rattle.md_seam.specs.Transition.{Transition}
-use Rattle.md_tables.specs.Delimiter.{DelimiterNeeds, delimiter_scheme, delimiter_transition}
+use Rattle.md_tables.specs.Delimiter.{DelimiterNeeds, IsCounting, delimiter_scheme, delimiter_transition}
 use Rattle.md_tables.specs.Row.{row_scheme, row_transition}
 use Rattle.md_tables.specs.declared.row.Place.TheVariants as place
 use Rattle.md_tables.specs.declared.row.Row.TheVariants.{Head, Body}
@@ -79,6 +79,19 @@ table_transition state w = delimiter_transition state w
 
 abbrev pub TableNeeds : StateName → World → Type 0
 TableNeeds name w = DelimiterNeeds name w
+
+-- what holds at each state of a table
+abbrev pub TableInvariant : StateName → Position → Type 0
+TableInvariant (n.GfmTable its.HeadDelimiterStart) x = IsCounting x
+TableInvariant (n.GfmTable its.HeadDelimiterBefore) x = IsCounting x
+TableInvariant (n.GfmTable its.HeadDelimiterCellBefore) x = IsCounting x
+TableInvariant (n.GfmTable its.HeadDelimiterValueBefore) x = IsCounting x
+TableInvariant (n.GfmTable its.HeadDelimiterLeftAlignmentAfter) x = IsCounting x
+TableInvariant (n.GfmTable its.HeadDelimiterFiller) x = IsCounting x
+TableInvariant (n.GfmTable its.HeadDelimiterRightAlignmentAfter) x = IsCounting x
+TableInvariant (n.GfmTable its.HeadDelimiterCellAfter) x = IsCounting x
+TableInvariant (n.GfmTable its.HeadDelimiterNok) x = IsCounting x
+TableInvariant _ x = IsRest x.scratch
 
 -- In front of a row a table is at rest.
 abbrev pub start_scheme : Scheme
