@@ -16,7 +16,7 @@ use Rattle.md_engine.specs.declared.tokenizer.Frame.{Frame}
 use Rattle.md_engine.specs.declared.tokenizer.Scratch.{Scratch}
 use Rattle.md_engine.specs.declared.tokenizer.held_leaf.HeldLeaf.TheVariants as held_leaf
 use Rattle.md_engine.specs.Meaning.{Accepts, Behaviour, Cell, Feed, Here, Refuses, Steps, goes, here}
-use Rattle.md_engine.specs.Scheme.{After, position}
+use Rattle.md_engine.specs.Scheme.{position}
 use Rattle.md_engine.specs.World.{World, after}
 use Rattle.md_engine.specs.Sees.{Sees, ahead, cell_here}
 use Rattle.md_engine.proofs.StepOf.{begins, begins_only, moves, passes}
@@ -27,12 +27,12 @@ use Rattle.md_seam.specs.Spaces.{IsRest, any_size, calmed, sees_white, small_ind
 use Rattle.md_seam.specs.Transition.{Transition}
 use Rattle.md_seam.proofs.AheadLemmas.{small-some}
 use Rattle.md_seam.proofs.WhiteMeaning.{begins-seen, white-tried}
-use Rattle.md_tables.specs.Delimiter.{Aligns, Dash, Divides, IsOfDelimiter, Mark, Other, Stops, White, before_code}
-use Rattle.md_tables.specs.Delimiter.{cell_after_code, delimiter_ready, delimiter_transition, ends_code, filled, filler_code}
+use Rattle.md_tables.specs.Delimiter.{Aligns, Dash, Divides, IsCounting, IsOfDelimiter, Mark, Other, Stops, White}
+use Rattle.md_tables.specs.Delimiter.{before_code, cell_after_code, delimiter_transition, ends_code, filled, filler_code}
 use Rattle.md_tables.specs.Delimiter.{is_counted, left_after_code, mark, mark_of, marked, refused, row_entered}
 use Rattle.md_tables.specs.Delimiter.{uncounted, unfilled, value_before_code, white_on}
 use Rattle.md_tables.specs.Delimiter.IsOfDelimiter.{Before, CellAfter, CellBefore, Filler as InFiller, LeftAfter, RightAfter}
-use Rattle.md_tables.specs.Delimiter.IsOfDelimiter.{Start, ValueBefore}
+use Rattle.md_tables.specs.Delimiter.IsOfDelimiter.{Refused, Start, ValueBefore}
 use Rattle.md_tables.specs.DelimiterRule.{Apart, Behind, Colon, Counts, Dashes, Fails, Filler, Front, Goes, HasDelimiter}
 use Rattle.md_tables.specs.DelimiterRule.{Left, Marks, Open, Pipe, Place, Run, Space, begun, behind_white, closes}
 use Rattle.md_tables.specs.DelimiterRule.{counted, delimiter_at, goes_on, in_row, may_end, met, move}
@@ -513,18 +513,19 @@ cell_after_means B options feed w Other has s e =
     ∙ fails-here feed w Behind Other (here w) s e refl refl)
 
 -- each state of a delimiter row takes one step of what it means
-pub delimiter_means : (B : Behaviour) (feed : Feed) (state : TableState) (w : World) (K : After) →
-    IsOfDelimiter state → HasDelimiter B w.setting.options → Sees feed w → delimiter_ready (n.GfmTable state) (position w) K →
+pub delimiter_steps : (B : Behaviour) (feed : Feed) (state : TableState) (w : World) → IsOfDelimiter state →
+    HasDelimiter B w.setting.options → Sees feed w → IsCounting (position w) →
     Steps B feed (Next (n.GfmTable state)) w (delimiter_transition state w).to (delimiter_transition state w).world
-delimiter_means B feed _ w K Start has s at = start_means B feed w _ has s at.0.rest refl
-delimiter_means B feed _ w K Before has s at = before_means B _ feed w _ has s refl
-delimiter_means B feed _ w K CellBefore has s at =
-    white_means B _ feed _ w Open its.HeadDelimiterValueBefore _ has InOpen s at.0.rest refl
+delimiter_steps B feed _ w Start has s at = start_means B feed w _ has s at.rest refl
+delimiter_steps B feed _ w Before has s at = before_means B _ feed w _ has s refl
+delimiter_steps B feed _ w CellBefore has s at =
+    white_means B _ feed _ w Open its.HeadDelimiterValueBefore _ has InOpen s at.rest refl
     (has.each its.HeadDelimiterCellBefore CellBefore _ _) (has.each its.HeadDelimiterValueBefore ValueBefore)
-delimiter_means B feed _ w K ValueBefore has s at = value_before_means B _ feed w _ has s refl
-delimiter_means B feed _ w K LeftAfter has s at = left_after_means B _ feed w _ has s refl
-delimiter_means B feed _ w K InFiller has s at = filler_means B _ feed w _ has s refl
-delimiter_means B feed _ w K RightAfter has s at =
-    white_means B _ feed _ w Behind its.HeadDelimiterCellAfter _ has InBehind s at.0.rest refl
+delimiter_steps B feed _ w ValueBefore has s at = value_before_means B _ feed w _ has s refl
+delimiter_steps B feed _ w LeftAfter has s at = left_after_means B _ feed w _ has s refl
+delimiter_steps B feed _ w InFiller has s at = filler_means B _ feed w _ has s refl
+delimiter_steps B feed _ w RightAfter has s at =
+    white_means B _ feed _ w Behind its.HeadDelimiterCellAfter _ has InBehind s at.rest refl
     (has.each its.HeadDelimiterRightAlignmentAfter RightAfter _ _) (has.each its.HeadDelimiterCellAfter CellAfter)
-delimiter_means B feed _ w K CellAfter has s at = cell_after_means B _ feed w _ has s refl
+delimiter_steps B feed _ w CellAfter has s at = cell_after_means B _ feed w _ has s refl
+delimiter_steps B feed _ w Refused has s at = refused_means B feed _ w (has.each its.HeadDelimiterNok Refused _ _)

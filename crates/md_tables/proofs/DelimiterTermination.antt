@@ -17,8 +17,8 @@ use Rattle.md_seam.specs.Spaces.{IsRest, any_size, calmed, small_indent}
 use Rattle.md_seam.specs.Transition.{entered, exited, taken}
 use Rattle.md_seam.proofs.SpacesTermination.{Does, WhiteFits, rest-none, seen-in, white_try}
 use Rattle.md_tables.specs.Delimiter.{IsOfDelimiter}
-use Rattle.md_tables.specs.Delimiter.IsOfDelimiter.{Before, CellAfter, CellBefore, Filler, LeftAfter, RightAfter, Start}
-use Rattle.md_tables.specs.Delimiter.IsOfDelimiter.{ValueBefore}
+use Rattle.md_tables.specs.Delimiter.IsOfDelimiter.{Before, CellAfter, CellBefore, Filler, LeftAfter, Refused, RightAfter}
+use Rattle.md_tables.specs.Delimiter.IsOfDelimiter.{Start, ValueBefore}
 use Rattle.md_tables.specs.Delimiter.{Aligns, Dash, Divides, IsCounting, Mark, Other, Stops, White, before_code}
 use Rattle.md_tables.specs.Delimiter.{cell_after_code, delimiter_ready, delimiter_scheme, delimiter_transition, ends_code}
 use Rattle.md_tables.specs.Delimiter.{filler_code, left_after_code, mark, marked, refused, row_entered, row_exited}
@@ -192,3 +192,4 @@ delimiter_terminates T _ w RightAfter has c r =
     white_ends T its.HeadDelimiterRightAlignmentAfter its.HeadDelimiterCellAfter w w.events any_size _ RightAfter CellAfter has r
     (λ y. omega arith) (omega arith)
 delimiter_terminates T _ w CellAfter has c r = cell_after_ends T w _ has r (ap mark (sym c))
+delimiter_terminates T _ w Refused has c r = refused_ends T its.HeadDelimiterNok w r

@@ -4,28 +4,29 @@ use Rattle.md_engine.specs.declared.configuration.ParseOptions.{ParseOptions}
 use Rattle.md_engine.specs.declared.state.Name.TheVariants as n
 use Rattle.md_engine.specs.declared.state.gfm_table.State.{State as TableState}
 use Rattle.md_engine.specs.declared.state.gfm_table.State.TheVariants as its
+use Rattle.md_engine.specs.declared.state.State.{State}
 use Rattle.md_engine.specs.declared.state.State.TheVariants.{Next}
 use Rattle.md_engine.specs.declared.tokenizer.held_leaf.HeldLeaf.{HeldLeaf}
 use Rattle.md_engine.specs.declared.tokenizer.held_leaf.HeldLeaf.TheVariants as held_leaf
 use Rattle.md_engine.specs.declared.tokenizer.held_leaf.OpenText.{OpenText}
 use Rattle.md_engine.specs.Meaning.{Behaviour, Cell, Feed, Here, Steps, goes, here}
-use Rattle.md_engine.specs.Scheme.{After, position}
+use Rattle.md_engine.specs.Scheme.{After, Position, position}
 use Rattle.md_engine.specs.World.{World}
 use Rattle.md_engine.specs.Sees.{Sees}
-use Rattle.md_engine.proofs.StepOf.{passes}
+use Rattle.md_engine.proofs.StepOf.{passes, steps-as}
 use Rattle.md_tables.specs.Delimiter.{IsOfDelimiter}
-use Rattle.md_tables.specs.Delimiter.IsOfDelimiter.{Before, CellAfter, CellBefore, Filler, LeftAfter, RightAfter, Start}
-use Rattle.md_tables.specs.Delimiter.IsOfDelimiter.{ValueBefore}
+use Rattle.md_tables.specs.Delimiter.IsOfDelimiter.{Before, CellAfter, CellBefore, Filler, LeftAfter, Refused, RightAfter}
+use Rattle.md_tables.specs.Delimiter.IsOfDelimiter.{Start, ValueBefore}
 use Rattle.md_tables.specs.DelimiterRule.{HasDelimiter, delimiter_behaves}
-use Rattle.md_tables.specs.GfmTable.{head_code, may_head, start_code, table_scheme, table_transition}
-use Rattle.md_tables.specs.GfmTableRule.{HasTable, head_at, table_at, table_behaves, table_by}
+use Rattle.md_tables.specs.GfmTable.{TableInvariant, head_code, may_head, start_code, table_scheme, table_transition}
+use Rattle.md_tables.specs.GfmTableRule.{HasTable, TableMeans, head_at, table_at, table_behaves, table_by}
 use Rattle.md_tables.specs.Row.{name_at}
 use Rattle.md_tables.specs.RowRule.{HasRow, row_behaves}
 use Rattle.md_tables.specs.declared.row.Place.{Place}
 use Rattle.md_tables.specs.declared.row.Place.TheVariants as place
 use Rattle.md_tables.specs.declared.row.Row.{Row}
 use Rattle.md_tables.specs.declared.row.Row.TheVariants.{Head, Body}
-use Rattle.md_tables.proofs.DelimiterMeaning.{delimiter_means}
+use Rattle.md_tables.proofs.DelimiterMeaning.{delimiter_steps}
 use Rattle.md_tables.proofs.RowMeaning.{row_means}
 
 -- a behaviour that has tables has their rows
@@ -61,6 +62,7 @@ has-delimiter B options has = record {
     same _ Filler cells h = refl
     same _ RightAfter cells h = refl
     same _ CellAfter cells h = refl
+    same _ Refused cells h = refl
 
 -- In front of a row.
 
@@ -88,37 +90,77 @@ unfolding table_at
 begins_means B feed w has = start_means B feed w w.flags.leaf has (has.each its.Start _ _)
 
 -- each state of a table takes one step of what it means
+table_steps : (B : Behaviour) (feed : Feed) (state : TableState) (w : World) → HasTable B w.setting.options →
+    Sees feed w → TableInvariant (n.GfmTable state) (position w) →
+    Steps B feed (Next (n.GfmTable state)) w (table_transition state w).to (table_transition state w).world
+table_steps B feed its.Start w has s at = begins_means B feed w has
+table_steps B feed its.HeadRowBefore w has s at = row_means B feed Head place.Start w (has-row B _ Head has) s at
+table_steps B feed its.HeadRowStart w has s at =
+    passes B feed _ _ w w refl refl (has.each its.HeadRowStart _ _ ∙ sym (has.each its.HeadRowBreak _ _))
+table_steps B feed its.HeadRowBreak w has s at = row_means B feed Head place.Break w (has-row B _ Head has) s at
+table_steps B feed its.HeadRowData w has s at = row_means B feed Head place.Data w (has-row B _ Head has) s at
+table_steps B feed its.HeadRowEscape w has s at = row_means B feed Head place.Escape w (has-row B _ Head has) s at
+table_steps B feed its.HeadRowCellBefore w has s at =
+    row_means B feed Head place.CellBefore w (has-row B _ Head has) s at
+table_steps B feed its.HeadDelimiterStart w has s at =
+    delimiter_steps B feed _ w Start (has-delimiter B _ has) s at
+table_steps B feed its.HeadDelimiterBefore w has s at =
+    delimiter_steps B feed _ w Before (has-delimiter B _ has) s at
+table_steps B feed its.HeadDelimiterCellBefore w has s at =
+    delimiter_steps B feed _ w CellBefore (has-delimiter B _ has) s at
+table_steps B feed its.HeadDelimiterValueBefore w has s at =
+    delimiter_steps B feed _ w ValueBefore (has-delimiter B _ has) s at
+table_steps B feed its.HeadDelimiterLeftAlignmentAfter w has s at =
+    delimiter_steps B feed _ w LeftAfter (has-delimiter B _ has) s at
+table_steps B feed its.HeadDelimiterFiller w has s at =
+    delimiter_steps B feed _ w Filler (has-delimiter B _ has) s at
+table_steps B feed its.HeadDelimiterRightAlignmentAfter w has s at =
+    delimiter_steps B feed _ w RightAfter (has-delimiter B _ has) s at
+table_steps B feed its.HeadDelimiterCellAfter w has s at =
+    delimiter_steps B feed _ w CellAfter (has-delimiter B _ has) s at
+table_steps B feed its.HeadDelimiterNok w has s at =
+    delimiter_steps B feed _ w Refused (has-delimiter B _ has) s at
+table_steps B feed its.BodyRowStart w has s at = row_means B feed Body place.Start w (has-row B _ Body has) s at
+table_steps B feed its.BodyRowBreak w has s at = row_means B feed Body place.Break w (has-row B _ Body has) s at
+table_steps B feed its.BodyRowData w has s at = row_means B feed Body place.Data w (has-row B _ Body has) s at
+table_steps B feed its.BodyRowEscape w has s at = row_means B feed Body place.Escape w (has-row B _ Body has) s at
+table_steps B feed its.BodyRowCellBefore w has s at =
+    row_means B feed Body place.CellBefore w (has-row B _ Body has) s at
+
+-- where a state is ready, what it needs holds
+ready-holds : (state : TableState) (x : Position) (K : After) → table_scheme.ready (n.GfmTable state) x K →
+    TableInvariant (n.GfmTable state) x
+ready-holds its.Start x K at = at.0
+ready-holds its.HeadRowBefore x K at = at.0
+ready-holds its.HeadRowStart x K at = at.0
+ready-holds its.HeadRowBreak x K at = at.0
+ready-holds its.HeadRowData x K at = at.0
+ready-holds its.HeadRowEscape x K at = at.0
+ready-holds its.HeadRowCellBefore x K at = at.0
+ready-holds its.HeadDelimiterStart x K at = at.0
+ready-holds its.HeadDelimiterBefore x K at = at.0
+ready-holds its.HeadDelimiterCellBefore x K at = at.0
+ready-holds its.HeadDelimiterValueBefore x K at = at.0
+ready-holds its.HeadDelimiterLeftAlignmentAfter x K at = at.0
+ready-holds its.HeadDelimiterFiller x K at = at.0
+ready-holds its.HeadDelimiterRightAlignmentAfter x K at = at.0
+ready-holds its.HeadDelimiterCellAfter x K at = at.0
+ready-holds its.HeadDelimiterNok x K at = at.0
+ready-holds its.BodyRowStart x K at = at.0
+ready-holds its.BodyRowBreak x K at = at.0
+ready-holds its.BodyRowData x K at = at.0
+ready-holds its.BodyRowEscape x K at = at.0
+ready-holds its.BodyRowCellBefore x K at = at.0
+
+-- and so where its attempts end as they have to
 pub table_means : (B : Behaviour) (feed : Feed) (state : TableState) (w : World) (K : After) →
     HasTable B w.setting.options → Sees feed w → table_scheme.ready (n.GfmTable state) (position w) K →
     Steps B feed (Next (n.GfmTable state)) w (table_transition state w).to (table_transition state w).world
-table_means B feed its.Start w K has s at = begins_means B feed w has
-table_means B feed its.HeadRowBefore w K has s at = row_means B feed Head place.Start w (has-row B _ Head has) s at.0
-table_means B feed its.HeadRowStart w K has s at = absurd at
-table_means B feed its.HeadRowBreak w K has s at = row_means B feed Head place.Break w (has-row B _ Head has) s at.0
-table_means B feed its.HeadRowData w K has s at = row_means B feed Head place.Data w (has-row B _ Head has) s at.0
-table_means B feed its.HeadRowEscape w K has s at = row_means B feed Head place.Escape w (has-row B _ Head has) s at.0
-table_means B feed its.HeadRowCellBefore w K has s at =
-    row_means B feed Head place.CellBefore w (has-row B _ Head has) s at.0
-table_means B feed its.HeadDelimiterStart w K has s at =
-    delimiter_means B feed _ w K Start (has-delimiter B _ has) s at
-table_means B feed its.HeadDelimiterBefore w K has s at =
-    delimiter_means B feed _ w K Before (has-delimiter B _ has) s at
-table_means B feed its.HeadDelimiterCellBefore w K has s at =
-    delimiter_means B feed _ w K CellBefore (has-delimiter B _ has) s at
-table_means B feed its.HeadDelimiterValueBefore w K has s at =
-    delimiter_means B feed _ w K ValueBefore (has-delimiter B _ has) s at
-table_means B feed its.HeadDelimiterLeftAlignmentAfter w K has s at =
-    delimiter_means B feed _ w K LeftAfter (has-delimiter B _ has) s at
-table_means B feed its.HeadDelimiterFiller w K has s at =
-    delimiter_means B feed _ w K Filler (has-delimiter B _ has) s at
-table_means B feed its.HeadDelimiterRightAlignmentAfter w K has s at =
-    delimiter_means B feed _ w K RightAfter (has-delimiter B _ has) s at
-table_means B feed its.HeadDelimiterCellAfter w K has s at =
-    delimiter_means B feed _ w K CellAfter (has-delimiter B _ has) s at
-table_means B feed its.HeadDelimiterNok w K has s at = absurd at
-table_means B feed its.BodyRowStart w K has s at = row_means B feed Body place.Start w (has-row B _ Body has) s at.0
-table_means B feed its.BodyRowBreak w K has s at = row_means B feed Body place.Break w (has-row B _ Body has) s at.0
-table_means B feed its.BodyRowData w K has s at = row_means B feed Body place.Data w (has-row B _ Body has) s at.0
-table_means B feed its.BodyRowEscape w K has s at = row_means B feed Body place.Escape w (has-row B _ Body has) s at.0
-table_means B feed its.BodyRowCellBefore w K has s at =
-    row_means B feed Body place.CellBefore w (has-row B _ Body has) s at.0
+table_means B feed state w K has s at = table_steps B feed state w has s (ready-holds state (position w) K at)
+
+-- what answers as the transition of a state does means what the state means
+pub table_rule : (state : TableState) (w new : World) (to : State) → to ≡ (table_transition state w).to →
+    new ≡ (table_transition state w).world → TableMeans state w to new
+unfolding TableMeans
+table_rule state w new to e k at B feed has s =
+    steps-as B feed _ _ to w _ new e k (table_steps B feed state w has s at)

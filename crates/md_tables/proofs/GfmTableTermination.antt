@@ -8,7 +8,7 @@ use Rattle.md_engine.specs.declared.state.State.TheVariants.{Nok}
 use Rattle.md_engine.specs.declared.tokenizer.held_leaf.HeldLeaf.{HeldLeaf}
 use Rattle.md_engine.specs.declared.tokenizer.held_leaf.HeldLeaf.TheVariants as held_leaf
 use Rattle.md_engine.specs.declared.tokenizer.held_leaf.OpenText.{OpenText}
-use Rattle.md_engine.specs.Scheme.{Fits, Scheme, after_all, of_owners, position}
+use Rattle.md_engine.specs.Scheme.{Fits, Scheme, after_all, of_owners, position, seen}
 use Rattle.md_engine.specs.World.{World, looks}
 use Rattle.md_engine.proofs.Falls.{later}
 use Rattle.md_engine.proofs.Local.{refuses, turns}
@@ -16,17 +16,17 @@ use Rattle.md_engine.proofs.Points.{stays}
 use Rattle.md_seam.specs.Spaces.{IsRest, rest_ready}
 use Rattle.md_seam.proofs.SpacesTermination.{Does, WhiteFits, rest-size}
 use Rattle.md_tables.specs.Delimiter.{IsOfDelimiter, delimiter_scheme, uncounted}
-use Rattle.md_tables.specs.Delimiter.IsOfDelimiter.{Before, CellAfter, CellBefore, Filler, LeftAfter, RightAfter, Start}
-use Rattle.md_tables.specs.Delimiter.IsOfDelimiter.{ValueBefore}
-use Rattle.md_tables.specs.GfmTable.{asking_columns, head_code, may_head, start_code, table_owner, table_scheme}
-use Rattle.md_tables.specs.GfmTable.{table_transition}
-use Rattle.md_tables.specs.Row.{name_at, row_scheme}
+use Rattle.md_tables.specs.Delimiter.IsOfDelimiter.{Before, CellAfter, CellBefore, Filler, LeftAfter, Refused, RightAfter}
+use Rattle.md_tables.specs.Delimiter.IsOfDelimiter.{Start, ValueBefore}
+use Rattle.md_tables.specs.GfmTable.{asking_columns, head_code, head_row_start_transition, may_head, start_code}
+use Rattle.md_tables.specs.GfmTable.{table_owner, table_scheme, table_transition}
+use Rattle.md_tables.specs.Row.{is_text, name_at, piece, row_scheme}
 use Rattle.md_tables.specs.declared.row.Place.{Place}
 use Rattle.md_tables.specs.declared.row.Place.TheVariants as place
 use Rattle.md_tables.specs.declared.row.Row.{Row}
 use Rattle.md_tables.specs.declared.row.Row.TheVariants.{Head, Body}
 use Rattle.md_tables.proofs.DelimiterTermination.{DelimiterFits, delimiter_terminates}
-use Rattle.md_tables.proofs.RowTermination.{RowFits, row_terminates}
+use Rattle.md_tables.proofs.RowTermination.{RowFits, low, row_terminates}
 
 pub record TableFits (T : Scheme) : Type 1 where
   pub white : WhiteFits T
@@ -67,6 +67,7 @@ delimiter-fits T has = record {
     each _ Filler f = part-fits T _ f
     each _ RightAfter f = part-fits T _ f
     each _ CellAfter f = part-fits T _ f
+    each _ Refused f = part-fits T _ f
 
 -- In front of a row.
 
@@ -99,13 +100,23 @@ start_ends T w held_leaf.Table has r = (
 )
 start_ends T w _ has r = refused_ends T w r
 
+-- behind the indent of a head
+row_start_ends : (T : Scheme) (w : World) → TableFits T → rest_ready (position w) (after_all T w.frames) →
+    Does T (n.GfmTable its.HeadRowStart) w (head_row_start_transition w)
+row_start_ends T w has r = (
+  turns T row_scheme (n.GfmTable its.HeadRowStart) (n.GfmTable its.HeadRowBreak) w w.events w.scratch
+      (part-fits T _ (has.each its.HeadRowStart)) (part-fits T _ (has.each its.HeadRowBreak)) r (omega arith)
+      (low (is_text (piece (seen (position w))))),
+  refl,
+)
+
 -- each state of a table
 pub table_terminates : (T : Scheme) (state : TableState) (w : World) → TableFits T → w.current ≡ looks w →
     table_scheme.ready (n.GfmTable state) (position w) (after_all T w.frames) →
     Does T (n.GfmTable state) w (table_transition state w)
 table_terminates T its.Start w has c r = start_ends T w w.flags.leaf has r
 table_terminates T its.HeadRowBefore w has c r = row_terminates T Head place.Start w (row-fits T Head has) c r
-table_terminates T its.HeadRowStart w has c r = absurd r
+table_terminates T its.HeadRowStart w has c r = row_start_ends T w has r
 table_terminates T its.HeadRowBreak w has c r = row_terminates T Head place.Break w (row-fits T Head has) c r
 table_terminates T its.HeadRowData w has c r = row_terminates T Head place.Data w (row-fits T Head has) c r
 table_terminates T its.HeadRowEscape w has c r = row_terminates T Head place.Escape w (row-fits T Head has) c r
@@ -119,7 +130,7 @@ table_terminates T its.HeadDelimiterFiller w has c r = delimiter_terminates T _ 
 table_terminates T its.HeadDelimiterRightAlignmentAfter w has c r =
     delimiter_terminates T _ w RightAfter (delimiter-fits T has) c r
 table_terminates T its.HeadDelimiterCellAfter w has c r = delimiter_terminates T _ w CellAfter (delimiter-fits T has) c r
-table_terminates T its.HeadDelimiterNok w has c r = absurd r
+table_terminates T its.HeadDelimiterNok w has c r = delimiter_terminates T _ w Refused (delimiter-fits T has) c r
 table_terminates T its.BodyRowStart w has c r = row_terminates T Body place.Start w (row-fits T Body has) c r
 table_terminates T its.BodyRowBreak w has c r = row_terminates T Body place.Break w (row-fits T Body has) c r
 table_terminates T its.BodyRowData w has c r = row_terminates T Body place.Data w (row-fits T Body has) c r

@@ -12,7 +12,7 @@ use Rattle.md_engine.specs.declared.tokenizer.Frame.{Frame}
 use Rattle.md_engine.specs.Meaning.{Accepts, Behaviour, Cell, Feed, Here, Steps, goes, here}
 use Rattle.md_engine.specs.World.{World, after}
 use Rattle.md_engine.specs.Sees.{Sees, ahead, cell_here}
-use Rattle.md_engine.proofs.StepOf.{begins, moves, passes}
+use Rattle.md_engine.proofs.StepOf.{begins, moves, passes, steps-as}
 use Rattle.md_meaning.specs.Rest.{is_white}
 use Rattle.md_leaves.proofs.LeafSteps.{behind-joined, sees-one, white-run, white_frame}
 use Rattle.md_seam.specs.Ahead.{white_rest}
@@ -22,8 +22,8 @@ use Rattle.md_seam.specs.Transition.{Transition}
 use Rattle.md_seam.proofs.WhiteMeaning.{begins-seen, white-tried}
 use Rattle.md_tables.specs.Row.{Divides, Ends, Escapes, Other, Piece, White as Space, at_break_code, behind_part, begun}
 use Rattle.md_tables.specs.Row.{data_code, escape_code, is_escaped, is_text, name_at, piece, row_transition, text_link}
-use Rattle.md_tables.specs.RowRule.{Apart, Escaped, HasRow, Pipe, Run, Text, White, at_break, closes, goes_on, in_row}
-use Rattle.md_tables.specs.RowRule.{begun as run_begun, in_text, opens, row_closes, row_opens}
+use Rattle.md_tables.specs.RowRule.{Apart, Escaped, HasRow, Pipe, RowMeans, Run, Text, White, at_break, closes, goes_on}
+use Rattle.md_tables.specs.RowRule.{begun as run_begun, in_row, in_text, opens, row_closes, row_opens}
 use Rattle.md_tables.specs.declared.row.Place.{Place}
 use Rattle.md_tables.specs.declared.row.Place.TheVariants as place
 use Rattle.md_tables.specs.declared.row.Row.{Row}
@@ -388,3 +388,10 @@ row_means B feed r place.Break w has s rest = break_means B feed r w _ has s ref
 row_means B feed r place.Data w has s rest = data_means B feed r w _ has s rest refl
 row_means B feed r place.Escape w has s rest = escape_means B feed r w _ has s refl
 row_means B feed r place.CellBefore w has s rest = cell_before_means B feed r w _ has s rest refl
+
+-- what answers as the transition of a state does means what the state means
+pub row_rule : (r : Row) (p : Place) (w new : World) (to : State) → to ≡ (row_transition r p w).to →
+    new ≡ (row_transition r p w).world → RowMeans r p w to new
+unfolding RowMeans
+row_rule r p w new to e k rest B feed has s =
+    steps-as B feed _ _ to w _ new e k (row_means B feed r p w has s rest)

@@ -40,7 +40,7 @@ data-rank : (r : Row) (x : Position) →
 data-rank Head x = refl
 data-rank Body x = refl
 
-low : (x : Bool) → (cond x (ranked 2 refl) (ranked 0 refl)).number < 3
+pub low : (x : Bool) → (cond x (ranked 2 refl) (ranked 0 refl)).number < 3
 low true = omega arith
 low false = omega arith
 

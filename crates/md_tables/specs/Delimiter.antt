@@ -216,3 +216,4 @@ pub data IsOfDelimiter : TableState → Type 0 where
   Filler : IsOfDelimiter its.HeadDelimiterFiller
   RightAfter : IsOfDelimiter its.HeadDelimiterRightAlignmentAfter
   CellAfter : IsOfDelimiter its.HeadDelimiterCellAfter
+  Refused : IsOfDelimiter its.HeadDelimiterNok

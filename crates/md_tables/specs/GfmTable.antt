@@ -15,13 +15,13 @@ use Rattle.md_engine.specs.declared.tokenizer.held_leaf.HeldLeaf.{HeldLeaf}
 use Rattle.md_engine.specs.declared.tokenizer.held_leaf.HeldLeaf.TheVariants as held_leaf
 use Rattle.md_engine.specs.declared.tokenizer.held_leaf.OpenText.{OpenText}
 use Rattle.md_engine.specs.Run.{reading}
-use Rattle.md_engine.specs.Scheme.{Scheme, nowhere, of_owners, ranked}
+use Rattle.md_engine.specs.Scheme.{Position, Scheme, nowhere, of_owners, ranked}
 use Rattle.md_engine.specs.World.{World}
 use Rattle.md_meaning.specs.Ascii.{colon, hyphen, pipe}
 use Rattle.md_meaning.specs.Rest.{is_small}
-use Rattle.md_seam.specs.Spaces.{rest_ready}
+use Rattle.md_seam.specs.Spaces.{IsRest, rest_ready}
 use Rattle.md_seam.specs.Transition.{Transition}
-use Rattle.md_tables.specs.Delimiter.{DelimiterNeeds, delimiter_scheme, delimiter_transition}
+use Rattle.md_tables.specs.Delimiter.{DelimiterNeeds, IsCounting, delimiter_scheme, delimiter_transition}
 use Rattle.md_tables.specs.Row.{row_scheme, row_transition}
 use Rattle.md_tables.specs.declared.row.Place.TheVariants as place
 use Rattle.md_tables.specs.declared.row.Row.TheVariants.{Head, Body}
@@ -57,10 +57,15 @@ start_code w _ = record { to = Nok; world = w }
 abbrev pub start_transition : World → Transition
 start_transition w = start_code w w.flags.leaf
 
+-- behind the indent of a head its first part begins
+abbrev pub head_row_start_transition : World → Transition
+head_row_start_transition w = record { to = Retry (n.GfmTable its.HeadRowBreak); world = w }
+
 -- all of them
 abbrev pub table_transition : TableState → World → Transition
 table_transition its.Start w = start_transition w
 table_transition its.HeadRowBefore w = row_transition Head place.Start w
+table_transition its.HeadRowStart w = head_row_start_transition w
 table_transition its.HeadRowBreak w = row_transition Head place.Break w
 table_transition its.HeadRowData w = row_transition Head place.Data w
 table_transition its.HeadRowEscape w = row_transition Head place.Escape w
@@ -75,6 +80,19 @@ table_transition state w = delimiter_transition state w
 abbrev pub TableNeeds : StateName → World → Type 0
 TableNeeds name w = DelimiterNeeds name w
 
+-- what holds at each state of a table
+abbrev pub TableInvariant : StateName → Position → Type 0
+TableInvariant (n.GfmTable its.HeadDelimiterStart) x = IsCounting x
+TableInvariant (n.GfmTable its.HeadDelimiterBefore) x = IsCounting x
+TableInvariant (n.GfmTable its.HeadDelimiterCellBefore) x = IsCounting x
+TableInvariant (n.GfmTable its.HeadDelimiterValueBefore) x = IsCounting x
+TableInvariant (n.GfmTable its.HeadDelimiterLeftAlignmentAfter) x = IsCounting x
+TableInvariant (n.GfmTable its.HeadDelimiterFiller) x = IsCounting x
+TableInvariant (n.GfmTable its.HeadDelimiterRightAlignmentAfter) x = IsCounting x
+TableInvariant (n.GfmTable its.HeadDelimiterCellAfter) x = IsCounting x
+TableInvariant (n.GfmTable its.HeadDelimiterNok) x = IsCounting x
+TableInvariant _ x = IsRest x.scratch
+
 -- In front of a row a table is at rest.
 abbrev pub start_scheme : Scheme
 start_scheme = record {
@@ -84,16 +102,15 @@ start_scheme = record {
   tries = λ name. ranked 0 refl;
 }
 
--- which part of a table has each state; two have none
+-- which part of a table has each state
 abbrev pub part_scheme : TableState → Scheme
 part_scheme its.Start = start_scheme
 part_scheme its.HeadRowBefore = row_scheme
-part_scheme its.HeadRowStart = nowhere
+part_scheme its.HeadRowStart = row_scheme
 part_scheme its.HeadRowBreak = row_scheme
 part_scheme its.HeadRowData = row_scheme
 part_scheme its.HeadRowEscape = row_scheme
 part_scheme its.HeadRowCellBefore = row_scheme
-part_scheme its.HeadDelimiterNok = nowhere
 part_scheme its.BodyRowStart = row_scheme
 part_scheme its.BodyRowBreak = row_scheme
 part_scheme its.BodyRowData = row_scheme

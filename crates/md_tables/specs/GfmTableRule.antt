@@ -4,13 +4,17 @@ use Rattle.md_engine.specs.declared.configuration.ParseOptions.{ParseOptions}
 use Rattle.md_engine.specs.declared.state.Name.TheVariants as n
 use Rattle.md_engine.specs.declared.state.gfm_table.State.{State as TableState}
 use Rattle.md_engine.specs.declared.state.gfm_table.State.TheVariants as its
+use Rattle.md_engine.specs.declared.state.State.{State}
 use Rattle.md_engine.specs.declared.tokenizer.held_leaf.HeldLeaf.{HeldLeaf}
 use Rattle.md_engine.specs.declared.tokenizer.held_leaf.HeldLeaf.TheVariants as held_leaf
 use Rattle.md_engine.specs.declared.tokenizer.held_leaf.OpenText.{OpenText}
 use Rattle.md_engine.specs.Meaning.{Behaviour, Cell, Here, Outcome, Refuses}
+use Rattle.md_engine.specs.Scheme.{position}
+use Rattle.md_engine.specs.Sees.{IsStep}
+use Rattle.md_engine.specs.World.{World}
 use Rattle.md_seam.specs.Ahead.{HasWhite}
 use Rattle.md_tables.specs.DelimiterRule.{delimiter_at, delimiter_behaves}
-use Rattle.md_tables.specs.GfmTable.{asking_columns, may_head}
+use Rattle.md_tables.specs.GfmTable.{TableInvariant, asking_columns, may_head}
 use Rattle.md_tables.specs.RowRule.{row_behaves}
 use Rattle.md_tables.specs.declared.row.Place.TheVariants as place
 use Rattle.md_tables.specs.declared.row.Row.TheVariants.{Head, Body}
@@ -35,6 +39,7 @@ table_at options cells h = table_by options h.flags.leaf cells h
 abbrev pub table_behaves : ParseOptions → TableState → List Cell → Here → Outcome
 table_behaves options its.Start cells h = table_at options cells h
 table_behaves options its.HeadRowBefore cells h = row_behaves Head place.Start cells h
+table_behaves options its.HeadRowStart cells h = row_behaves Head place.Break cells h
 table_behaves options its.HeadRowBreak cells h = row_behaves Head place.Break cells h
 table_behaves options its.HeadRowData cells h = row_behaves Head place.Data cells h
 table_behaves options its.HeadRowEscape cells h = row_behaves Head place.Escape cells h
@@ -50,3 +55,9 @@ pub record HasTable (B : Behaviour) (options : ParseOptions) : Type 0 where
   pub white : HasWhite B
   pub each : (state : TableState) (cells : List Cell) (h : Here) →
       B (n.GfmTable state) cells h ≡ table_behaves options state cells h
+
+-- what a state of a table means: where what it needs holds, its call is one step of the rule
+unfoldable pub TableMeans : TableState → World → State → World → Type 0
+TableMeans state old to new =
+    TableInvariant (n.GfmTable state) (position old) →
+    IsStep (λ B. HasTable B old.setting.options) (n.GfmTable state) to old new

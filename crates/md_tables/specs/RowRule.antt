@@ -5,12 +5,16 @@ use Rattle.md_engine.specs.declared.event.Kind.TheVariants.{Enter}
 use Rattle.md_engine.specs.declared.event.Name.TheVariants.{Data, GfmTable, GfmTableCellDivider, GfmTableRow}
 use Rattle.md_engine.specs.declared.event.Name.TheVariants.{SpaceOrTab}
 use Rattle.md_engine.specs.declared.event.Point.{Point}
+use Rattle.md_engine.specs.declared.state.State.{State}
 use Rattle.md_engine.specs.Meaning.{Accepts, Behaviour, Cell, Here, Outcome, Refuses}
+use Rattle.md_engine.specs.Sees.{IsStep}
+use Rattle.md_engine.specs.World.{World}
 use Rattle.md_meaning.specs.Ascii.{backslash, pipe}
 use Rattle.md_meaning.specs.Rest.{is_white}
 use Rattle.md_leaves.specs.Further.{further_link}
 use Rattle.md_seam.specs.Ahead.{HasWhite, begins_white, from_ending, line_cells, line_end}
 use Rattle.md_seam.specs.Events.Nested.{enter, exit}
+use Rattle.md_seam.specs.Spaces.{IsRest}
 use Rattle.md_tables.specs.Row.{name_at, text_link}
 use Rattle.md_tables.specs.declared.row.Place.{Place}
 use Rattle.md_tables.specs.declared.row.Place.TheVariants as place
@@ -108,3 +112,7 @@ row_behaves r place.CellBefore cells h = in_row r Apart cells h
 pub record HasRow (B : Behaviour) (r : Row) : Type 0 where
   pub white : HasWhite B
   pub each : (p : Place) (cells : List Cell) (h : Here) → B (name_at r p) cells h ≡ row_behaves r p cells h
+
+-- what a state of a row means: at rest, its call is one step of the rule
+unfoldable pub RowMeans : Row → Place → World → State → World → Type 0
+RowMeans r p old to new = IsRest old.scratch → IsStep (λ B. HasRow B r) (name_at r p) to old new

@@ -9,6 +9,7 @@
 // a table is open. Resolvers join the lines of one, and make cells of these.
 
 ghost use Rattle.std.specs.Prelude.{◌≡◌, ◌≢◌, ◌<◌, IfSome, length};
+ghost use Rattle.md_engine.specs.Full.{IsFull, OnError};
 ghost use Rattle.md_engine.specs.World.{world};
 ghost use Rattle.md_engine.specs.declared.state.Name.{Name as StateName};
 ghost use Rattle.md_engine.specs.declared.state.State.{State};
@@ -20,6 +21,7 @@ ghost use Rattle.md_tables.specs.Delimiter.{DelimiterNeeds, before_transition, c
 ghost use Rattle.md_tables.specs.Delimiter.{cell_before_transition, delimiter_transition, filler_transition};
 ghost use Rattle.md_tables.specs.Delimiter.{left_after_transition, marked, refused, right_after_transition};
 ghost use Rattle.md_tables.specs.Delimiter.{start_transition, uncounted, value_before_transition, white_on};
+ghost use Rattle.md_tables.specs.GfmTableRule.{TableMeans};
 
 use md_engine::event::Name;
 use md_engine::or_error;
@@ -42,15 +44,6 @@ fn uncounted(scratch: Scratch) -> Scratch
     }
 }
 
-/// Refuses, at rest.
-fn refuse(tokenizer: &mut Tokenizer) -> State
-    ensures to { result ≡ State.Nok }
-    ensures world { world tokenizer.new ≡ (refused (world tokenizer.old)).world }
-{
-    tokenizer.scratch = uncounted(tokenizer.scratch);
-    State::Nok
-}
-
 /// Goes on behind whitespace, if some stands here, and at most so much of it.
 #[inline(always)]
 fn behind_white(tokenizer: &mut Tokenizer, max: usize, next: TableState) -> State
@@ -58,6 +51,7 @@ fn behind_white(tokenizer: &mut Tokenizer, max: usize, next: TableState) -> Stat
         result ≡ (white_on (world tokenizer.old) max next (sees_white tokenizer.old.current)).to }
     ensures world { result ≢ State.Error →
         world tokenizer.new ≡ (white_on (world tokenizer.old) max next (sees_white tokenizer.old.current)).world }
+    ensures full { OnError result (IsFull tokenizer.new) }
 {
     let behind = StateName::GfmTable(next);
     if is_space_or_tab(tokenizer.current) {
@@ -73,6 +67,7 @@ fn take_mark(tokenizer: &mut Tokenizer, name: Name, next: TableState) -> State
     requires { (world tokenizer.old).point.index < length (world tokenizer.old).setting.bytes }
     ensures to { result ≢ State.Error → result ≡ (marked (world tokenizer.old) name next).to }
     ensures world { result ≢ State.Error → world tokenizer.new ≡ (marked (world tokenizer.old) name next).world }
+    ensures full { OnError result (IsFull tokenizer.new) }
 {
     tokenizer.scratch.seen = true;
     or_error!(tokenizer.enter(name));
@@ -89,10 +84,14 @@ fn take_mark(tokenizer: &mut Tokenizer, name: Name, next: TableState) -> State
 ///     ^
 /// ```
 #[inline(always)]
+#[tactic(auto, using(crate::proofs::GfmTableMeaning::table_rule))]
 pub fn start(tokenizer: &mut Tokenizer) -> State
     requires { IsAt DelimiterNeeds (StateName.GfmTable TableState.HeadDelimiterStart) (world tokenizer.old) }
     ensures to { result ≢ State.Error → result ≡ (start_transition (world tokenizer.old)).to }
     ensures world { result ≢ State.Error → world tokenizer.new ≡ (start_transition (world tokenizer.old)).world }
+    ensures rule { result ≢ State.Error →
+        TableMeans TableState.HeadDelimiterStart (world tokenizer.old) result (world tokenizer.new) }
+    ensures full { OnError result (IsFull tokenizer.new) }
 {
     or_error!(tokenizer.enter_link(Name::GfmTable, FURTHER));
     or_error!(tokenizer.enter(Name::GfmTableDelimiterRow));
@@ -108,10 +107,14 @@ pub fn start(tokenizer: &mut Tokenizer) -> State
 ///     ^   ^
 /// ```
 #[inline(always)]
+#[tactic(auto, using(crate::proofs::GfmTableMeaning::table_rule))]
 pub fn before(tokenizer: &mut Tokenizer) -> State
     requires { IsAt DelimiterNeeds (StateName.GfmTable TableState.HeadDelimiterBefore) (world tokenizer.old) }
     ensures to { result ≢ State.Error → result ≡ (before_transition (world tokenizer.old)).to }
     ensures world { result ≢ State.Error → world tokenizer.new ≡ (before_transition (world tokenizer.old)).world }
+    ensures rule { result ≢ State.Error →
+        TableMeans TableState.HeadDelimiterBefore (world tokenizer.old) result (world tokenizer.new) }
+    ensures full { OnError result (IsFull tokenizer.new) }
 {
     match tokenizer.current {
         Some(b'-' | b':') => {
@@ -122,7 +125,7 @@ pub fn before(tokenizer: &mut Tokenizer) -> State
             Name::GfmTableCellDivider,
             TableState::HeadDelimiterCellBefore,
         ),
-        _ => refuse(tokenizer),
+        _ => head_delimiter_nok(tokenizer),
     }
 }
 
@@ -134,11 +137,15 @@ pub fn before(tokenizer: &mut Tokenizer) -> State
 ///      ^
 /// ```
 #[inline(always)]
+#[tactic(auto, using(crate::proofs::GfmTableMeaning::table_rule))]
 pub fn cell_before(tokenizer: &mut Tokenizer) -> State
     requires { IsAt DelimiterNeeds (StateName.GfmTable TableState.HeadDelimiterCellBefore) (world tokenizer.old) }
     ensures to { result ≢ State.Error → result ≡ (cell_before_transition (world tokenizer.old)).to }
     ensures world { result ≢ State.Error →
         world tokenizer.new ≡ (cell_before_transition (world tokenizer.old)).world }
+    ensures rule { result ≢ State.Error →
+        TableMeans TableState.HeadDelimiterCellBefore (world tokenizer.old) result (world tokenizer.new) }
+    ensures full { OnError result (IsFull tokenizer.new) }
 {
     behind_white(tokenizer, usize::MAX, TableState::HeadDelimiterValueBefore)
 }
@@ -151,11 +158,15 @@ pub fn cell_before(tokenizer: &mut Tokenizer) -> State
 ///       ^
 /// ```
 #[inline(always)]
+#[tactic(auto, using(crate::proofs::GfmTableMeaning::table_rule))]
 pub fn value_before(tokenizer: &mut Tokenizer) -> State
     requires { IsAt DelimiterNeeds (StateName.GfmTable TableState.HeadDelimiterValueBefore) (world tokenizer.old) }
     ensures to { result ≢ State.Error → result ≡ (value_before_transition (world tokenizer.old)).to }
     ensures world { result ≢ State.Error →
         world tokenizer.new ≡ (value_before_transition (world tokenizer.old)).world }
+    ensures rule { result ≢ State.Error →
+        TableMeans TableState.HeadDelimiterValueBefore (world tokenizer.old) result (world tokenizer.new) }
+    ensures full { OnError result (IsFull tokenizer.new) }
 {
     match tokenizer.current {
         None | Some(b'\n') => State::Retry(StateName::GfmTable(TableState::HeadDelimiterCellAfter)),
@@ -167,7 +178,7 @@ pub fn value_before(tokenizer: &mut Tokenizer) -> State
         Some(b'-') => State::Retry(StateName::GfmTable(
             TableState::HeadDelimiterLeftAlignmentAfter,
         )),
-        _ => refuse(tokenizer),
+        _ => head_delimiter_nok(tokenizer),
     }
 }
 
@@ -179,10 +190,14 @@ pub fn value_before(tokenizer: &mut Tokenizer) -> State
 ///        ^
 /// ```
 #[inline(always)]
+#[tactic(auto, using(crate::proofs::GfmTableMeaning::table_rule))]
 pub fn left_alignment_after(tokenizer: &mut Tokenizer) -> State
     requires { IsAt DelimiterNeeds (StateName.GfmTable TableState.HeadDelimiterLeftAlignmentAfter) (world tokenizer.old) }
     ensures to { result ≢ State.Error → result ≡ (left_after_transition (world tokenizer.old)).to }
     ensures world { result ≢ State.Error → world tokenizer.new ≡ (left_after_transition (world tokenizer.old)).world }
+    ensures rule { result ≢ State.Error →
+        TableMeans TableState.HeadDelimiterLeftAlignmentAfter (world tokenizer.old) result (world tokenizer.new) }
+    ensures full { OnError result (IsFull tokenizer.new) }
 {
     if tokenizer.current == Some(b'-') {
         or_error!(tokenizer.enter(Name::GfmTableDelimiterFiller));
@@ -190,7 +205,7 @@ pub fn left_alignment_after(tokenizer: &mut Tokenizer) -> State
         tokenizer.scratch.size += 1;
         State::Next(StateName::GfmTable(TableState::HeadDelimiterFiller))
     } else {
-        refuse(tokenizer)
+        head_delimiter_nok(tokenizer)
     }
 }
 
@@ -202,10 +217,14 @@ pub fn left_alignment_after(tokenizer: &mut Tokenizer) -> State
 ///       ^
 /// ```
 #[inline(always)]
+#[tactic(auto, using(crate::proofs::GfmTableMeaning::table_rule))]
 pub fn filler(tokenizer: &mut Tokenizer) -> State
     requires { IsAt DelimiterNeeds (StateName.GfmTable TableState.HeadDelimiterFiller) (world tokenizer.old) }
     ensures to { result ≢ State.Error → result ≡ (filler_transition (world tokenizer.old)).to }
     ensures world { result ≢ State.Error → world tokenizer.new ≡ (filler_transition (world tokenizer.old)).world }
+    ensures rule { result ≢ State.Error →
+        TableMeans TableState.HeadDelimiterFiller (world tokenizer.old) result (world tokenizer.new) }
+    ensures full { OnError result (IsFull tokenizer.new) }
 {
     match tokenizer.current {
         Some(b'-') => {
@@ -235,10 +254,14 @@ pub fn filler(tokenizer: &mut Tokenizer) -> State
 ///         ^
 /// ```
 #[inline(always)]
+#[tactic(auto, using(crate::proofs::GfmTableMeaning::table_rule))]
 pub fn right_alignment_after(tokenizer: &mut Tokenizer) -> State
     requires { IsAt DelimiterNeeds (StateName.GfmTable TableState.HeadDelimiterRightAlignmentAfter) (world tokenizer.old) }
     ensures to { result ≢ State.Error → result ≡ (right_after_transition (world tokenizer.old)).to }
     ensures world { result ≢ State.Error → world tokenizer.new ≡ (right_after_transition (world tokenizer.old)).world }
+    ensures rule { result ≢ State.Error →
+        TableMeans TableState.HeadDelimiterRightAlignmentAfter (world tokenizer.old) result (world tokenizer.new) }
+    ensures full { OnError result (IsFull tokenizer.new) }
 {
     behind_white(tokenizer, usize::MAX, TableState::HeadDelimiterCellAfter)
 }
@@ -251,10 +274,14 @@ pub fn right_alignment_after(tokenizer: &mut Tokenizer) -> State
 ///          ^
 /// ```
 #[inline(always)]
+#[tactic(auto, using(crate::proofs::GfmTableMeaning::table_rule))]
 pub fn cell_after(tokenizer: &mut Tokenizer) -> State
     requires { IsAt DelimiterNeeds (StateName.GfmTable TableState.HeadDelimiterCellAfter) (world tokenizer.old) }
     ensures to { result ≢ State.Error → result ≡ (cell_after_transition (world tokenizer.old)).to }
     ensures world { result ≢ State.Error → world tokenizer.new ≡ (cell_after_transition (world tokenizer.old)).world }
+    ensures rule { result ≢ State.Error →
+        TableMeans TableState.HeadDelimiterCellAfter (world tokenizer.old) result (world tokenizer.new) }
+    ensures full { OnError result (IsFull tokenizer.new) }
 {
     let scratch = tokenizer.scratch;
     match tokenizer.current {
@@ -270,8 +297,26 @@ pub fn cell_after(tokenizer: &mut Tokenizer) -> State
             Name::GfmTableCellDivider,
             TableState::HeadDelimiterCellBefore,
         ),
-        _ => refuse(tokenizer),
+        _ => head_delimiter_nok(tokenizer),
     }
+}
+
+/// Where a row can't go on: refuses, at rest. The other states call it where they refuse.
+///
+/// ```markdown
+///   | | a |
+/// > | | x |
+///       ^
+/// ```
+#[tactic(auto, using(crate::proofs::GfmTableMeaning::table_rule))]
+pub fn head_delimiter_nok(tokenizer: &mut Tokenizer) -> State
+    requires { IsAt DelimiterNeeds (StateName.GfmTable TableState.HeadDelimiterNok) (world tokenizer.old) }
+    ensures to { result ≡ (refused (world tokenizer.old)).to }
+    ensures world { world tokenizer.new ≡ (refused (world tokenizer.old)).world }
+    ensures rule { TableMeans TableState.HeadDelimiterNok (world tokenizer.old) result (world tokenizer.new) }
+{
+    tokenizer.scratch = uncounted(tokenizer.scratch);
+    State::Nok
 }
 
 /// What a state of a delimiter row only takes.
@@ -291,6 +336,7 @@ pub fn call(tokenizer: &mut Tokenizer, state: TableState) -> State
     ensures to { result ≢ State.Error → result ≡ (delimiter_transition state (world tokenizer.old)).to }
     ensures world { result ≢ State.Error →
         world tokenizer.new ≡ (delimiter_transition state (world tokenizer.old)).world }
+    ensures full { OnError result (IsFull tokenizer.new) }
 {
     match state {
         TableState::HeadDelimiterStart => start(tokenizer),
@@ -301,6 +347,6 @@ pub fn call(tokenizer: &mut Tokenizer, state: TableState) -> State
         TableState::HeadDelimiterFiller => filler(tokenizer),
         TableState::HeadDelimiterRightAlignmentAfter => right_alignment_after(tokenizer),
         TableState::HeadDelimiterCellAfter => cell_after(tokenizer),
-        _ => refuse(tokenizer),
+        _ => head_delimiter_nok(tokenizer),
     }
 }

@@ -7,6 +7,7 @@
 // is read again, once all lines are known.
 
 ghost use Rattle.std.specs.Prelude.{◌≡◌, ◌≢◌, IfSome, None};
+ghost use Rattle.md_engine.specs.Full.{IsFull, OnError};
 ghost use Rattle.md_engine.specs.World.{world};
 ghost use Rattle.md_engine.specs.declared.state.Name.{Name as StateName};
 ghost use Rattle.md_engine.specs.declared.state.State.{State};
@@ -14,8 +15,9 @@ ghost use Rattle.md_engine.specs.declared.state.gfm_table.State.{State as TableS
 ghost use Rattle.md_seam.specs.Stays.{TakesEach};
 ghost use Rattle.md_seam.specs.Transition.{IsAt};
 ghost use Rattle.md_seam.specs.Look.{may_with};
-ghost use Rattle.md_tables.specs.GfmTable.{AnswersWith, TableNeeds, may_begin, may_head, start_transition};
-ghost use Rattle.md_tables.specs.GfmTable.{table_transition};
+ghost use Rattle.md_tables.specs.GfmTable.{AnswersWith, TableNeeds, head_row_start_transition, may_begin, may_head};
+ghost use Rattle.md_tables.specs.GfmTable.{start_transition, table_transition};
+ghost use Rattle.md_tables.specs.GfmTableRule.{TableMeans};
 
 use crate::delimiter;
 use crate::row::{self, Place, Row};
@@ -57,10 +59,12 @@ pub fn may_begin(leaf: HeldLeaf, first: Option<u8>) -> bool
 /// > | | b |
 ///     ^
 /// ```
+#[tactic(auto, using(crate::proofs::GfmTableMeaning::table_rule))]
 pub fn start(tokenizer: &mut Tokenizer) -> State
     requires { IsAt TableNeeds (StateName.GfmTable TableState.Start) (world tokenizer.old) }
     ensures to { result ≡ (start_transition (world tokenizer.old)).to }
     ensures world { world tokenizer.new ≡ (start_transition (world tokenizer.old)).world }
+    ensures rule { TableMeans TableState.Start (world tokenizer.old) result (world tokenizer.new) }
 {
     match tokenizer.flags.leaf {
         HeldLeaf::Text(text) => {
@@ -74,6 +78,23 @@ pub fn start(tokenizer: &mut Tokenizer) -> State
         HeldLeaf::Table => State::Retry(StateName::GfmTable(TableState::BodyRowStart)),
         _ => State::Nok,
     }
+}
+
+/// Behind the indent of the head: goes on with its first part.
+///
+/// ```markdown
+/// > | | a |
+///     ^
+///   | | - |
+/// ```
+#[tactic(auto, using(crate::proofs::GfmTableMeaning::table_rule))]
+pub fn head_row_start(tokenizer: &mut Tokenizer) -> State
+    requires { IsAt TableNeeds (StateName.GfmTable TableState.HeadRowStart) (world tokenizer.old) }
+    ensures to { result ≡ (head_row_start_transition (world tokenizer.old)).to }
+    ensures world { world tokenizer.new ≡ (head_row_start_transition (world tokenizer.old)).world }
+    ensures rule { TableMeans TableState.HeadRowStart (world tokenizer.old) result (world tokenizer.new) }
+{
+    State::Retry(StateName::GfmTable(TableState::HeadRowBreak))
 }
 
 /// What a state of a table only takes.
@@ -90,14 +111,18 @@ pub fn takes_at_once(state: TableState) -> Option<Stay>
 
 /// Calls a state of a table.
 #[inline(always)]
+#[tactic(auto, using(crate::proofs::GfmTableMeaning::table_rule))]
 pub fn call(tokenizer: &mut Tokenizer, state: TableState) -> State
     requires { IsAt TableNeeds (StateName.GfmTable state) (world tokenizer.old) }
     ensures to { result ≢ State.Error → result ≡ (table_transition state (world tokenizer.old)).to }
     ensures world { result ≢ State.Error → world tokenizer.new ≡ (table_transition state (world tokenizer.old)).world }
+    ensures rule { result ≢ State.Error → TableMeans state (world tokenizer.old) result (world tokenizer.new) }
+    ensures full { OnError result (IsFull tokenizer.new) }
 {
     match state {
         TableState::Start => start(tokenizer),
         TableState::HeadRowBefore => row::call(tokenizer, Row::Head, Place::Start),
+        TableState::HeadRowStart => head_row_start(tokenizer),
         TableState::HeadRowBreak => row::call(tokenizer, Row::Head, Place::Break),
         TableState::HeadRowData => row::call(tokenizer, Row::Head, Place::Data),
         TableState::HeadRowEscape => row::call(tokenizer, Row::Head, Place::Escape),

@@ -10,6 +10,7 @@
 // before, as each further line of a leaf of several lines is.
 
 ghost use Rattle.std.specs.Prelude.{◌≡◌, ◌≢◌, IfSome};
+ghost use Rattle.md_engine.specs.Full.{IsFull, OnError};
 ghost use Rattle.md_engine.specs.World.{world};
 ghost use Rattle.md_engine.specs.declared.state.Name.{Name as StateName};
 ghost use Rattle.md_engine.specs.declared.state.State.{State};
@@ -18,6 +19,7 @@ ghost use Rattle.md_seam.specs.Stays.{TakesEach};
 ghost use Rattle.md_seam.specs.Transition.{IsAt, NeedsNothing};
 ghost use Rattle.md_tables.specs.Row.{at_break_transition, behind_part, cell_before_transition, data_transition};
 ghost use Rattle.md_tables.specs.Row.{escape_transition, place_of, row_transition, start_transition, state_at};
+ghost use Rattle.md_tables.specs.RowRule.{RowMeans};
 
 use md_engine::event::{Content, Link, Name};
 use md_engine::or_error;
@@ -112,6 +114,7 @@ pub(crate) fn behind_part(tokenizer: &mut Tokenizer, row: Row) -> State
         result ≡ (behind_part row (world tokenizer.old) (sees_white tokenizer.old.current)).to }
     ensures world { result ≢ State.Error →
         world tokenizer.new ≡ (behind_part row (world tokenizer.old) (sees_white tokenizer.old.current)).world }
+    ensures full { OnError result (IsFull tokenizer.new) }
 {
     let next = name_at(row, Place::Break);
     if is_space_or_tab(tokenizer.current) {
@@ -129,10 +132,13 @@ pub(crate) fn behind_part(tokenizer: &mut Tokenizer, row: Row) -> State
 /// > | | b |
 ///     ^
 /// ```
+#[tactic(auto, using(crate::proofs::RowMeaning::row_rule))]
 pub fn start(tokenizer: &mut Tokenizer, row: Row) -> State
     requires { IsAt NeedsNothing (StateName.GfmTable (state_at row Place.Start)) (world tokenizer.old) }
     ensures to { result ≢ State.Error → result ≡ (start_transition row (world tokenizer.old)).to }
     ensures world { result ≢ State.Error → world tokenizer.new ≡ (start_transition row (world tokenizer.old)).world }
+    ensures rule { result ≢ State.Error → RowMeans row Place.Start (world tokenizer.old) result (world tokenizer.new) }
+    ensures full { OnError result (IsFull tokenizer.new) }
 {
     if matches!(row, Row::Body) {
         or_error!(tokenizer.enter_link(Name::GfmTable, FURTHER));
@@ -150,10 +156,13 @@ pub fn start(tokenizer: &mut Tokenizer, row: Row) -> State
 ///     ^ ^ ^
 /// ```
 #[inline(always)]
+#[tactic(auto, using(crate::proofs::RowMeaning::row_rule))]
 pub fn at_break(tokenizer: &mut Tokenizer, row: Row) -> State
     requires { IsAt NeedsNothing (StateName.GfmTable (state_at row Place.Break)) (world tokenizer.old) }
     ensures to { result ≢ State.Error → result ≡ (at_break_transition row (world tokenizer.old)).to }
     ensures world { result ≢ State.Error → world tokenizer.new ≡ (at_break_transition row (world tokenizer.old)).world }
+    ensures rule { result ≢ State.Error → RowMeans row Place.Break (world tokenizer.old) result (world tokenizer.new) }
+    ensures full { OnError result (IsFull tokenizer.new) }
 {
     match tokenizer.current {
         None | Some(b'\n') => {
@@ -186,10 +195,13 @@ pub fn at_break(tokenizer: &mut Tokenizer, row: Row) -> State
 ///       ^^
 /// ```
 #[inline(always)]
+#[tactic(auto, using(crate::proofs::RowMeaning::row_rule))]
 pub fn data(tokenizer: &mut Tokenizer, row: Row) -> State
     requires { IsAt NeedsNothing (StateName.GfmTable (state_at row Place.Data)) (world tokenizer.old) }
     ensures to { result ≢ State.Error → result ≡ (data_transition row (world tokenizer.old)).to }
     ensures world { result ≢ State.Error → world tokenizer.new ≡ (data_transition row (world tokenizer.old)).world }
+    ensures rule { result ≢ State.Error → RowMeans row Place.Data (world tokenizer.old) result (world tokenizer.new) }
+    ensures full { OnError result (IsFull tokenizer.new) }
 {
     match tokenizer.current {
         None | Some(b'\n' | b' ' | b'\t' | b'|') => {
@@ -217,10 +229,12 @@ pub fn data(tokenizer: &mut Tokenizer, row: Row) -> State
 ///         ^
 /// ```
 #[inline(always)]
+#[tactic(auto, using(crate::proofs::RowMeaning::row_rule))]
 pub fn escape(tokenizer: &mut Tokenizer, row: Row) -> State
     requires { IsAt NeedsNothing (StateName.GfmTable (state_at row Place.Escape)) (world tokenizer.old) }
     ensures to { result ≡ (escape_transition row (world tokenizer.old)).to }
     ensures world { world tokenizer.new ≡ (escape_transition row (world tokenizer.old)).world }
+    ensures rule { RowMeans row Place.Escape (world tokenizer.old) result (world tokenizer.new) }
 {
     let next = name_at(row, Place::Data);
     match tokenizer.current {
@@ -240,11 +254,15 @@ pub fn escape(tokenizer: &mut Tokenizer, row: Row) -> State
 /// > | | b |
 ///      ^   ^
 /// ```
+#[tactic(auto, using(crate::proofs::RowMeaning::row_rule))]
 pub fn cell_before(tokenizer: &mut Tokenizer, row: Row) -> State
     requires { IsAt NeedsNothing (StateName.GfmTable (state_at row Place.CellBefore)) (world tokenizer.old) }
     ensures to { result ≢ State.Error → result ≡ (cell_before_transition row (world tokenizer.old)).to }
     ensures world { result ≢ State.Error →
         world tokenizer.new ≡ (cell_before_transition row (world tokenizer.old)).world }
+    ensures rule { result ≢ State.Error →
+        RowMeans row Place.CellBefore (world tokenizer.old) result (world tokenizer.new) }
+    ensures full { OnError result (IsFull tokenizer.new) }
 {
     behind_part(tokenizer, row)
 }
@@ -261,10 +279,13 @@ pub fn takes_at_once(row: Row, place: Place) -> Option<Stay>
 }
 
 /// Calls a state of a row.
+#[tactic(auto, using(crate::proofs::RowMeaning::row_rule))]
 pub fn call(tokenizer: &mut Tokenizer, row: Row, place: Place) -> State
     requires { IsAt NeedsNothing (StateName.GfmTable (state_at row place)) (world tokenizer.old) }
     ensures to { result ≢ State.Error → result ≡ (row_transition row place (world tokenizer.old)).to }
     ensures world { result ≢ State.Error → world tokenizer.new ≡ (row_transition row place (world tokenizer.old)).world }
+    ensures rule { result ≢ State.Error → RowMeans row place (world tokenizer.old) result (world tokenizer.new) }
+    ensures full { OnError result (IsFull tokenizer.new) }
 {
     match place {
         Place::Start => start(tokenizer, row),
