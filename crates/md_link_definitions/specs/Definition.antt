@@ -12,9 +12,9 @@ use Rattle.md_engine.specs.declared.state.space_or_tab_eol.State.TheVariants as 
 use Rattle.md_engine.specs.declared.state.title.State.TheVariants as title
 use Rattle.md_engine.specs.declared.state.State.{State}
 use Rattle.md_engine.specs.declared.state.State.TheVariants.{Ok, Nok, Next, Retry}
-use Rattle.md_engine.specs.Scheme.{After, Rank, Scheme, Position, ranked}
+use Rattle.md_engine.specs.Scheme.{After, Ends, EndsLater, Rank, Scheme, Position, ranked}
 use Rattle.md_engine.specs.World.{World}
-use Rattle.md_seam.specs.Spaces.{any_size, ends_line, is_current, later_ready, rest_ready, sees_white, white_then}
+use Rattle.md_seam.specs.Spaces.{IsRest, any_size, ends_line, is_current, sees_white, white_then}
 use Rattle.md_seam.specs.Transition.{Transition, entered, exited, taken, tried}
 
 -- it goes on with another state of it here
@@ -136,11 +136,14 @@ definition_transition its.TitleAfter w = title_after_transition w
 definition_transition its.TitleAfterOptionalWhitespace w = title_end_transition w
 
 -- It ends behind its `[`, and so behind the point where it begins.
+abbrev pub definition_ends : StateName → Position → After → Type 0
+definition_ends (n.Definition its.Start) x K = EndsLater IsRest IsRest x K
+definition_ends (n.Definition its.Before) x K = EndsLater IsRest IsRest x K
+definition_ends (n.Definition its.LabelNok) x K = EndsLater IsRest IsRest x K
+definition_ends _ x K = Ends IsRest IsRest x K
+
 abbrev pub definition_ready : StateName → Position → After → Type 0
-definition_ready (n.Definition its.Start) x K = later_ready x K
-definition_ready (n.Definition its.Before) x K = later_ready x K
-definition_ready (n.Definition its.LabelNok) x K = later_ready x K
-definition_ready _ x K = rest_ready x K
+definition_ready name x K = IsRest x.scratch × definition_ends name x K
 
 -- A title is tried whole, with the gap in front of it, so its states are below the others.
 abbrev pub definition_level : StateName → ℕ

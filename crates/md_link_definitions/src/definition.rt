@@ -9,6 +9,8 @@
 // them; its indent stands in front of it. That it may not interrupt a paragraph, the caller knows.
 
 ghost use Rattle.std.specs.Prelude.{◌≡◌, ◌≢◌};
+ghost use Rattle.md_link_definitions.specs.DefinitionRule.{DefinitionMeans};
+ghost use Rattle.md_engine.specs.Full.{IsFull, OnError};
 ghost use Rattle.md_engine.specs.World.{world};
 ghost use Rattle.md_engine.specs.declared.state.Name.{Name as StateName};
 ghost use Rattle.md_engine.specs.declared.state.State.{State};
@@ -45,6 +47,7 @@ fn try_part(tokenizer: &mut Tokenizer, first: StateName, ok: State, nok: State) 
     ensures to { result ≢ State.Error → result ≡ (tries_part (world tokenizer.old) first ok nok).to }
     ensures world { result ≢ State.Error →
         world tokenizer.new ≡ (tries_part (world tokenizer.old) first ok nok).world }
+    ensures full { OnError result (IsFull tokenizer.new) }
 {
     or_error!(tokenizer.attempt(ok, nok));
     State::Retry(first)
@@ -57,6 +60,7 @@ fn behind_white(tokenizer: &mut Tokenizer, next: DefinitionState) -> State
     ensures world { result ≢ State.Error →
         world tokenizer.new ≡
         (behind_white (world tokenizer.old) next (sees_white (world tokenizer.old).current)).world }
+    ensures full { OnError result (IsFull tokenizer.new) }
 {
     if is_space_or_tab(tokenizer.current) {
         space_or_tab(
@@ -75,10 +79,14 @@ fn behind_white(tokenizer: &mut Tokenizer, next: DefinitionState) -> State
 /// > |   [a]: b "c"
 ///     ^
 /// ```
+#[tactic(auto, using(crate::proofs::DefinitionMeaning::definition_rule))]
 pub fn start(tokenizer: &mut Tokenizer) -> State
     requires { IsAt NeedsNothing (StateName.Definition DefinitionState.Start) (world tokenizer.old) }
     ensures to { result ≢ State.Error → result ≡ (start_transition (world tokenizer.old)).to }
     ensures world { result ≢ State.Error → world tokenizer.new ≡ (start_transition (world tokenizer.old)).world }
+    ensures rule { result ≢ State.Error →
+        DefinitionMeans DefinitionState.Start (world tokenizer.old) result (world tokenizer.new) }
+    ensures full { OnError result (IsFull tokenizer.new) }
 {
     if tokenizer.options.constructs.definition {
         behind_white(tokenizer, DefinitionState::Before)
@@ -93,10 +101,14 @@ pub fn start(tokenizer: &mut Tokenizer) -> State
 /// > |   [a]: b "c"
 ///       ^
 /// ```
+#[tactic(auto, using(crate::proofs::DefinitionMeaning::definition_rule))]
 pub fn before(tokenizer: &mut Tokenizer) -> State
     requires { IsAt NeedsNothing (StateName.Definition DefinitionState.Before) (world tokenizer.old) }
     ensures to { result ≢ State.Error → result ≡ (before_transition (world tokenizer.old)).to }
     ensures world { result ≢ State.Error → world tokenizer.new ≡ (before_transition (world tokenizer.old)).world }
+    ensures rule { result ≢ State.Error →
+        DefinitionMeans DefinitionState.Before (world tokenizer.old) result (world tokenizer.new) }
+    ensures full { OnError result (IsFull tokenizer.new) }
 {
     if tokenizer.current != Some(b'[') {
         return State::Nok;
@@ -116,10 +128,14 @@ pub fn before(tokenizer: &mut Tokenizer) -> State
 /// > | [a]: b "c"
 ///        ^
 /// ```
+#[tactic(auto, using(crate::proofs::DefinitionMeaning::definition_rule))]
 pub fn label_after(tokenizer: &mut Tokenizer) -> State
     requires { IsAt NeedsNothing (StateName.Definition DefinitionState.LabelAfter) (world tokenizer.old) }
     ensures to { result ≢ State.Error → result ≡ (label_after_transition (world tokenizer.old)).to }
     ensures world { result ≢ State.Error → world tokenizer.new ≡ (label_after_transition (world tokenizer.old)).world }
+    ensures rule { result ≢ State.Error →
+        DefinitionMeans DefinitionState.LabelAfter (world tokenizer.old) result (world tokenizer.new) }
+    ensures full { OnError result (IsFull tokenizer.new) }
 {
     if tokenizer.current != Some(b':') {
         return State::Nok;
@@ -136,11 +152,15 @@ pub fn label_after(tokenizer: &mut Tokenizer) -> State
 /// > | [a]: b "c"
 ///         ^
 /// ```
+#[tactic(auto, using(crate::proofs::DefinitionMeaning::definition_rule))]
 pub fn marker_after(tokenizer: &mut Tokenizer) -> State
     requires { IsAt NeedsNothing (StateName.Definition DefinitionState.MarkerAfter) (world tokenizer.old) }
     ensures to { result ≢ State.Error → result ≡ (marker_after_transition (world tokenizer.old)).to }
     ensures world { result ≢ State.Error →
         world tokenizer.new ≡ (marker_after_transition (world tokenizer.old)).world }
+    ensures rule { result ≢ State.Error →
+        DefinitionMeans DefinitionState.MarkerAfter (world tokenizer.old) result (world tokenizer.new) }
+    ensures full { OnError result (IsFull tokenizer.new) }
 {
     try_part(
         tokenizer,
@@ -156,11 +176,15 @@ pub fn marker_after(tokenizer: &mut Tokenizer) -> State
 /// > | [a]: b "c"
 ///          ^
 /// ```
+#[tactic(auto, using(crate::proofs::DefinitionMeaning::definition_rule))]
 pub fn destination_before(tokenizer: &mut Tokenizer) -> State
     requires { IsAt NeedsNothing (StateName.Definition DefinitionState.DestinationBefore) (world tokenizer.old) }
     ensures to { result ≢ State.Error → result ≡ (destination_before_transition (world tokenizer.old)).to }
     ensures world { result ≢ State.Error →
         world tokenizer.new ≡ (destination_before_transition (world tokenizer.old)).world }
+    ensures rule { result ≢ State.Error →
+        DefinitionMeans DefinitionState.DestinationBefore (world tokenizer.old) result (world tokenizer.new) }
+    ensures full { OnError result (IsFull tokenizer.new) }
 {
     try_part(
         tokenizer,
@@ -176,11 +200,15 @@ pub fn destination_before(tokenizer: &mut Tokenizer) -> State
 /// > | [a]: b "c"
 ///           ^
 /// ```
+#[tactic(auto, using(crate::proofs::DefinitionMeaning::definition_rule))]
 pub fn destination_after(tokenizer: &mut Tokenizer) -> State
     requires { IsAt NeedsNothing (StateName.Definition DefinitionState.DestinationAfter) (world tokenizer.old) }
     ensures to { result ≢ State.Error → result ≡ (destination_after_transition (world tokenizer.old)).to }
     ensures world { result ≢ State.Error →
         world tokenizer.new ≡ (destination_after_transition (world tokenizer.old)).world }
+    ensures rule { result ≢ State.Error →
+        DefinitionMeans DefinitionState.DestinationAfter (world tokenizer.old) result (world tokenizer.new) }
+    ensures full { OnError result (IsFull tokenizer.new) }
 {
     try_part(
         tokenizer,
@@ -196,11 +224,15 @@ pub fn destination_after(tokenizer: &mut Tokenizer) -> State
 /// > | [a]: b "c"
 ///           ^
 /// ```
+#[tactic(auto, using(crate::proofs::DefinitionMeaning::definition_rule))]
 pub fn title_before(tokenizer: &mut Tokenizer) -> State
     requires { IsAt NeedsNothing (StateName.Definition DefinitionState.TitleBefore) (world tokenizer.old) }
     ensures to { result ≢ State.Error → result ≡ (title_before_transition (world tokenizer.old)).to }
     ensures world { result ≢ State.Error →
         world tokenizer.new ≡ (title_before_transition (world tokenizer.old)).world }
+    ensures rule { result ≢ State.Error →
+        DefinitionMeans DefinitionState.TitleBefore (world tokenizer.old) result (world tokenizer.new) }
+    ensures full { OnError result (IsFull tokenizer.new) }
 {
     if is_space_or_tab(tokenizer.current) || tokenizer.current == Some(b'\n') {
         try_part(
@@ -220,11 +252,15 @@ pub fn title_before(tokenizer: &mut Tokenizer) -> State
 /// > | [a]: b "c"
 ///            ^
 /// ```
+#[tactic(auto, using(crate::proofs::DefinitionMeaning::definition_rule))]
 pub fn title_before_marker(tokenizer: &mut Tokenizer) -> State
     requires { IsAt NeedsNothing (StateName.Definition DefinitionState.TitleBeforeMarker) (world tokenizer.old) }
     ensures to { result ≢ State.Error → result ≡ (title_before_marker_transition (world tokenizer.old)).to }
     ensures world { result ≢ State.Error →
         world tokenizer.new ≡ (title_before_marker_transition (world tokenizer.old)).world }
+    ensures rule { result ≢ State.Error →
+        DefinitionMeans DefinitionState.TitleBeforeMarker (world tokenizer.old) result (world tokenizer.new) }
+    ensures full { OnError result (IsFull tokenizer.new) }
 {
     try_part(
         tokenizer,
@@ -240,10 +276,14 @@ pub fn title_before_marker(tokenizer: &mut Tokenizer) -> State
 /// > | [a]: b "c"
 ///               ^
 /// ```
+#[tactic(auto, using(crate::proofs::DefinitionMeaning::definition_rule))]
 pub fn title_after(tokenizer: &mut Tokenizer) -> State
     requires { IsAt NeedsNothing (StateName.Definition DefinitionState.TitleAfter) (world tokenizer.old) }
     ensures to { result ≢ State.Error → result ≡ (title_after_transition (world tokenizer.old)).to }
     ensures world { result ≢ State.Error → world tokenizer.new ≡ (title_after_transition (world tokenizer.old)).world }
+    ensures rule { result ≢ State.Error →
+        DefinitionMeans DefinitionState.TitleAfter (world tokenizer.old) result (world tokenizer.new) }
+    ensures full { OnError result (IsFull tokenizer.new) }
 {
     behind_white(tokenizer, DefinitionState::TitleAfterOptionalWhitespace)
 }
@@ -254,11 +294,13 @@ pub fn title_after(tokenizer: &mut Tokenizer) -> State
 /// > | [a]: b "c"
 ///               ^
 /// ```
+#[tactic(auto, using(crate::proofs::DefinitionMeaning::definition_rule))]
 pub fn title_end(tokenizer: &mut Tokenizer) -> State
     requires { IsAt NeedsNothing
         (StateName.Definition DefinitionState.TitleAfterOptionalWhitespace) (world tokenizer.old) }
     ensures to { result ≡ (title_end_transition (world tokenizer.old)).to }
     ensures world { world tokenizer.new ≡ (title_end_transition (world tokenizer.old)).world }
+    ensures rule { DefinitionMeans DefinitionState.TitleAfterOptionalWhitespace (world tokenizer.old) result (world tokenizer.new) }
 {
     if ends_line(tokenizer.current) {
         State::Ok
@@ -275,10 +317,14 @@ pub fn title_end(tokenizer: &mut Tokenizer) -> State
 /// > | [a]: b "c"
 ///               ^
 /// ```
+#[tactic(auto, using(crate::proofs::DefinitionMeaning::definition_rule))]
 pub fn after(tokenizer: &mut Tokenizer) -> State
     requires { IsAt NeedsNothing (StateName.Definition DefinitionState.After) (world tokenizer.old) }
     ensures to { result ≢ State.Error → result ≡ (after_transition (world tokenizer.old)).to }
     ensures world { result ≢ State.Error → world tokenizer.new ≡ (after_transition (world tokenizer.old)).world }
+    ensures rule { result ≢ State.Error →
+        DefinitionMeans DefinitionState.After (world tokenizer.old) result (world tokenizer.new) }
+    ensures full { OnError result (IsFull tokenizer.new) }
 {
     behind_white(tokenizer, DefinitionState::AfterWhitespace)
 }
@@ -291,11 +337,15 @@ pub fn after(tokenizer: &mut Tokenizer) -> State
 /// > | [a]: b "c"
 ///               ^
 /// ```
+#[tactic(auto, using(crate::proofs::DefinitionMeaning::definition_rule))]
 pub fn after_whitespace(tokenizer: &mut Tokenizer) -> State
     requires { IsAt NeedsNothing (StateName.Definition DefinitionState.AfterWhitespace) (world tokenizer.old) }
     ensures to { result ≢ State.Error → result ≡ (after_whitespace_transition (world tokenizer.old)).to }
     ensures world { result ≢ State.Error →
         world tokenizer.new ≡ (after_whitespace_transition (world tokenizer.old)).world }
+    ensures rule { result ≢ State.Error →
+        DefinitionMeans DefinitionState.AfterWhitespace (world tokenizer.old) result (world tokenizer.new) }
+    ensures full { OnError result (IsFull tokenizer.new) }
 {
     if !ends_line(tokenizer.current) {
         return State::Nok;
@@ -305,11 +355,14 @@ pub fn after_whitespace(tokenizer: &mut Tokenizer) -> State
 }
 
 /// Calls a state of a definition.
+#[tactic(auto, using(crate::proofs::DefinitionMeaning::definition_rule))]
 pub fn call(tokenizer: &mut Tokenizer, state: DefinitionState) -> State
     requires { IsAt NeedsNothing (StateName.Definition state) (world tokenizer.old) }
     ensures to { result ≢ State.Error → result ≡ (definition_transition state (world tokenizer.old)).to }
     ensures world { result ≢ State.Error →
         world tokenizer.new ≡ (definition_transition state (world tokenizer.old)).world }
+    ensures rule { result ≢ State.Error → DefinitionMeans state (world tokenizer.old) result (world tokenizer.new) }
+    ensures full { OnError result (IsFull tokenizer.new) }
 {
     match state {
         DefinitionState::Start => start(tokenizer),
