@@ -17,10 +17,11 @@ ghost use Rattle.md_engine.specs.declared.state.State.{State};
 ghost use Rattle.md_engine.specs.declared.state.definition.State.{State as DefinitionState};
 ghost use Rattle.md_link_definitions.specs.Definition.{after_transition, after_whitespace_transition, before_transition};
 ghost use Rattle.md_link_definitions.specs.Definition.{behind_white, definition_transition, destination_after_transition};
-ghost use Rattle.md_link_definitions.specs.Definition.{destination_before_transition, label_after_transition};
+ghost use Rattle.md_link_definitions.specs.Definition.{destination_before_transition, destination_missing_transition};
+ghost use Rattle.md_link_definitions.specs.Definition.{label_after_transition, label_nok_transition};
 ghost use Rattle.md_link_definitions.specs.Definition.{marker_after_transition, start_transition, title_after_transition};
 ghost use Rattle.md_link_definitions.specs.Definition.{title_before_marker_transition, title_before_transition};
-ghost use Rattle.md_link_definitions.specs.Definition.{title_end_transition, tries_part};
+ghost use Rattle.md_link_definitions.specs.Definition.{title_after_optional_whitespace_transition, tries_part};
 ghost use Rattle.md_seam.specs.Spaces.{ends_line, sees_white};
 ghost use Rattle.md_seam.specs.Transition.{IsAt, NeedsNothing};
 
@@ -146,6 +147,22 @@ pub fn label_after(tokenizer: &mut Tokenizer) -> State
     State::Next(StateName::Definition(DefinitionState::MarkerAfter))
 }
 
+/// Where no label is: this is no definition.
+///
+/// ```markdown
+/// > | []: b
+///     ^
+/// ```
+#[tactic(auto, using(crate::proofs::DefinitionMeaning::definition_rule))]
+pub fn label_nok(tokenizer: &mut Tokenizer) -> State
+    requires { IsAt NeedsNothing (StateName.Definition DefinitionState.LabelNok) (world tokenizer.old) }
+    ensures to { result ≡ (label_nok_transition (world tokenizer.old)).to }
+    ensures world { world tokenizer.new ≡ (label_nok_transition (world tokenizer.old)).world }
+    ensures rule { DefinitionMeans DefinitionState.LabelNok (world tokenizer.old) result (world tokenizer.new) }
+{
+    State::Nok
+}
+
 /// Behind the colon.
 ///
 /// ```markdown
@@ -216,6 +233,22 @@ pub fn destination_after(tokenizer: &mut Tokenizer) -> State
         State::Next(StateName::Definition(DefinitionState::After)),
         State::Next(StateName::Definition(DefinitionState::After)),
     )
+}
+
+/// Where no destination is: this is no definition.
+///
+/// ```markdown
+/// > | [a]:
+///         ^
+/// ```
+#[tactic(auto, using(crate::proofs::DefinitionMeaning::definition_rule))]
+pub fn destination_missing(tokenizer: &mut Tokenizer) -> State
+    requires { IsAt NeedsNothing (StateName.Definition DefinitionState.DestinationMissing) (world tokenizer.old) }
+    ensures to { result ≡ (destination_missing_transition (world tokenizer.old)).to }
+    ensures world { world tokenizer.new ≡ (destination_missing_transition (world tokenizer.old)).world }
+    ensures rule { DefinitionMeans DefinitionState.DestinationMissing (world tokenizer.old) result (world tokenizer.new) }
+{
+    State::Nok
 }
 
 /// Before the gap in front of a title.
@@ -295,11 +328,11 @@ pub fn title_after(tokenizer: &mut Tokenizer) -> State
 ///               ^
 /// ```
 #[tactic(auto, using(crate::proofs::DefinitionMeaning::definition_rule))]
-pub fn title_end(tokenizer: &mut Tokenizer) -> State
+pub fn title_after_optional_whitespace(tokenizer: &mut Tokenizer) -> State
     requires { IsAt NeedsNothing
         (StateName.Definition DefinitionState.TitleAfterOptionalWhitespace) (world tokenizer.old) }
-    ensures to { result ≡ (title_end_transition (world tokenizer.old)).to }
-    ensures world { world tokenizer.new ≡ (title_end_transition (world tokenizer.old)).world }
+    ensures to { result ≡ (title_after_optional_whitespace_transition (world tokenizer.old)).to }
+    ensures world { world tokenizer.new ≡ (title_after_optional_whitespace_transition (world tokenizer.old)).world }
     ensures rule { DefinitionMeans DefinitionState.TitleAfterOptionalWhitespace (world tokenizer.old) result (world tokenizer.new) }
 {
     if ends_line(tokenizer.current) {
@@ -368,14 +401,15 @@ pub fn call(tokenizer: &mut Tokenizer, state: DefinitionState) -> State
         DefinitionState::Start => start(tokenizer),
         DefinitionState::Before => before(tokenizer),
         DefinitionState::LabelAfter => label_after(tokenizer),
-        DefinitionState::LabelNok | DefinitionState::DestinationMissing => State::Nok,
+        DefinitionState::LabelNok => label_nok(tokenizer),
         DefinitionState::MarkerAfter => marker_after(tokenizer),
         DefinitionState::DestinationBefore => destination_before(tokenizer),
         DefinitionState::DestinationAfter => destination_after(tokenizer),
+        DefinitionState::DestinationMissing => destination_missing(tokenizer),
         DefinitionState::TitleBefore => title_before(tokenizer),
         DefinitionState::TitleBeforeMarker => title_before_marker(tokenizer),
         DefinitionState::TitleAfter => title_after(tokenizer),
-        DefinitionState::TitleAfterOptionalWhitespace => title_end(tokenizer),
+        DefinitionState::TitleAfterOptionalWhitespace => title_after_optional_whitespace(tokenizer),
         DefinitionState::After => after(tokenizer),
         DefinitionState::AfterWhitespace => after_whitespace(tokenizer),
     }
