@@ -23,11 +23,11 @@ use Rattle.md_engine.specs.Meaning.{resume}
 use Rattle.md_engine.specs.Scheme.{After, position}
 use Rattle.md_engine.specs.World.{Flags, World, after}
 use Rattle.md_engine.specs.Sees.{Sees, ahead, cell_here}
-use Rattle.md_engine.proofs.StepOf.{begins, begins_only, moves, passes}
+use Rattle.md_engine.proofs.StepOf.{begins, begins_only, moves, passes, steps-as}
 use Rattle.md_link_definitions.specs.Definition.{before_code, behind_white, definition_ready, definition_transition, end_code}
 use Rattle.md_link_definitions.specs.Definition.{label_after_code, refused, sees_gap, start_code, title_before_code}
 use Rattle.md_link_definitions.specs.Definition.{title_end_code, tries_part}
-use Rattle.md_link_definitions.specs.DefinitionRule.{HasDefinition, at_end, at_title, at_title_end, before_destination}
+use Rattle.md_link_definitions.specs.DefinitionRule.{DefinitionMeans, HasDefinition, at_end, at_title, at_title_end, before_destination}
 use Rattle.md_link_definitions.specs.DefinitionRule.{before_label, before_title, behind_destination, behind_label, behind_marker}
 use Rattle.md_link_definitions.specs.DefinitionRule.{behind_parts, behind_title, definition_at, definition_behaves, tried}
 use Rattle.md_link_definitions.specs.DestinationRule.{destination_at}
@@ -316,15 +316,15 @@ end_means B feed options w false has s e =
     (all-goes (feed w.point) (here w) (ap ends_line (first-seen feed w s) ∙ e))
 
 -- All of them: each state takes one step of what it means.
-pub definition_means : (B : Behaviour) (feed : Feed) (state : DefinitionState) (w : World) (K : After) →
-    HasDefinition B w.setting.options → Sees feed w → definition_ready (n.Definition state) (position w) K →
+definition_steps : (B : Behaviour) (feed : Feed) (state : DefinitionState) (w : World) → HasDefinition B w.setting.options →
+    Sees feed w → IsRest w.scratch →
     Steps B feed (Next (n.Definition state)) w (definition_transition state w).to (definition_transition state w).world
-definition_means B feed its.Start w K has s at = start_means B feed w.setting.options w _ _ has s at.0 refl refl
-definition_means B feed its.Before w K has s at = before_means B feed w.setting.options w _ has s refl
-definition_means B feed its.LabelAfter w K has s at =
+definition_steps B feed its.Start w has s at = start_means B feed w.setting.options w _ _ has s at refl refl
+definition_steps B feed its.Before w has s at = before_means B feed w.setting.options w _ has s refl
+definition_steps B feed its.LabelAfter w has s at =
     label_after_means B feed w.setting.options w w.current _ has s.next refl
-definition_means B feed its.LabelNok w K has s at = refused_means B feed w.setting.options its.LabelNok w has refl
-definition_means B feed its.MarkerAfter w K has s at =
+definition_steps B feed its.LabelNok w has s at = refused_means B feed w.setting.options its.LabelNok w has refl
+definition_steps B feed its.MarkerAfter w has s at =
     part_means B feed w.setting.options its.MarkerAfter (n.SpaceOrTabEol gap.Start)
     (Next (n.Definition its.DestinationBefore)) (Next (n.Definition its.DestinationBefore)) w before_destination
     (λ t g. before_destination (feed w.point) (record (here w) { scratch = t; flags = g })) has
@@ -335,14 +335,14 @@ definition_means B feed its.MarkerAfter w K has s at =
     (λ t g. before_destination (feed w.point) (record (here w) { scratch = t; flags = g })))
     (sym (has.gap.each gap.Start _ _)))
     (λ cells h. has.each its.DestinationBefore cells h) (λ t g. has.each its.DestinationBefore _ _)
-definition_means B feed its.DestinationBefore w K has s at =
+definition_steps B feed its.DestinationBefore w has s at =
     part_means B feed w.setting.options its.DestinationBefore (n.Destination destination.Start)
     (Next (n.Definition its.DestinationAfter)) (Next (n.Definition its.DestinationMissing)) w behind_destination Refuses
     has
     (destination-tried (feed w.point) (here w)
     ∙ ap (λ (o : Outcome). tried o behind_destination Refuses) (sym (has.destination.each destination.Start _ _)))
     (λ cells h. has.each its.DestinationAfter cells h) (λ t g. has.each its.DestinationMissing _ _)
-definition_means B feed its.DestinationAfter w K has s at =
+definition_steps B feed its.DestinationAfter w has s at =
     part_means B feed w.setting.options its.DestinationAfter (n.Definition its.TitleBefore)
     (Next (n.Definition its.After)) (Next (n.Definition its.After)) w behind_parts
     (λ t g. behind_parts (feed w.point) (record (here w) { scratch = t; flags = g })) has
@@ -352,20 +352,33 @@ definition_means B feed its.DestinationAfter w K has s at =
     tried o behind_parts (λ t g. behind_parts (feed w.point) (record (here w) { scratch = t; flags = g })))
     (sym (has.each its.TitleBefore _ _)))
     (λ cells h. has.each its.After cells h) (λ t g. has.each its.After _ _)
-definition_means B feed its.DestinationMissing w K has s at =
+definition_steps B feed its.DestinationMissing w has s at =
     refused_means B feed w.setting.options its.DestinationMissing w has refl
-definition_means B feed its.After w K has s at =
-    white_means B feed w.setting.options its.After its.AfterWhitespace w _ has s at.0 refl parts-white
-definition_means B feed its.AfterWhitespace w K has s at = end_means B feed w.setting.options w _ has s refl
-definition_means B feed its.TitleBefore w K has s at =
-    title_before_means B feed w.setting.options w _ has s at.0 refl
-definition_means B feed its.TitleBeforeMarker w K has s at =
+definition_steps B feed its.After w has s at =
+    white_means B feed w.setting.options its.After its.AfterWhitespace w _ has s at refl parts-white
+definition_steps B feed its.AfterWhitespace w has s at = end_means B feed w.setting.options w _ has s refl
+definition_steps B feed its.TitleBefore w has s at =
+    title_before_means B feed w.setting.options w _ has s at refl
+definition_steps B feed its.TitleBeforeMarker w has s at =
     part_means B feed w.setting.options its.TitleBeforeMarker (n.Title title.Start) (Next (n.Definition its.TitleAfter))
     Nok w behind_title Refuses has
     (title-tried (feed w.point) (here w)
     ∙ ap (λ (o : Outcome). tried o behind_title Refuses) (sym (has.title.each title.Start _ _)))
     (λ cells h. has.each its.TitleAfter cells h) (λ t g. refl)
-definition_means B feed its.TitleAfter w K has s at =
-    white_means B feed w.setting.options its.TitleAfter its.TitleAfterOptionalWhitespace w _ has s at.0 refl title-white
-definition_means B feed its.TitleAfterOptionalWhitespace w K has s at =
+definition_steps B feed its.TitleAfter w has s at =
+    white_means B feed w.setting.options its.TitleAfter its.TitleAfterOptionalWhitespace w _ has s at refl title-white
+definition_steps B feed its.TitleAfterOptionalWhitespace w has s at =
     title_end_means B feed w.setting.options w _ has s refl
+
+-- and so where its attempts end as they have to
+pub definition_means : (B : Behaviour) (feed : Feed) (state : DefinitionState) (w : World) (K : After) →
+    HasDefinition B w.setting.options → Sees feed w → definition_ready (n.Definition state) (position w) K →
+    Steps B feed (Next (n.Definition state)) w (definition_transition state w).to (definition_transition state w).world
+definition_means B feed state w K has s at = definition_steps B feed state w has s at.0
+
+-- what answers as the transition of a state does means what the state means
+pub definition_rule : (state : DefinitionState) (w new : World) (to : State) → to ≡ (definition_transition state w).to →
+    new ≡ (definition_transition state w).world → DefinitionMeans state w to new
+unfolding DefinitionMeans
+definition_rule state w new to e k at B feed has s =
+    steps-as B feed _ _ to w _ new e k (definition_steps B feed state w has s at)

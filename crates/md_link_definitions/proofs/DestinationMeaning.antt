@@ -7,19 +7,20 @@ use Rattle.md_engine.specs.declared.event.Event.{Event}
 use Rattle.md_engine.specs.declared.state.Name.TheVariants as n
 use Rattle.md_engine.specs.declared.state.destination.State.{State as DestinationState}
 use Rattle.md_engine.specs.declared.state.destination.State.TheVariants as its
+use Rattle.md_engine.specs.declared.state.State.{State}
 use Rattle.md_engine.specs.declared.state.State.TheVariants.{Nok, Next, Retry}
 use Rattle.md_engine.specs.declared.tokenizer.Scratch.{Scratch}
 use Rattle.md_engine.specs.Meaning.{Accepts, Behaviour, Cell, Feed, Here, Refuses, Steps, here}
 use Rattle.md_engine.specs.Scheme.{After, position}
 use Rattle.md_engine.specs.World.{World, after}
 use Rattle.md_engine.specs.Sees.{Sees, ahead, cell_here}
-use Rattle.md_engine.proofs.StepOf.{moves, passes}
-use Rattle.md_link_definitions.specs.Destination.{Begin, Closes, Escapes, Literal, Neither, Opens, Other, Piece, Raw, Stops}
+use Rattle.md_engine.proofs.StepOf.{moves, passes, steps-as}
+use Rattle.md_link_definitions.specs.Destination.{DestinationInvariant, Begin, Closes, Escapes, Literal, Neither, Opens, Other, Piece, Raw, Stops}
 use Rattle.md_link_definitions.specs.Destination.{begins}
 use Rattle.md_link_definitions.specs.Destination.{destination_ready, destination_transition, enclosed_before_code, enclosed_code}
 use Rattle.md_link_definitions.specs.Destination.{enclosed_piece, escape_code, is_escaped, raw_code, raw_piece, start_code}
 use Rattle.md_link_definitions.specs.Destination.{text_entered, text_exited, with_size, without_size}
-use Rattle.md_link_definitions.specs.DestinationRule.{HasDestination, before_literal, destination_at, destination_behaves}
+use Rattle.md_link_definitions.specs.DestinationRule.{DestinationMeans, HasDestination, before_literal, destination_at, destination_behaves}
 use Rattle.md_link_definitions.specs.DestinationRule.{in_literal, in_raw}
 use Rattle.md_link_definitions.specs.DestinationRule.{literal_begin, literal_end, raw_begin, raw_end, text_begin, text_end}
 use Rattle.md_link_definitions.proofs.DestinationLemmas.{before-closes, before-text, begin-is, begins-literal, begins-neither}
@@ -277,13 +278,26 @@ raw_escape_means B feed w false has s e =
     turns-steps B feed w its.RawEscape its.Raw w.current has s.next (raw-bare feed w (here w) w.current e)
 
 -- All of them: each state of a destination takes one step of what it means.
+destination_steps : (B : Behaviour) (feed : Feed) (state : DestinationState) (w : World) → HasDestination B →
+    Sees feed w → DestinationInvariant (n.Destination state) (position w) →
+    Steps B feed (Next (n.Destination state)) w (destination_transition state w).to (destination_transition state w).world
+destination_steps B feed its.Start w has s at = start_means B feed w _ has s refl
+destination_steps B feed its.EnclosedBefore w has s at = enclosed_before_means B feed w _ has s refl
+destination_steps B feed its.Enclosed w has s at = enclosed_means B feed w _ has s refl
+destination_steps B feed its.EnclosedEscape w has s at = enclosed_escape_means B feed w _ has s refl
+destination_steps B feed its.Raw w has s at = raw_means B feed w _ _ has s at.rest refl refl
+destination_steps B feed its.RawEscape w has s at = raw_escape_means B feed w _ has s refl
+
+-- and so where its attempts end as they have to
 pub destination_means : (B : Behaviour) (feed : Feed) (state : DestinationState) (w : World) (K : After) →
     HasDestination B → Sees feed w → destination_ready (n.Destination state) (position w) K →
     Steps B feed (Next (n.Destination state)) w (destination_transition state w).to
     (destination_transition state w).world
-destination_means B feed its.Start w K has s at = start_means B feed w _ has s refl
-destination_means B feed its.EnclosedBefore w K has s at = enclosed_before_means B feed w _ has s refl
-destination_means B feed its.Enclosed w K has s at = enclosed_means B feed w _ has s refl
-destination_means B feed its.EnclosedEscape w K has s at = enclosed_escape_means B feed w _ has s refl
-destination_means B feed its.Raw w K has s at = raw_means B feed w _ _ has s at.0.rest refl refl
-destination_means B feed its.RawEscape w K has s at = raw_escape_means B feed w _ has s refl
+destination_means B feed state w K has s at = destination_steps B feed state w has s at.0
+
+-- what answers as the transition of a state does means what the state means
+pub destination_rule : (state : DestinationState) (w new : World) (to : State) → to ≡ (destination_transition state w).to →
+    new ≡ (destination_transition state w).world → DestinationMeans state w to new
+unfolding DestinationMeans
+destination_rule state w new to e k at B feed has s =
+    steps-as B feed _ _ to w _ new e k (destination_steps B feed state w has s at)

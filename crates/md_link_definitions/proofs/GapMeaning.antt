@@ -7,6 +7,7 @@ use Rattle.md_engine.specs.declared.event.Name.TheVariants.{LineEnding}
 use Rattle.md_engine.specs.declared.state.Name.TheVariants as n
 use Rattle.md_engine.specs.declared.state.space_or_tab_eol.State.{State as GapState}
 use Rattle.md_engine.specs.declared.state.space_or_tab_eol.State.TheVariants as its
+use Rattle.md_engine.specs.declared.state.State.{State}
 use Rattle.md_engine.specs.declared.state.State.TheVariants.{Nok, Next}
 use Rattle.md_engine.specs.declared.tokenizer.Frame.{Frame}
 use Rattle.md_engine.specs.declared.tokenizer.Scratch.{Scratch}
@@ -14,10 +15,10 @@ use Rattle.md_engine.specs.Meaning.{Accepts, Behaviour, Cell, Feed, Here, Outcom
 use Rattle.md_engine.specs.Scheme.{After, position}
 use Rattle.md_engine.specs.World.{World, after}
 use Rattle.md_engine.specs.Sees.{Sees, ahead, cell_here}
-use Rattle.md_engine.proofs.StepOf.{begins, begins_only, moves, passes}
-use Rattle.md_link_definitions.specs.Gap.{after_eol_code, after_first_transition, at_eol_code, gap_ready, gap_transition}
+use Rattle.md_engine.proofs.StepOf.{begins, begins_only, moves, passes, steps-as}
+use Rattle.md_link_definitions.specs.Gap.{GapInvariant, after_eol_code, after_first_transition, at_eol_code, gap_ready, gap_transition}
 use Rattle.md_link_definitions.specs.Gap.{start_code, without_seen}
-use Rattle.md_link_definitions.specs.GapRule.{HasGap, after_first, at_eol, at_line, gap_at, past_white}
+use Rattle.md_link_definitions.specs.GapRule.{GapMeans, HasGap, after_first, at_eol, at_line, gap_at, past_white}
 use Rattle.md_seam.specs.Ahead.{begins_white, white_rest}
 use Rattle.md_seam.specs.Events.Nested.{enter, exit}
 use Rattle.md_seam.specs.Spaces.{IsRest, any_size, is_current, sees_white}
@@ -170,11 +171,24 @@ after_eol_means B feed w false has s r e =
     ∙ sym (has.each its.AfterMore _ _))
 
 -- All of them: each state takes one step of what it means.
+gap_steps : (B : Behaviour) (feed : Feed) (state : GapState) (w : World) → HasGap B →
+    Sees feed w → GapInvariant (n.SpaceOrTabEol state) (position w) →
+    Steps B feed (Next (n.SpaceOrTabEol state)) w (gap_transition state w).to (gap_transition state w).world
+gap_steps B feed its.Start w has s at = start_means B feed w _ has s at refl
+gap_steps B feed its.AfterFirst w has s at = after_first_means B feed w has
+gap_steps B feed its.AtEol w has s at = at_eol_means B feed w _ _ has s refl refl
+gap_steps B feed its.AfterEol w has s at = after_eol_means B feed w _ has s at refl
+gap_steps B feed its.AfterMore w has s at = passes B feed _ _ w w refl refl (has.each its.AfterMore _ _)
+
+-- and so where its attempts end as they have to
 pub gap_means : (B : Behaviour) (feed : Feed) (state : GapState) (w : World) (K : After) → HasGap B → Sees feed w →
     gap_ready (n.SpaceOrTabEol state) (position w) K →
     Steps B feed (Next (n.SpaceOrTabEol state)) w (gap_transition state w).to (gap_transition state w).world
-gap_means B feed its.Start w K has s at = start_means B feed w _ has s at.0 refl
-gap_means B feed its.AfterFirst w K has s at = after_first_means B feed w has
-gap_means B feed its.AtEol w K has s at = at_eol_means B feed w _ _ has s refl refl
-gap_means B feed its.AfterEol w K has s at = after_eol_means B feed w _ has s at.0 refl
-gap_means B feed its.AfterMore w K has s at = passes B feed _ _ w w refl refl (has.each its.AfterMore _ _)
+gap_means B feed state w K has s at = gap_steps B feed state w has s at.0
+
+-- what answers as the transition of a state does means what the state means
+pub gap_rule : (state : GapState) (w new : World) (to : State) → to ≡ (gap_transition state w).to →
+    new ≡ (gap_transition state w).world → GapMeans state w to new
+unfolding GapMeans
+gap_rule state w new to e k at B feed has s =
+    steps-as B feed _ _ to w _ new e k (gap_steps B feed state w has s at)

@@ -9,18 +9,19 @@ use Rattle.md_engine.specs.declared.event.Name.TheVariants.{DefinitionLabelStrin
 use Rattle.md_engine.specs.declared.state.Name.TheVariants as n
 use Rattle.md_engine.specs.declared.state.label.State.{State as LabelState}
 use Rattle.md_engine.specs.declared.state.label.State.TheVariants as its
+use Rattle.md_engine.specs.declared.state.State.{State}
 use Rattle.md_engine.specs.declared.state.State.TheVariants.{Nok, Next, Retry}
 use Rattle.md_engine.specs.declared.tokenizer.Scratch.{Scratch}
 use Rattle.md_engine.specs.Meaning.{Accepts, Behaviour, Cell, Feed, Here, Refuses, Steps, here}
 use Rattle.md_engine.specs.Scheme.{After, position}
 use Rattle.md_engine.specs.World.{World, after}
 use Rattle.md_engine.specs.Sees.{Sees, ahead, cell_here}
-use Rattle.md_engine.proofs.StepOf.{moves, passes}
+use Rattle.md_engine.proofs.StepOf.{moves, passes, steps-as}
 use Rattle.md_link_definitions.specs.Chunks.{chunks, string_link}
-use Rattle.md_link_definitions.specs.Label.{at_break_code, close_code, counted, eol_after_code, escape_code, inside_code}
+use Rattle.md_link_definitions.specs.Label.{LabelInvariant, at_break_code, close_code, counted, eol_after_code, escape_code, inside_code}
 use Rattle.md_link_definitions.specs.Label.{is_bracket, is_escaped, is_full, label_ready, label_transition, most, refused}
 use Rattle.md_link_definitions.specs.Label.{start_code, taken_as, unlabelled}
-use Rattle.md_link_definitions.specs.LabelRule.{HasLabel, in_label, label_at, label_behaves, label_ended, label_opened}
+use Rattle.md_link_definitions.specs.LabelRule.{LabelMeans, HasLabel, in_label, label_at, label_behaves, label_ended, label_opened}
 use Rattle.md_link_definitions.proofs.LabelLemmas.{TakesNext, label-broken, label-empty, label-ending, label-ends, label-full}
 use Rattle.md_link_definitions.proofs.LabelLemmas.{label-unescaped, label-led, label-line, label-none, label-takes, label-unled}
 use Rattle.md_seam.specs.Events.Nested.{enter, enter_link, exit, pair}
@@ -316,12 +317,25 @@ escape_means B feed w (Some b) has s is = go (is_escaped b) refl
         ∙ ap (λ (x : List Cell). in_label false true false x (here w)) (sym cells) ∙ sym (has.each its.Inside _ _)))
 
 -- each state of a label takes one step of what it means
+label_steps : (B : Behaviour) (feed : Feed) (state : LabelState) (w : World) → HasLabel B →
+    Sees feed w → LabelInvariant (n.Label state) (position w) →
+    Steps B feed (Next (n.Label state)) w (label_transition state w).to (label_transition state w).world
+label_steps B feed its.Start w has s at = start_means B feed w _ has s at refl
+label_steps B feed its.AtBreak w has s at = at_break_means B feed w w.current has s at.size refl
+label_steps B feed its.EolAfter w has s at = eol_after_means B feed w _ has s refl
+label_steps B feed its.Inside w has s at = inside_means B feed w w.current has s at.size refl
+label_steps B feed its.Escape w has s at = escape_means B feed w w.current has s refl
+label_steps B feed its.Nok w has s at = passes B feed _ Nok w w refl refl (has.each its.Nok _ _)
+
+-- and so where its attempts end as they have to
 pub label_means : (B : Behaviour) (feed : Feed) (state : LabelState) (w : World) (K : After) → HasLabel B →
     Sees feed w → label_ready (n.Label state) (position w) K →
     Steps B feed (Next (n.Label state)) w (label_transition state w).to (label_transition state w).world
-label_means B feed its.Start w K has s at = start_means B feed w _ has s at.0 refl
-label_means B feed its.AtBreak w K has s at = at_break_means B feed w w.current has s at.0.size refl
-label_means B feed its.EolAfter w K has s at = eol_after_means B feed w _ has s refl
-label_means B feed its.Inside w K has s at = inside_means B feed w w.current has s at.0.size refl
-label_means B feed its.Escape w K has s at = escape_means B feed w w.current has s refl
-label_means B feed its.Nok w K has s at = passes B feed _ Nok w w refl refl (has.each its.Nok _ _)
+label_means B feed state w K has s at = label_steps B feed state w has s at.0
+
+-- what answers as the transition of a state does means what the state means
+pub label_rule : (state : LabelState) (w new : World) (to : State) → to ≡ (label_transition state w).to →
+    new ≡ (label_transition state w).world → LabelMeans state w to new
+unfolding LabelMeans
+label_rule state w new to e k at B feed has s =
+    steps-as B feed _ _ to w _ new e k (label_steps B feed state w has s at)

@@ -9,17 +9,18 @@ use Rattle.md_engine.specs.declared.event.Name.TheVariants.{DefinitionTitleStrin
 use Rattle.md_engine.specs.declared.state.Name.TheVariants as n
 use Rattle.md_engine.specs.declared.state.title.State.{State as TitleState}
 use Rattle.md_engine.specs.declared.state.title.State.TheVariants as its
+use Rattle.md_engine.specs.declared.state.State.{State}
 use Rattle.md_engine.specs.declared.state.State.TheVariants.{Nok, Next, Retry}
 use Rattle.md_engine.specs.Meaning.{Behaviour, Cell, Feed, Here, Refuses, Steps, here}
 use Rattle.md_engine.specs.Scheme.{After, position}
 use Rattle.md_engine.specs.World.{World, after}
 use Rattle.md_engine.specs.Sees.{Sees, ahead, cell_here}
-use Rattle.md_engine.proofs.StepOf.{moves, passes}
+use Rattle.md_engine.proofs.StepOf.{moves, passes, steps-as}
 use Rattle.md_link_definitions.specs.Chunks.{string_link}
-use Rattle.md_link_definitions.specs.Title.{IsMarked, after_eol_transition, at_break_code, begin_code, closed, escape_code}
+use Rattle.md_link_definitions.specs.Title.{TitleInvariant, IsMarked, after_eol_transition, at_break_code, begin_code, closed, escape_code}
 use Rattle.md_link_definitions.specs.Title.{inside_code, is_escaped, is_mark, opened, refused, start_code, title_ready}
 use Rattle.md_link_definitions.specs.Title.{title_transition, unmarked}
-use Rattle.md_link_definitions.specs.TitleRule.{HasTitle, behind_ending, behind_opener, in_text, text_left, title_at}
+use Rattle.md_link_definitions.specs.TitleRule.{TitleMeans, HasTitle, behind_ending, behind_opener, in_text, text_left, title_at}
 use Rattle.md_link_definitions.specs.TitleRule.{title_behaves, title_end, title_from}
 use Rattle.md_link_definitions.proofs.TitleLemmas.{begins-none, closed_here, escaped-no_ending, line-begins, opener-closes}
 use Rattle.md_link_definitions.proofs.TitleLemmas.{pair-ends, pair-none, text-begins, text-closes, text-ending, text-more}
@@ -243,13 +244,26 @@ escape_means B feed w (Some b) has m e = go (is_escaped w.scratch (Some b)) refl
     go false k = turns-only B feed its.Escape its.Inside w (Some b) has e (pair-none c cs (here w) k)
 
 -- all of them
+title_steps : (B : Behaviour) (feed : Feed) (state : TitleState) (w : World) → HasTitle B →
+    Sees feed w → TitleInvariant (n.Title state) (position w) →
+    Steps B feed (Next (n.Title state)) w (title_transition state w).to (title_transition state w).world
+title_steps B feed its.Start w has s at = start_means B feed w w.current has s.next
+title_steps B feed its.Begin w has s at = begin_means B feed w w.current has s.next
+title_steps B feed its.AfterEol w has s at = after_eol_means B feed w has s
+title_steps B feed its.AtBreak w has s at = at_break_means B feed w w.current has s.next
+title_steps B feed its.Inside w has s at = inside_means B feed w w.current has s.next
+title_steps B feed its.Escape w has s at = escape_means B feed w w.current has at s.next
+title_steps B feed its.Nok w has s at = passes B feed _ Nok w w refl refl (has.each its.Nok _ _)
+
+-- and so where its attempts end as they have to
 pub title_means : (B : Behaviour) (feed : Feed) (state : TitleState) (w : World) (K : After) → HasTitle B →
     Sees feed w → title_ready (n.Title state) (position w) K →
     Steps B feed (Next (n.Title state)) w (title_transition state w).to (title_transition state w).world
-title_means B feed its.Start w K has s at = start_means B feed w w.current has s.next
-title_means B feed its.Begin w K has s at = begin_means B feed w w.current has s.next
-title_means B feed its.AfterEol w K has s at = after_eol_means B feed w has s
-title_means B feed its.AtBreak w K has s at = at_break_means B feed w w.current has s.next
-title_means B feed its.Inside w K has s at = inside_means B feed w w.current has s.next
-title_means B feed its.Escape w K has s at = escape_means B feed w w.current has at.0 s.next
-title_means B feed its.Nok w K has s at = passes B feed _ Nok w w refl refl (has.each its.Nok _ _)
+title_means B feed state w K has s at = title_steps B feed state w has s at.0
+
+-- what answers as the transition of a state does means what the state means
+pub title_rule : (state : TitleState) (w new : World) (to : State) → to ≡ (title_transition state w).to →
+    new ≡ (title_transition state w).world → TitleMeans state w to new
+unfolding TitleMeans
+title_rule state w new to e k at B feed has s =
+    steps-as B feed _ _ to w _ new e k (title_steps B feed state w has s at)

@@ -12,9 +12,9 @@ use Rattle.md_engine.specs.declared.state.space_or_tab_eol.State.TheVariants as 
 use Rattle.md_engine.specs.declared.state.title.State.TheVariants as title
 use Rattle.md_engine.specs.declared.state.State.{State}
 use Rattle.md_engine.specs.declared.state.State.TheVariants.{Ok, Nok, Next, Retry}
-use Rattle.md_engine.specs.Scheme.{After, Rank, Scheme, Position, ranked}
+use Rattle.md_engine.specs.Scheme.{After, Ends, EndsLater, Rank, Scheme, Position, ranked}
 use Rattle.md_engine.specs.World.{World}
-use Rattle.md_seam.specs.Spaces.{any_size, ends_line, is_current, later_ready, rest_ready, sees_white, white_then}
+use Rattle.md_seam.specs.Spaces.{IsRest, any_size, ends_line, is_current, sees_white, white_then}
 use Rattle.md_seam.specs.Transition.{Transition, entered, exited, taken, tried}
 
 -- it goes on with another state of it here
@@ -86,6 +86,9 @@ before_transition w = before_code w (is_current left_bracket w.current)
 abbrev pub label_after_transition : World → Transition
 label_after_transition w = label_after_code w (is_current colon w.current)
 
+abbrev pub label_nok_transition : World → Transition
+label_nok_transition w = refused w
+
 abbrev pub marker_after_transition : World → Transition
 marker_after_transition w =
     tries_part w (n.SpaceOrTabEol gap.Start) (Next (n.Definition its.DestinationBefore))
@@ -100,6 +103,9 @@ abbrev pub destination_after_transition : World → Transition
 destination_after_transition w =
     tries_part w (n.Definition its.TitleBefore) (Next (n.Definition its.After)) (Next (n.Definition its.After))
 
+abbrev pub destination_missing_transition : World → Transition
+destination_missing_transition w = refused w
+
 abbrev pub title_before_transition : World → Transition
 title_before_transition w = title_before_code w (sees_gap w.current)
 
@@ -109,8 +115,8 @@ title_before_marker_transition w = tries_part w (n.Title title.Start) (Next (n.D
 abbrev pub title_after_transition : World → Transition
 title_after_transition w = behind_white w its.TitleAfterOptionalWhitespace (sees_white w.current)
 
-abbrev pub title_end_transition : World → Transition
-title_end_transition w = title_end_code w (ends_line w.current)
+abbrev pub title_after_optional_whitespace_transition : World → Transition
+title_after_optional_whitespace_transition w = title_end_code w (ends_line w.current)
 
 abbrev pub after_transition : World → Transition
 after_transition w = behind_white w its.AfterWhitespace (sees_white w.current)
@@ -123,24 +129,27 @@ abbrev pub definition_transition : DefinitionState → World → Transition
 definition_transition its.Start w = start_transition w
 definition_transition its.Before w = before_transition w
 definition_transition its.LabelAfter w = label_after_transition w
-definition_transition its.LabelNok w = refused w
+definition_transition its.LabelNok w = label_nok_transition w
 definition_transition its.MarkerAfter w = marker_after_transition w
 definition_transition its.DestinationBefore w = destination_before_transition w
 definition_transition its.DestinationAfter w = destination_after_transition w
-definition_transition its.DestinationMissing w = refused w
+definition_transition its.DestinationMissing w = destination_missing_transition w
 definition_transition its.After w = after_transition w
 definition_transition its.AfterWhitespace w = after_whitespace_transition w
 definition_transition its.TitleBefore w = title_before_transition w
 definition_transition its.TitleBeforeMarker w = title_before_marker_transition w
 definition_transition its.TitleAfter w = title_after_transition w
-definition_transition its.TitleAfterOptionalWhitespace w = title_end_transition w
+definition_transition its.TitleAfterOptionalWhitespace w = title_after_optional_whitespace_transition w
 
 -- It ends behind its `[`, and so behind the point where it begins.
+abbrev pub definition_ends : StateName → Position → After → Type 0
+definition_ends (n.Definition its.Start) x K = EndsLater IsRest IsRest x K
+definition_ends (n.Definition its.Before) x K = EndsLater IsRest IsRest x K
+definition_ends (n.Definition its.LabelNok) x K = EndsLater IsRest IsRest x K
+definition_ends _ x K = Ends IsRest IsRest x K
+
 abbrev pub definition_ready : StateName → Position → After → Type 0
-definition_ready (n.Definition its.Start) x K = later_ready x K
-definition_ready (n.Definition its.Before) x K = later_ready x K
-definition_ready (n.Definition its.LabelNok) x K = later_ready x K
-definition_ready _ x K = rest_ready x K
+definition_ready name x K = IsRest x.scratch × definition_ends name x K
 
 -- A title is tried whole, with the gap in front of it, so its states are below the others.
 abbrev pub definition_level : StateName → ℕ

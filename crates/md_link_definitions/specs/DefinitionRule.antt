@@ -9,9 +9,11 @@ use Rattle.md_engine.specs.declared.event.Name.TheVariants.{Definition, Definiti
 use Rattle.md_engine.specs.declared.state.Name.TheVariants as n
 use Rattle.md_engine.specs.declared.state.definition.State.{State as DefinitionState}
 use Rattle.md_engine.specs.declared.state.definition.State.TheVariants as its
+use Rattle.md_engine.specs.declared.state.State.{State}
 use Rattle.md_engine.specs.declared.tokenizer.Scratch.{Scratch}
 use Rattle.md_engine.specs.Meaning.{Accepts, Behaviour, Cell, Fails, Here, Outcome, Refuses}
-use Rattle.md_engine.specs.World.{Flags}
+use Rattle.md_engine.specs.Sees.{IsStep}
+use Rattle.md_engine.specs.World.{Flags, World}
 use Rattle.md_link_definitions.specs.DestinationRule.{HasDestination, begins_literal, destination_at, destination_last}
 use Rattle.md_link_definitions.specs.DestinationRule.{destination_left, destination_part}
 use Rattle.md_link_definitions.specs.GapRule.{HasGap, begins_gap, gap_at, gap_end, gap_part, gap_rest, past_white, white_part}
@@ -20,7 +22,7 @@ use Rattle.md_link_definitions.specs.TitleRule.{HasTitle, TitleParts, title_at, 
 use Rattle.md_seam.specs.Ahead.{line_bytes, white_end, white_rest}
 use Rattle.md_seam.specs.Events.Nested.{around, enter, exit, pair}
 use Rattle.md_seam.specs.Look.{first_seen}
-use Rattle.md_seam.specs.Spaces.{any_size, ends_line}
+use Rattle.md_seam.specs.Spaces.{IsRest, any_size, ends_line}
 
 -- goes on by what a trial came to: behind what it took, or here
 abbrev pub tried : Outcome → (List Cell → Here → Outcome) → (Scratch → Flags → Outcome) → Outcome
@@ -228,3 +230,9 @@ parts_labelled cells (Some label) = parts_behind cells label label.rest
 -- the definition that these cells begin with, if they begin with one
 unfoldable pub definition_parts : List Cell → Option DefinitionParts
 definition_parts cells = parts_labelled cells (label_parts (white_rest any_size cells))
+
+-- what a state of a definition means: at rest, its call is one step of the rule
+unfoldable pub DefinitionMeans : DefinitionState → World → State → World → Type 0
+DefinitionMeans state old to new =
+    IsRest old.scratch →
+    IsStep (λ B. HasDefinition B old.setting.options) (n.Definition state) to old new

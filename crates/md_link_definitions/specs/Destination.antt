@@ -16,7 +16,7 @@ use Rattle.md_engine.specs.declared.tokenizer.Scratch.{Scratch}
 use Rattle.md_engine.specs.Scheme.{After, Ends, Rank, Scheme, Position, cells_before, ranked, seen}
 use Rattle.md_engine.specs.World.{World}
 use Rattle.md_link_definitions.specs.Chunks.{string_link}
-use Rattle.md_seam.specs.Spaces.{IsRest, is_current, rest_ready}
+use Rattle.md_seam.specs.Spaces.{IsRest, is_current}
 use Rattle.md_seam.specs.Transition.{Transition, entered, entered_link, exited, taken}
 
 abbrev pub without_size : Scratch → Scratch
@@ -173,10 +173,13 @@ abbrev pub DestinationNeeds : StateName → World → Type 0
 DestinationNeeds (n.Destination its.Raw) w = w.scratch.size ≤ cells_before w.point
 DestinationNeeds _ w = Unit {0}
 
+abbrev pub DestinationInvariant : StateName → Position → Type 0
+DestinationInvariant (n.Destination its.Raw) x = IsNested x
+DestinationInvariant (n.Destination its.RawEscape) x = IsNested x
+DestinationInvariant _ x = IsRest x.scratch
+
 abbrev pub destination_ready : StateName → Position → After → Type 0
-destination_ready (n.Destination its.Raw) x K = IsNested x × Ends IsRest IsRest x K
-destination_ready (n.Destination its.RawEscape) x K = IsNested x × Ends IsRest IsRest x K
-destination_ready _ x K = rest_ready x K
+destination_ready name x K = DestinationInvariant name x × Ends IsRest IsRest x K
 
 abbrev pub destination_rank : StateName → Position → Rank
 destination_rank (n.Destination its.Enclosed) x =

@@ -14,9 +14,13 @@ use Rattle.md_engine.specs.declared.event.Point.{Point}
 use Rattle.md_engine.specs.declared.state.Name.TheVariants as n
 use Rattle.md_engine.specs.declared.state.destination.State.{State as DestinationState}
 use Rattle.md_engine.specs.declared.state.destination.State.TheVariants as its
+use Rattle.md_engine.specs.declared.state.State.{State}
 use Rattle.md_engine.specs.Meaning.{Accepts, Behaviour, Cell, Here, Outcome, Refuses}
+use Rattle.md_engine.specs.Scheme.{position}
+use Rattle.md_engine.specs.Sees.{IsStep}
+use Rattle.md_engine.specs.World.{World}
 use Rattle.md_link_definitions.specs.Chunks.{string_link}
-use Rattle.md_link_definitions.specs.Destination.{without_size}
+use Rattle.md_link_definitions.specs.Destination.{DestinationInvariant, without_size}
 use Rattle.md_seam.specs.Ahead.{line_bytes, point_after}
 use Rattle.md_seam.specs.Events.Nested.{enter, enter_link, exit, pair}
 
@@ -164,3 +168,9 @@ destination_last d cells p = behind_cells (destination_size (begins_literal cell
 
 abbrev pub destination_left : Destination → List Cell → List Cell
 destination_left d cells = drop (destination_size (begins_literal cells) d.text) cells
+
+-- what a state of a destination means: where what it needs holds, its call is one step of the rule
+unfoldable pub DestinationMeans : DestinationState → World → State → World → Type 0
+DestinationMeans state old to new =
+    DestinationInvariant (n.Destination state) (position old) →
+    IsStep HasDestination (n.Destination state) to old new

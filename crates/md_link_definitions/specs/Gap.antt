@@ -9,7 +9,7 @@ use Rattle.md_engine.specs.declared.state.State.TheVariants.{Ok, Nok, Next, Retr
 use Rattle.md_engine.specs.declared.tokenizer.Scratch.{Scratch}
 use Rattle.md_engine.specs.Scheme.{After, Ends, Rank, Scheme, Position, ranked}
 use Rattle.md_engine.specs.World.{World}
-use Rattle.md_seam.specs.Spaces.{any_size, IsRest, is_current, rest_ready, sees_white, white_then}
+use Rattle.md_seam.specs.Spaces.{any_size, IsRest, is_current, sees_white, white_then}
 use Rattle.md_seam.specs.Transition.{Transition, entered, exited, taken}
 
 -- something was taken, or nothing
@@ -64,9 +64,12 @@ gap_transition its.AfterEol w = after_eol_transition w
 gap_transition its.AfterMore w = after_more_transition w
 
 -- it is at rest but where it says whether something was taken
+abbrev pub GapInvariant : StateName → Position → Type 0
+GapInvariant (n.SpaceOrTabEol its.AtEol) x = IsRest (without_seen x.scratch)
+GapInvariant _ x = IsRest x.scratch
+
 abbrev pub gap_ready : StateName → Position → After → Type 0
-gap_ready (n.SpaceOrTabEol its.AtEol) x K = IsRest (without_seen x.scratch) × Ends IsRest IsRest x K
-gap_ready _ x K = rest_ready x K
+gap_ready name x K = GapInvariant name x × Ends IsRest IsRest x K
 
 abbrev pub gap_rank : StateName → Position → Rank
 gap_rank (n.SpaceOrTabEol its.Start) x = ranked 3 refl

@@ -6,8 +6,12 @@ use Rattle.md_engine.specs.declared.event.Point.{Point}
 use Rattle.md_engine.specs.declared.state.Name.TheVariants as n
 use Rattle.md_engine.specs.declared.state.space_or_tab_eol.State.{State as GapState}
 use Rattle.md_engine.specs.declared.state.space_or_tab_eol.State.TheVariants as its
+use Rattle.md_engine.specs.declared.state.State.{State}
 use Rattle.md_engine.specs.Meaning.{Accepts, Behaviour, Cell, Here, Outcome, Refuses}
-use Rattle.md_link_definitions.specs.Gap.{with_seen, without_seen}
+use Rattle.md_engine.specs.Scheme.{position}
+use Rattle.md_engine.specs.Sees.{IsStep}
+use Rattle.md_engine.specs.World.{World}
+use Rattle.md_link_definitions.specs.Gap.{GapInvariant, with_seen, without_seen}
 use Rattle.md_seam.specs.Ahead.{HasWhite, begins_white, white_end, white_rest}
 use Rattle.md_seam.specs.Events.Nested.{enter, exit, pair}
 use Rattle.md_seam.specs.Spaces.{any_size}
@@ -100,3 +104,9 @@ gap_end cells p = ending_end (white_rest any_size cells) (white_end any_size cel
 
 abbrev pub gap_rest : List Cell → List Cell
 gap_rest cells = ending_rest (white_rest any_size cells)
+
+-- what a state of such whitespace means: where what it needs holds, its call is one step of the rule
+unfoldable pub GapMeans : GapState → World → State → World → Type 0
+GapMeans state old to new =
+    GapInvariant (n.SpaceOrTabEol state) (position old) →
+    IsStep HasGap (n.SpaceOrTabEol state) to old new

@@ -11,10 +11,10 @@ use Rattle.md_engine.specs.declared.state.label.State.{State as LabelState}
 use Rattle.md_engine.specs.declared.state.label.State.TheVariants as its
 use Rattle.md_engine.specs.declared.state.State.TheVariants.{Ok, Nok, Next, Retry}
 use Rattle.md_engine.specs.declared.tokenizer.Scratch.{Scratch}
-use Rattle.md_engine.specs.Scheme.{After, Ends, Rank, Scheme, Position, ranked}
+use Rattle.md_engine.specs.Scheme.{After, Ends, EndsLater, Rank, Scheme, Position, ranked}
 use Rattle.md_engine.specs.World.{World}
 use Rattle.md_link_definitions.specs.Chunks.{string_link}
-use Rattle.md_seam.specs.Spaces.{IsRest, is_current, later_ready, sees_white}
+use Rattle.md_seam.specs.Spaces.{IsRest, is_current, sees_white}
 use Rattle.md_seam.specs.Transition.{Transition, entered, entered_link, exited, taken}
 
 -- a label has at most so many bytes (CommonMark 6.3)
@@ -135,11 +135,19 @@ pub record IsInLabel (x : Position) : Type 0 where
   pub size : x.scratch.size ≤ most
   pub rest : IsRest (unlabelled x.scratch)
 
+abbrev pub LabelInvariant : StateName → Position → Type 0
+LabelInvariant (n.Label its.Start) x = IsRest x.scratch
+LabelInvariant (n.Label its.Nok) x = IsRest x.scratch
+LabelInvariant _ x = IsInLabel x
+
 -- It ends behind `[`, and so behind the point where it begins.
+abbrev pub label_ends : StateName → Position → After → Type 0
+label_ends (n.Label its.Start) x K = EndsLater IsRest IsRest x K
+label_ends (n.Label its.Nok) x K = EndsLater IsRest IsRest x K
+label_ends _ x K = Ends IsRest IsRest x K
+
 abbrev pub label_ready : StateName → Position → After → Type 0
-label_ready (n.Label its.Start) x K = later_ready x K
-label_ready (n.Label its.Nok) x K = later_ready x K
-label_ready _ x K = IsInLabel x × Ends IsRest IsRest x K
+label_ready name x K = LabelInvariant name x × label_ends name x K
 
 abbrev pub label_rank : StateName → Position → Rank
 label_rank (n.Label its.AtBreak) x = ranked 2 refl

@@ -10,9 +10,13 @@ use Rattle.md_engine.specs.declared.event.Point.{Point}
 use Rattle.md_engine.specs.declared.state.Name.TheVariants as n
 use Rattle.md_engine.specs.declared.state.label.State.{State as LabelState}
 use Rattle.md_engine.specs.declared.state.label.State.TheVariants as its
+use Rattle.md_engine.specs.declared.state.State.{State}
 use Rattle.md_engine.specs.Meaning.{Accepts, Behaviour, Cell, Here, Outcome, Refuses}
+use Rattle.md_engine.specs.Scheme.{position}
+use Rattle.md_engine.specs.Sees.{IsStep}
+use Rattle.md_engine.specs.World.{World}
 use Rattle.md_link_definitions.specs.Chunks.{before_mark, chunks, from_mark}
-use Rattle.md_link_definitions.specs.Label.{is_bracket, most, unlabelled}
+use Rattle.md_link_definitions.specs.Label.{LabelInvariant, is_bracket, most, unlabelled}
 use Rattle.md_seam.specs.Ahead.{point_after}
 use Rattle.md_seam.specs.Events.Nested.{around, enter, exit, pair}
 
@@ -123,3 +127,9 @@ label_events t p =
     around DefinitionLabel p t.closer.after
     (pair DefinitionLabelMarker p q ++ around DefinitionLabelString q r (chunks false t.text q)
     ++ pair DefinitionLabelMarker r t.closer.after)
+
+-- what a state of a label means: where what it needs holds, its call is one step of the rule
+unfoldable pub LabelMeans : LabelState → World → State → World → Type 0
+LabelMeans state old to new =
+    LabelInvariant (n.Label state) (position old) →
+    IsStep HasLabel (n.Label state) to old new

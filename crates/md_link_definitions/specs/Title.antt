@@ -10,10 +10,10 @@ use Rattle.md_engine.specs.declared.state.title.State.{State as TitleState}
 use Rattle.md_engine.specs.declared.state.title.State.TheVariants as its
 use Rattle.md_engine.specs.declared.state.State.TheVariants.{Ok, Nok, Next, Retry}
 use Rattle.md_engine.specs.declared.tokenizer.Scratch.{Scratch}
-use Rattle.md_engine.specs.Scheme.{After, Ends, Rank, Scheme, Position, ranked}
+use Rattle.md_engine.specs.Scheme.{After, Ends, EndsLater, Rank, Scheme, Position, ranked}
 use Rattle.md_engine.specs.World.{World}
 use Rattle.md_link_definitions.specs.Chunks.{string_link}
-use Rattle.md_seam.specs.Spaces.{IsRest, is_current, later_ready}
+use Rattle.md_seam.specs.Spaces.{IsRest, is_current}
 use Rattle.md_seam.specs.Transition.{Transition, entered, entered_link, exited, taken}
 
 -- between the marks: what closes the title, and what opened it
@@ -118,10 +118,19 @@ pub record IsMarked (s : Scratch) : Type 0 where
   pub marks : title_closer s.marker_b ≡ Some s.marker
   pub rest : IsRest (unmarked s)
 
+abbrev pub TitleInvariant : StateName → Position → Type 0
+TitleInvariant (n.Title its.Start) x = IsRest x.scratch
+TitleInvariant (n.Title its.Nok) x = IsRest x.scratch
+TitleInvariant _ x = IsMarked x.scratch
+
+-- It ends behind its opening mark, and so behind the point where it begins.
+abbrev pub title_ends : StateName → Position → After → Type 0
+title_ends (n.Title its.Start) x K = EndsLater IsRest IsRest x K
+title_ends (n.Title its.Nok) x K = EndsLater IsRest IsRest x K
+title_ends _ x K = Ends IsRest IsRest x K
+
 abbrev pub title_ready : StateName → Position → After → Type 0
-title_ready (n.Title its.Start) x K = later_ready x K
-title_ready (n.Title its.Nok) x K = later_ready x K
-title_ready _ x K = IsMarked x.scratch × Ends IsRest IsRest x K
+title_ready name x K = TitleInvariant name x × title_ends name x K
 
 abbrev pub title_rank : StateName → Position → Rank
 title_rank (n.Title its.Begin) x = ranked 2 refl

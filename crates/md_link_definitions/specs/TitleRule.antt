@@ -9,9 +9,13 @@ use Rattle.md_engine.specs.declared.event.Point.{Point}
 use Rattle.md_engine.specs.declared.state.Name.TheVariants as n
 use Rattle.md_engine.specs.declared.state.title.State.{State as TitleState}
 use Rattle.md_engine.specs.declared.state.title.State.TheVariants as its
+use Rattle.md_engine.specs.declared.state.State.{State}
 use Rattle.md_engine.specs.Meaning.{Accepts, Behaviour, Cell, Here, Outcome, Refuses}
+use Rattle.md_engine.specs.Scheme.{position}
+use Rattle.md_engine.specs.Sees.{IsStep}
+use Rattle.md_engine.specs.World.{World}
 use Rattle.md_link_definitions.specs.Chunks.{before_mark, chunks, from_mark}
-use Rattle.md_link_definitions.specs.Title.{is_mark, marked, unmarked}
+use Rattle.md_link_definitions.specs.Title.{TitleInvariant, is_mark, marked, unmarked}
 use Rattle.md_seam.specs.Ahead.{point_after}
 use Rattle.md_seam.specs.Events.Nested.{around, enter, exit, pair}
 
@@ -122,3 +126,9 @@ title_events t p =
     around DefinitionTitle p t.closer.after
     (pair DefinitionTitleMarker p q ++ title_text t.text q
     ++ pair DefinitionTitleMarker (point_after t.text q) t.closer.after)
+
+-- what a state of a title means: where what it needs holds, its call is one step of the rule
+unfoldable pub TitleMeans : TitleState → World → State → World → Type 0
+TitleMeans state old to new =
+    TitleInvariant (n.Title state) (position old) →
+    IsStep HasTitle (n.Title state) to old new

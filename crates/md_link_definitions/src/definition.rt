@@ -9,16 +9,19 @@
 // them; its indent stands in front of it. That it may not interrupt a paragraph, the caller knows.
 
 ghost use Rattle.std.specs.Prelude.{◌≡◌, ◌≢◌};
+ghost use Rattle.md_link_definitions.specs.DefinitionRule.{DefinitionMeans};
+ghost use Rattle.md_engine.specs.Full.{IsFull, OnError};
 ghost use Rattle.md_engine.specs.World.{world};
 ghost use Rattle.md_engine.specs.declared.state.Name.{Name as StateName};
 ghost use Rattle.md_engine.specs.declared.state.State.{State};
 ghost use Rattle.md_engine.specs.declared.state.definition.State.{State as DefinitionState};
 ghost use Rattle.md_link_definitions.specs.Definition.{after_transition, after_whitespace_transition, before_transition};
 ghost use Rattle.md_link_definitions.specs.Definition.{behind_white, definition_transition, destination_after_transition};
-ghost use Rattle.md_link_definitions.specs.Definition.{destination_before_transition, label_after_transition};
+ghost use Rattle.md_link_definitions.specs.Definition.{destination_before_transition, destination_missing_transition};
+ghost use Rattle.md_link_definitions.specs.Definition.{label_after_transition, label_nok_transition};
 ghost use Rattle.md_link_definitions.specs.Definition.{marker_after_transition, start_transition, title_after_transition};
 ghost use Rattle.md_link_definitions.specs.Definition.{title_before_marker_transition, title_before_transition};
-ghost use Rattle.md_link_definitions.specs.Definition.{title_end_transition, tries_part};
+ghost use Rattle.md_link_definitions.specs.Definition.{title_after_optional_whitespace_transition, tries_part};
 ghost use Rattle.md_seam.specs.Spaces.{ends_line, sees_white};
 ghost use Rattle.md_seam.specs.Transition.{IsAt, NeedsNothing};
 
@@ -45,6 +48,7 @@ fn try_part(tokenizer: &mut Tokenizer, first: StateName, ok: State, nok: State) 
     ensures to { result ≢ State.Error → result ≡ (tries_part (world tokenizer.old) first ok nok).to }
     ensures world { result ≢ State.Error →
         world tokenizer.new ≡ (tries_part (world tokenizer.old) first ok nok).world }
+    ensures full { OnError result (IsFull tokenizer.new) }
 {
     or_error!(tokenizer.attempt(ok, nok));
     State::Retry(first)
@@ -57,6 +61,7 @@ fn behind_white(tokenizer: &mut Tokenizer, next: DefinitionState) -> State
     ensures world { result ≢ State.Error →
         world tokenizer.new ≡
         (behind_white (world tokenizer.old) next (sees_white (world tokenizer.old).current)).world }
+    ensures full { OnError result (IsFull tokenizer.new) }
 {
     if is_space_or_tab(tokenizer.current) {
         space_or_tab(
@@ -75,10 +80,14 @@ fn behind_white(tokenizer: &mut Tokenizer, next: DefinitionState) -> State
 /// > |   [a]: b "c"
 ///     ^
 /// ```
+#[tactic(auto, using(crate::proofs::DefinitionMeaning::definition_rule))]
 pub fn start(tokenizer: &mut Tokenizer) -> State
     requires { IsAt NeedsNothing (StateName.Definition DefinitionState.Start) (world tokenizer.old) }
     ensures to { result ≢ State.Error → result ≡ (start_transition (world tokenizer.old)).to }
     ensures world { result ≢ State.Error → world tokenizer.new ≡ (start_transition (world tokenizer.old)).world }
+    ensures rule { result ≢ State.Error →
+        DefinitionMeans DefinitionState.Start (world tokenizer.old) result (world tokenizer.new) }
+    ensures full { OnError result (IsFull tokenizer.new) }
 {
     if tokenizer.options.constructs.definition {
         behind_white(tokenizer, DefinitionState::Before)
@@ -93,10 +102,14 @@ pub fn start(tokenizer: &mut Tokenizer) -> State
 /// > |   [a]: b "c"
 ///       ^
 /// ```
+#[tactic(auto, using(crate::proofs::DefinitionMeaning::definition_rule))]
 pub fn before(tokenizer: &mut Tokenizer) -> State
     requires { IsAt NeedsNothing (StateName.Definition DefinitionState.Before) (world tokenizer.old) }
     ensures to { result ≢ State.Error → result ≡ (before_transition (world tokenizer.old)).to }
     ensures world { result ≢ State.Error → world tokenizer.new ≡ (before_transition (world tokenizer.old)).world }
+    ensures rule { result ≢ State.Error →
+        DefinitionMeans DefinitionState.Before (world tokenizer.old) result (world tokenizer.new) }
+    ensures full { OnError result (IsFull tokenizer.new) }
 {
     if tokenizer.current != Some(b'[') {
         return State::Nok;
@@ -116,10 +129,14 @@ pub fn before(tokenizer: &mut Tokenizer) -> State
 /// > | [a]: b "c"
 ///        ^
 /// ```
+#[tactic(auto, using(crate::proofs::DefinitionMeaning::definition_rule))]
 pub fn label_after(tokenizer: &mut Tokenizer) -> State
     requires { IsAt NeedsNothing (StateName.Definition DefinitionState.LabelAfter) (world tokenizer.old) }
     ensures to { result ≢ State.Error → result ≡ (label_after_transition (world tokenizer.old)).to }
     ensures world { result ≢ State.Error → world tokenizer.new ≡ (label_after_transition (world tokenizer.old)).world }
+    ensures rule { result ≢ State.Error →
+        DefinitionMeans DefinitionState.LabelAfter (world tokenizer.old) result (world tokenizer.new) }
+    ensures full { OnError result (IsFull tokenizer.new) }
 {
     if tokenizer.current != Some(b':') {
         return State::Nok;
@@ -130,17 +147,37 @@ pub fn label_after(tokenizer: &mut Tokenizer) -> State
     State::Next(StateName::Definition(DefinitionState::MarkerAfter))
 }
 
+/// Where no label is: this is no definition.
+///
+/// ```markdown
+/// > | []: b
+///     ^
+/// ```
+#[tactic(auto, using(crate::proofs::DefinitionMeaning::definition_rule))]
+pub fn label_nok(tokenizer: &mut Tokenizer) -> State
+    requires { IsAt NeedsNothing (StateName.Definition DefinitionState.LabelNok) (world tokenizer.old) }
+    ensures to { result ≡ (label_nok_transition (world tokenizer.old)).to }
+    ensures world { world tokenizer.new ≡ (label_nok_transition (world tokenizer.old)).world }
+    ensures rule { DefinitionMeans DefinitionState.LabelNok (world tokenizer.old) result (world tokenizer.new) }
+{
+    State::Nok
+}
+
 /// Behind the colon.
 ///
 /// ```markdown
 /// > | [a]: b "c"
 ///         ^
 /// ```
+#[tactic(auto, using(crate::proofs::DefinitionMeaning::definition_rule))]
 pub fn marker_after(tokenizer: &mut Tokenizer) -> State
     requires { IsAt NeedsNothing (StateName.Definition DefinitionState.MarkerAfter) (world tokenizer.old) }
     ensures to { result ≢ State.Error → result ≡ (marker_after_transition (world tokenizer.old)).to }
     ensures world { result ≢ State.Error →
         world tokenizer.new ≡ (marker_after_transition (world tokenizer.old)).world }
+    ensures rule { result ≢ State.Error →
+        DefinitionMeans DefinitionState.MarkerAfter (world tokenizer.old) result (world tokenizer.new) }
+    ensures full { OnError result (IsFull tokenizer.new) }
 {
     try_part(
         tokenizer,
@@ -156,11 +193,15 @@ pub fn marker_after(tokenizer: &mut Tokenizer) -> State
 /// > | [a]: b "c"
 ///          ^
 /// ```
+#[tactic(auto, using(crate::proofs::DefinitionMeaning::definition_rule))]
 pub fn destination_before(tokenizer: &mut Tokenizer) -> State
     requires { IsAt NeedsNothing (StateName.Definition DefinitionState.DestinationBefore) (world tokenizer.old) }
     ensures to { result ≢ State.Error → result ≡ (destination_before_transition (world tokenizer.old)).to }
     ensures world { result ≢ State.Error →
         world tokenizer.new ≡ (destination_before_transition (world tokenizer.old)).world }
+    ensures rule { result ≢ State.Error →
+        DefinitionMeans DefinitionState.DestinationBefore (world tokenizer.old) result (world tokenizer.new) }
+    ensures full { OnError result (IsFull tokenizer.new) }
 {
     try_part(
         tokenizer,
@@ -176,11 +217,15 @@ pub fn destination_before(tokenizer: &mut Tokenizer) -> State
 /// > | [a]: b "c"
 ///           ^
 /// ```
+#[tactic(auto, using(crate::proofs::DefinitionMeaning::definition_rule))]
 pub fn destination_after(tokenizer: &mut Tokenizer) -> State
     requires { IsAt NeedsNothing (StateName.Definition DefinitionState.DestinationAfter) (world tokenizer.old) }
     ensures to { result ≢ State.Error → result ≡ (destination_after_transition (world tokenizer.old)).to }
     ensures world { result ≢ State.Error →
         world tokenizer.new ≡ (destination_after_transition (world tokenizer.old)).world }
+    ensures rule { result ≢ State.Error →
+        DefinitionMeans DefinitionState.DestinationAfter (world tokenizer.old) result (world tokenizer.new) }
+    ensures full { OnError result (IsFull tokenizer.new) }
 {
     try_part(
         tokenizer,
@@ -190,17 +235,37 @@ pub fn destination_after(tokenizer: &mut Tokenizer) -> State
     )
 }
 
+/// Where no destination is: this is no definition.
+///
+/// ```markdown
+/// > | [a]:
+///         ^
+/// ```
+#[tactic(auto, using(crate::proofs::DefinitionMeaning::definition_rule))]
+pub fn destination_missing(tokenizer: &mut Tokenizer) -> State
+    requires { IsAt NeedsNothing (StateName.Definition DefinitionState.DestinationMissing) (world tokenizer.old) }
+    ensures to { result ≡ (destination_missing_transition (world tokenizer.old)).to }
+    ensures world { world tokenizer.new ≡ (destination_missing_transition (world tokenizer.old)).world }
+    ensures rule { DefinitionMeans DefinitionState.DestinationMissing (world tokenizer.old) result (world tokenizer.new) }
+{
+    State::Nok
+}
+
 /// Before the gap in front of a title.
 ///
 /// ```markdown
 /// > | [a]: b "c"
 ///           ^
 /// ```
+#[tactic(auto, using(crate::proofs::DefinitionMeaning::definition_rule))]
 pub fn title_before(tokenizer: &mut Tokenizer) -> State
     requires { IsAt NeedsNothing (StateName.Definition DefinitionState.TitleBefore) (world tokenizer.old) }
     ensures to { result ≢ State.Error → result ≡ (title_before_transition (world tokenizer.old)).to }
     ensures world { result ≢ State.Error →
         world tokenizer.new ≡ (title_before_transition (world tokenizer.old)).world }
+    ensures rule { result ≢ State.Error →
+        DefinitionMeans DefinitionState.TitleBefore (world tokenizer.old) result (world tokenizer.new) }
+    ensures full { OnError result (IsFull tokenizer.new) }
 {
     if is_space_or_tab(tokenizer.current) || tokenizer.current == Some(b'\n') {
         try_part(
@@ -220,11 +285,15 @@ pub fn title_before(tokenizer: &mut Tokenizer) -> State
 /// > | [a]: b "c"
 ///            ^
 /// ```
+#[tactic(auto, using(crate::proofs::DefinitionMeaning::definition_rule))]
 pub fn title_before_marker(tokenizer: &mut Tokenizer) -> State
     requires { IsAt NeedsNothing (StateName.Definition DefinitionState.TitleBeforeMarker) (world tokenizer.old) }
     ensures to { result ≢ State.Error → result ≡ (title_before_marker_transition (world tokenizer.old)).to }
     ensures world { result ≢ State.Error →
         world tokenizer.new ≡ (title_before_marker_transition (world tokenizer.old)).world }
+    ensures rule { result ≢ State.Error →
+        DefinitionMeans DefinitionState.TitleBeforeMarker (world tokenizer.old) result (world tokenizer.new) }
+    ensures full { OnError result (IsFull tokenizer.new) }
 {
     try_part(
         tokenizer,
@@ -240,10 +309,14 @@ pub fn title_before_marker(tokenizer: &mut Tokenizer) -> State
 /// > | [a]: b "c"
 ///               ^
 /// ```
+#[tactic(auto, using(crate::proofs::DefinitionMeaning::definition_rule))]
 pub fn title_after(tokenizer: &mut Tokenizer) -> State
     requires { IsAt NeedsNothing (StateName.Definition DefinitionState.TitleAfter) (world tokenizer.old) }
     ensures to { result ≢ State.Error → result ≡ (title_after_transition (world tokenizer.old)).to }
     ensures world { result ≢ State.Error → world tokenizer.new ≡ (title_after_transition (world tokenizer.old)).world }
+    ensures rule { result ≢ State.Error →
+        DefinitionMeans DefinitionState.TitleAfter (world tokenizer.old) result (world tokenizer.new) }
+    ensures full { OnError result (IsFull tokenizer.new) }
 {
     behind_white(tokenizer, DefinitionState::TitleAfterOptionalWhitespace)
 }
@@ -254,11 +327,13 @@ pub fn title_after(tokenizer: &mut Tokenizer) -> State
 /// > | [a]: b "c"
 ///               ^
 /// ```
-pub fn title_end(tokenizer: &mut Tokenizer) -> State
+#[tactic(auto, using(crate::proofs::DefinitionMeaning::definition_rule))]
+pub fn title_after_optional_whitespace(tokenizer: &mut Tokenizer) -> State
     requires { IsAt NeedsNothing
         (StateName.Definition DefinitionState.TitleAfterOptionalWhitespace) (world tokenizer.old) }
-    ensures to { result ≡ (title_end_transition (world tokenizer.old)).to }
-    ensures world { world tokenizer.new ≡ (title_end_transition (world tokenizer.old)).world }
+    ensures to { result ≡ (title_after_optional_whitespace_transition (world tokenizer.old)).to }
+    ensures world { world tokenizer.new ≡ (title_after_optional_whitespace_transition (world tokenizer.old)).world }
+    ensures rule { DefinitionMeans DefinitionState.TitleAfterOptionalWhitespace (world tokenizer.old) result (world tokenizer.new) }
 {
     if ends_line(tokenizer.current) {
         State::Ok
@@ -275,10 +350,14 @@ pub fn title_end(tokenizer: &mut Tokenizer) -> State
 /// > | [a]: b "c"
 ///               ^
 /// ```
+#[tactic(auto, using(crate::proofs::DefinitionMeaning::definition_rule))]
 pub fn after(tokenizer: &mut Tokenizer) -> State
     requires { IsAt NeedsNothing (StateName.Definition DefinitionState.After) (world tokenizer.old) }
     ensures to { result ≢ State.Error → result ≡ (after_transition (world tokenizer.old)).to }
     ensures world { result ≢ State.Error → world tokenizer.new ≡ (after_transition (world tokenizer.old)).world }
+    ensures rule { result ≢ State.Error →
+        DefinitionMeans DefinitionState.After (world tokenizer.old) result (world tokenizer.new) }
+    ensures full { OnError result (IsFull tokenizer.new) }
 {
     behind_white(tokenizer, DefinitionState::AfterWhitespace)
 }
@@ -291,11 +370,15 @@ pub fn after(tokenizer: &mut Tokenizer) -> State
 /// > | [a]: b "c"
 ///               ^
 /// ```
+#[tactic(auto, using(crate::proofs::DefinitionMeaning::definition_rule))]
 pub fn after_whitespace(tokenizer: &mut Tokenizer) -> State
     requires { IsAt NeedsNothing (StateName.Definition DefinitionState.AfterWhitespace) (world tokenizer.old) }
     ensures to { result ≢ State.Error → result ≡ (after_whitespace_transition (world tokenizer.old)).to }
     ensures world { result ≢ State.Error →
         world tokenizer.new ≡ (after_whitespace_transition (world tokenizer.old)).world }
+    ensures rule { result ≢ State.Error →
+        DefinitionMeans DefinitionState.AfterWhitespace (world tokenizer.old) result (world tokenizer.new) }
+    ensures full { OnError result (IsFull tokenizer.new) }
 {
     if !ends_line(tokenizer.current) {
         return State::Nok;
@@ -305,24 +388,28 @@ pub fn after_whitespace(tokenizer: &mut Tokenizer) -> State
 }
 
 /// Calls a state of a definition.
+#[tactic(auto, using(crate::proofs::DefinitionMeaning::definition_rule))]
 pub fn call(tokenizer: &mut Tokenizer, state: DefinitionState) -> State
     requires { IsAt NeedsNothing (StateName.Definition state) (world tokenizer.old) }
     ensures to { result ≢ State.Error → result ≡ (definition_transition state (world tokenizer.old)).to }
     ensures world { result ≢ State.Error →
         world tokenizer.new ≡ (definition_transition state (world tokenizer.old)).world }
+    ensures rule { result ≢ State.Error → DefinitionMeans state (world tokenizer.old) result (world tokenizer.new) }
+    ensures full { OnError result (IsFull tokenizer.new) }
 {
     match state {
         DefinitionState::Start => start(tokenizer),
         DefinitionState::Before => before(tokenizer),
         DefinitionState::LabelAfter => label_after(tokenizer),
-        DefinitionState::LabelNok | DefinitionState::DestinationMissing => State::Nok,
+        DefinitionState::LabelNok => label_nok(tokenizer),
         DefinitionState::MarkerAfter => marker_after(tokenizer),
         DefinitionState::DestinationBefore => destination_before(tokenizer),
         DefinitionState::DestinationAfter => destination_after(tokenizer),
+        DefinitionState::DestinationMissing => destination_missing(tokenizer),
         DefinitionState::TitleBefore => title_before(tokenizer),
         DefinitionState::TitleBeforeMarker => title_before_marker(tokenizer),
         DefinitionState::TitleAfter => title_after(tokenizer),
-        DefinitionState::TitleAfterOptionalWhitespace => title_end(tokenizer),
+        DefinitionState::TitleAfterOptionalWhitespace => title_after_optional_whitespace(tokenizer),
         DefinitionState::After => after(tokenizer),
         DefinitionState::AfterWhitespace => after_whitespace(tokenizer),
     }

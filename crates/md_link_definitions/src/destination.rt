@@ -12,6 +12,8 @@
 // angle brackets there may be none.
 
 ghost use Rattle.std.specs.Prelude.{◌≡◌, ◌≢◌, IfSome};
+ghost use Rattle.md_link_definitions.specs.DestinationRule.{DestinationMeans};
+ghost use Rattle.md_engine.specs.Full.{IsFull, OnError};
 ghost use Rattle.md_engine.specs.World.{world};
 ghost use Rattle.md_engine.specs.declared.state.Name.{Name as StateName};
 ghost use Rattle.md_engine.specs.declared.state.State.{State};
@@ -52,10 +54,14 @@ fn is_raw(byte: u8) -> bool
 /// > | aa
 ///     ^
 /// ```
+#[tactic(auto, using(crate::proofs::DestinationMeaning::destination_rule))]
 pub fn start(tokenizer: &mut Tokenizer) -> State
     requires { IsAt DestinationNeeds (StateName.Destination DestinationState.Start) (world tokenizer.old) }
     ensures to { result ≢ State.Error → result ≡ (start_transition (world tokenizer.old)).to }
     ensures world { result ≢ State.Error → world tokenizer.new ≡ (start_transition (world tokenizer.old)).world }
+    ensures rule { result ≢ State.Error →
+        DestinationMeans DestinationState.Start (world tokenizer.old) result (world tokenizer.new) }
+    ensures full { OnError result (IsFull tokenizer.new) }
 {
     match tokenizer.current {
         Some(b'<') => {
@@ -83,11 +89,15 @@ pub fn start(tokenizer: &mut Tokenizer) -> State
 /// > | <aa>
 ///      ^ ^
 /// ```
+#[tactic(auto, using(crate::proofs::DestinationMeaning::destination_rule))]
 pub fn enclosed_before(tokenizer: &mut Tokenizer) -> State
     requires { IsAt DestinationNeeds (StateName.Destination DestinationState.EnclosedBefore) (world tokenizer.old) }
     ensures to { result ≢ State.Error → result ≡ (enclosed_before_transition (world tokenizer.old)).to }
     ensures world { result ≢ State.Error →
         world tokenizer.new ≡ (enclosed_before_transition (world tokenizer.old)).world }
+    ensures rule { result ≢ State.Error →
+        DestinationMeans DestinationState.EnclosedBefore (world tokenizer.old) result (world tokenizer.new) }
+    ensures full { OnError result (IsFull tokenizer.new) }
 {
     if tokenizer.current == Some(b'>') {
         or_error!(tokenizer.enter(Name::DefinitionDestinationLiteralMarker));
@@ -108,10 +118,14 @@ pub fn enclosed_before(tokenizer: &mut Tokenizer) -> State
 /// > | <aa>
 ///      ^^
 /// ```
+#[tactic(auto, using(crate::proofs::DestinationMeaning::destination_rule))]
 pub fn enclosed(tokenizer: &mut Tokenizer) -> State
     requires { IsAt DestinationNeeds (StateName.Destination DestinationState.Enclosed) (world tokenizer.old) }
     ensures to { result ≢ State.Error → result ≡ (enclosed_transition (world tokenizer.old)).to }
     ensures world { result ≢ State.Error → world tokenizer.new ≡ (enclosed_transition (world tokenizer.old)).world }
+    ensures rule { result ≢ State.Error →
+        DestinationMeans DestinationState.Enclosed (world tokenizer.old) result (world tokenizer.new) }
+    ensures full { OnError result (IsFull tokenizer.new) }
 {
     match tokenizer.current {
         None | Some(b'\n' | b'<') => State::Nok,
@@ -137,10 +151,12 @@ pub fn enclosed(tokenizer: &mut Tokenizer) -> State
 /// > | <a\>a>
 ///        ^
 /// ```
+#[tactic(auto, using(crate::proofs::DestinationMeaning::destination_rule))]
 pub fn enclosed_escape(tokenizer: &mut Tokenizer) -> State
     requires { IsAt DestinationNeeds (StateName.Destination DestinationState.EnclosedEscape) (world tokenizer.old) }
     ensures to { result ≡ (enclosed_escape_transition (world tokenizer.old)).to }
     ensures world { world tokenizer.new ≡ (enclosed_escape_transition (world tokenizer.old)).world }
+    ensures rule { DestinationMeans DestinationState.EnclosedEscape (world tokenizer.old) result (world tokenizer.new) }
 {
     match tokenizer.current {
         Some(b'<' | b'>' | b'\\') => {
@@ -157,10 +173,14 @@ pub fn enclosed_escape(tokenizer: &mut Tokenizer) -> State
 /// > | aa(b)
 ///     ^^^^^
 /// ```
+#[tactic(auto, using(crate::proofs::DestinationMeaning::destination_rule))]
 pub fn raw(tokenizer: &mut Tokenizer) -> State
     requires { IsAt DestinationNeeds (StateName.Destination DestinationState.Raw) (world tokenizer.old) }
     ensures to { result ≢ State.Error → result ≡ (raw_transition (world tokenizer.old)).to }
     ensures world { result ≢ State.Error → world tokenizer.new ≡ (raw_transition (world tokenizer.old)).world }
+    ensures rule { result ≢ State.Error →
+        DestinationMeans DestinationState.Raw (world tokenizer.old) result (world tokenizer.new) }
+    ensures full { OnError result (IsFull tokenizer.new) }
 {
     match tokenizer.current {
         Some(b'(') => {
@@ -204,10 +224,12 @@ pub fn raw(tokenizer: &mut Tokenizer) -> State
 /// > | a\(a
 ///       ^
 /// ```
+#[tactic(auto, using(crate::proofs::DestinationMeaning::destination_rule))]
 pub fn raw_escape(tokenizer: &mut Tokenizer) -> State
     requires { IsAt DestinationNeeds (StateName.Destination DestinationState.RawEscape) (world tokenizer.old) }
     ensures to { result ≡ (raw_escape_transition (world tokenizer.old)).to }
     ensures world { world tokenizer.new ≡ (raw_escape_transition (world tokenizer.old)).world }
+    ensures rule { DestinationMeans DestinationState.RawEscape (world tokenizer.old) result (world tokenizer.new) }
 {
     match tokenizer.current {
         Some(b'(' | b')' | b'\\') => {
@@ -230,11 +252,14 @@ pub fn takes_at_once(state: DestinationState) -> Option<Stay>
 }
 
 /// Calls a state of a destination.
+#[tactic(auto, using(crate::proofs::DestinationMeaning::destination_rule))]
 pub fn call(tokenizer: &mut Tokenizer, state: DestinationState) -> State
     requires { IsAt DestinationNeeds (StateName.Destination state) (world tokenizer.old) }
     ensures to { result ≢ State.Error → result ≡ (destination_transition state (world tokenizer.old)).to }
     ensures world { result ≢ State.Error →
         world tokenizer.new ≡ (destination_transition state (world tokenizer.old)).world }
+    ensures rule { result ≢ State.Error → DestinationMeans state (world tokenizer.old) result (world tokenizer.new) }
+    ensures full { OnError result (IsFull tokenizer.new) }
 {
     match state {
         DestinationState::Start => start(tokenizer),

@@ -11,6 +11,8 @@
 // last line if `]` comes first on it.
 
 ghost use Rattle.std.specs.Prelude.{◌≡◌, ◌≢◌, ◌<◌, IfSome, false, length};
+ghost use Rattle.md_link_definitions.specs.LabelRule.{LabelMeans};
+ghost use Rattle.md_engine.specs.Full.{IsFull, OnError};
 ghost use Rattle.md_engine.specs.World.{world};
 ghost use Rattle.md_engine.specs.declared.state.Name.{Name as StateName};
 ghost use Rattle.md_engine.specs.declared.state.State.{State};
@@ -100,6 +102,7 @@ fn close(tokenizer: &mut Tokenizer) -> State
         result ≡ (close_code (world tokenizer.old) (world tokenizer.old).scratch.seen).to }
     ensures world { result ≢ State.Error →
         world tokenizer.new ≡ (close_code (world tokenizer.old) (world tokenizer.old).scratch.seen).world }
+    ensures full { OnError result (IsFull tokenizer.new) }
 {
     if !tokenizer.scratch.seen {
         return refuse(tokenizer);
@@ -119,10 +122,14 @@ fn close(tokenizer: &mut Tokenizer) -> State
 /// > | [a]: b
 ///     ^
 /// ```
+#[tactic(auto, using(crate::proofs::LabelMeaning::label_rule))]
 pub fn start(tokenizer: &mut Tokenizer) -> State
     requires { IsAt NeedsNothing (StateName.Label LabelState.Start) (world tokenizer.old) }
     ensures to { result ≢ State.Error → result ≡ (start_transition (world tokenizer.old)).to }
     ensures world { result ≢ State.Error → world tokenizer.new ≡ (start_transition (world tokenizer.old)).world }
+    ensures rule { result ≢ State.Error →
+        LabelMeans LabelState.Start (world tokenizer.old) result (world tokenizer.new) }
+    ensures full { OnError result (IsFull tokenizer.new) }
 {
     if tokenizer.current != Some(b'[') {
         return State::Nok;
@@ -143,10 +150,14 @@ pub fn start(tokenizer: &mut Tokenizer) -> State
 /// > | b]: c
 ///     ^
 /// ```
+#[tactic(auto, using(crate::proofs::LabelMeaning::label_rule))]
 pub fn at_break(tokenizer: &mut Tokenizer) -> State
     requires { IsAt NeedsNothing (StateName.Label LabelState.AtBreak) (world tokenizer.old) }
     ensures to { result ≢ State.Error → result ≡ (at_break_transition (world tokenizer.old)).to }
     ensures world { result ≢ State.Error → world tokenizer.new ≡ (at_break_transition (world tokenizer.old)).world }
+    ensures rule { result ≢ State.Error →
+        LabelMeans LabelState.AtBreak (world tokenizer.old) result (world tokenizer.new) }
+    ensures full { OnError result (IsFull tokenizer.new) }
 {
     match tokenizer.current {
         Some(b']') => close(tokenizer),
@@ -174,10 +185,12 @@ pub fn at_break(tokenizer: &mut Tokenizer) -> State
 /// > |   b]: c
 ///     ^^
 /// ```
+#[tactic(auto, using(crate::proofs::LabelMeaning::label_rule))]
 pub fn eol_after(tokenizer: &mut Tokenizer) -> State
     requires { IsAt NeedsNothing (StateName.Label LabelState.EolAfter) (world tokenizer.old) }
     ensures to { result ≡ (eol_after_transition (world tokenizer.old)).to }
     ensures world { world tokenizer.new ≡ (eol_after_transition (world tokenizer.old)).world }
+    ensures rule { LabelMeans LabelState.EolAfter (world tokenizer.old) result (world tokenizer.new) }
 {
     if is_space_or_tab(tokenizer.current) {
         tokenizer.consume();
@@ -193,10 +206,14 @@ pub fn eol_after(tokenizer: &mut Tokenizer) -> State
 /// > | [a]: b
 ///      ^^
 /// ```
+#[tactic(auto, using(crate::proofs::LabelMeaning::label_rule))]
 pub fn inside(tokenizer: &mut Tokenizer) -> State
     requires { IsAt NeedsNothing (StateName.Label LabelState.Inside) (world tokenizer.old) }
     ensures to { result ≢ State.Error → result ≡ (inside_transition (world tokenizer.old)).to }
     ensures world { result ≢ State.Error → world tokenizer.new ≡ (inside_transition (world tokenizer.old)).world }
+    ensures rule { result ≢ State.Error →
+        LabelMeans LabelState.Inside (world tokenizer.old) result (world tokenizer.new) }
+    ensures full { OnError result (IsFull tokenizer.new) }
 {
     match tokenizer.current {
         None | Some(b'[') => refuse(tokenizer),
@@ -221,10 +238,12 @@ pub fn inside(tokenizer: &mut Tokenizer) -> State
 /// > | [\]]: b
 ///       ^
 /// ```
+#[tactic(auto, using(crate::proofs::LabelMeaning::label_rule))]
 pub fn escape(tokenizer: &mut Tokenizer) -> State
     requires { IsAt NeedsNothing (StateName.Label LabelState.Escape) (world tokenizer.old) }
     ensures to { result ≡ (escape_transition (world tokenizer.old)).to }
     ensures world { world tokenizer.new ≡ (escape_transition (world tokenizer.old)).world }
+    ensures rule { LabelMeans LabelState.Escape (world tokenizer.old) result (world tokenizer.new) }
 {
     match tokenizer.current {
         Some(byte) if byte == b'[' || byte == b']' || byte == b'\\' => {
@@ -245,10 +264,13 @@ pub fn takes_at_once(state: LabelState) -> Option<Stay>
 }
 
 /// Calls a state of a label.
+#[tactic(auto, using(crate::proofs::LabelMeaning::label_rule))]
 pub fn call(tokenizer: &mut Tokenizer, state: LabelState) -> State
     requires { IsAt NeedsNothing (StateName.Label state) (world tokenizer.old) }
     ensures to { result ≢ State.Error → result ≡ (label_transition state (world tokenizer.old)).to }
     ensures world { result ≢ State.Error → world tokenizer.new ≡ (label_transition state (world tokenizer.old)).world }
+    ensures rule { result ≢ State.Error → LabelMeans state (world tokenizer.old) result (world tokenizer.new) }
+    ensures full { OnError result (IsFull tokenizer.new) }
 {
     match state {
         LabelState::Start => start(tokenizer),

@@ -10,6 +10,8 @@
 // it, and no `DefinitionTitleString` if nothing stands between the marks.
 
 ghost use Rattle.std.specs.Prelude.{◌≡◌, ◌≢◌, Some};
+ghost use Rattle.md_link_definitions.specs.TitleRule.{TitleMeans};
+ghost use Rattle.md_engine.specs.Full.{IsFull, OnError};
 ghost use Rattle.md_engine.specs.World.{looks, world};
 ghost use Rattle.md_engine.specs.declared.state.Name.{Name as StateName};
 ghost use Rattle.md_engine.specs.declared.state.State.{State};
@@ -42,6 +44,7 @@ fn close(tokenizer: &mut Tokenizer) -> State
     requires mark { (world tokenizer.old).current ≡ Some (world tokenizer.old).scratch.marker }
     ensures to { result ≢ State.Error → result ≡ (closed (world tokenizer.old)).to }
     ensures world { result ≢ State.Error → world tokenizer.new ≡ (closed (world tokenizer.old)).world }
+    ensures full { OnError result (IsFull tokenizer.new) }
 {
     or_error!(tokenizer.enter(Name::DefinitionTitleMarker));
     tokenizer.consume();
@@ -68,10 +71,14 @@ fn is_escaped(scratch: &Scratch, current: Option<u8>) -> bool
 /// > | [a]: b "c"
 ///            ^
 /// ```
+#[tactic(auto, using(crate::proofs::TitleMeaning::title_rule))]
 pub fn start(tokenizer: &mut Tokenizer) -> State
     requires { IsAt NeedsNothing (StateName.Title TitleState.Start) (world tokenizer.old) }
     ensures to { result ≢ State.Error → result ≡ (start_transition (world tokenizer.old)).to }
     ensures world { result ≢ State.Error → world tokenizer.new ≡ (start_transition (world tokenizer.old)).world }
+    ensures rule { result ≢ State.Error →
+        TitleMeans TitleState.Start (world tokenizer.old) result (world tokenizer.new) }
+    ensures full { OnError result (IsFull tokenizer.new) }
 {
     let Some(byte) = tokenizer.current else {
         return State::Nok;
@@ -94,10 +101,14 @@ pub fn start(tokenizer: &mut Tokenizer) -> State
 /// > | [a]: b "c"
 ///             ^
 /// ```
+#[tactic(auto, using(crate::proofs::TitleMeaning::title_rule))]
 pub fn begin(tokenizer: &mut Tokenizer) -> State
     requires { IsAt NeedsNothing (StateName.Title TitleState.Begin) (world tokenizer.old) }
     ensures to { result ≢ State.Error → result ≡ (begin_transition (world tokenizer.old)).to }
     ensures world { result ≢ State.Error → world tokenizer.new ≡ (begin_transition (world tokenizer.old)).world }
+    ensures rule { result ≢ State.Error →
+        TitleMeans TitleState.Begin (world tokenizer.old) result (world tokenizer.new) }
+    ensures full { OnError result (IsFull tokenizer.new) }
 {
     if tokenizer.current == Some(tokenizer.scratch.marker) {
         return close(tokenizer);
@@ -113,10 +124,14 @@ pub fn begin(tokenizer: &mut Tokenizer) -> State
 /// > | d"
 ///     ^
 /// ```
+#[tactic(auto, using(crate::proofs::TitleMeaning::title_rule))]
 pub fn after_eol(tokenizer: &mut Tokenizer) -> State
     requires { IsAt NeedsNothing (StateName.Title TitleState.AfterEol) (world tokenizer.old) }
     ensures to { result ≢ State.Error → result ≡ (after_eol_transition (world tokenizer.old)).to }
     ensures world { result ≢ State.Error → world tokenizer.new ≡ (after_eol_transition (world tokenizer.old)).world }
+    ensures rule { result ≢ State.Error →
+        TitleMeans TitleState.AfterEol (world tokenizer.old) result (world tokenizer.new) }
+    ensures full { OnError result (IsFull tokenizer.new) }
 {
     or_error!(tokenizer.exit(Name::Data));
     State::Retry(StateName::Title(TitleState::AtBreak))
@@ -130,10 +145,14 @@ pub fn after_eol(tokenizer: &mut Tokenizer) -> State
 /// > | d"
 ///     ^
 /// ```
+#[tactic(auto, using(crate::proofs::TitleMeaning::title_rule))]
 pub fn at_break(tokenizer: &mut Tokenizer) -> State
     requires { IsAt NeedsNothing (StateName.Title TitleState.AtBreak) (world tokenizer.old) }
     ensures to { result ≢ State.Error → result ≡ (at_break_transition (world tokenizer.old)).to }
     ensures world { result ≢ State.Error → world tokenizer.new ≡ (at_break_transition (world tokenizer.old)).world }
+    ensures rule { result ≢ State.Error →
+        TitleMeans TitleState.AtBreak (world tokenizer.old) result (world tokenizer.new) }
+    ensures full { OnError result (IsFull tokenizer.new) }
 {
     if tokenizer.current == Some(tokenizer.scratch.marker) {
         or_error!(tokenizer.exit(Name::DefinitionTitleString));
@@ -154,10 +173,14 @@ pub fn at_break(tokenizer: &mut Tokenizer) -> State
 /// > | [a]: b "c"
 ///             ^
 /// ```
+#[tactic(auto, using(crate::proofs::TitleMeaning::title_rule))]
 pub fn inside(tokenizer: &mut Tokenizer) -> State
     requires { IsAt NeedsNothing (StateName.Title TitleState.Inside) (world tokenizer.old) }
     ensures to { result ≢ State.Error → result ≡ (inside_transition (world tokenizer.old)).to }
     ensures world { result ≢ State.Error → world tokenizer.new ≡ (inside_transition (world tokenizer.old)).world }
+    ensures rule { result ≢ State.Error →
+        TitleMeans TitleState.Inside (world tokenizer.old) result (world tokenizer.new) }
+    ensures full { OnError result (IsFull tokenizer.new) }
 {
     let Some(byte) = tokenizer.current else {
         return refuse(tokenizer);
@@ -184,10 +207,12 @@ pub fn inside(tokenizer: &mut Tokenizer) -> State
 /// > | [a]: b "c\"d"
 ///               ^
 /// ```
+#[tactic(auto, using(crate::proofs::TitleMeaning::title_rule))]
 pub fn escape(tokenizer: &mut Tokenizer) -> State
     requires { IsAt NeedsNothing (StateName.Title TitleState.Escape) (world tokenizer.old) }
-    ensures to { result ≢ State.Error → result ≡ (escape_transition (world tokenizer.old)).to }
-    ensures world { result ≢ State.Error → world tokenizer.new ≡ (escape_transition (world tokenizer.old)).world }
+    ensures to { result ≡ (escape_transition (world tokenizer.old)).to }
+    ensures world { world tokenizer.new ≡ (escape_transition (world tokenizer.old)).world }
+    ensures rule { TitleMeans TitleState.Escape (world tokenizer.old) result (world tokenizer.new) }
 {
     if is_escaped(&tokenizer.scratch, tokenizer.current) {
         tokenizer.consume();
@@ -198,10 +223,13 @@ pub fn escape(tokenizer: &mut Tokenizer) -> State
 }
 
 /// Calls a state of a title.
+#[tactic(auto, using(crate::proofs::TitleMeaning::title_rule))]
 pub fn call(tokenizer: &mut Tokenizer, state: TitleState) -> State
     requires { IsAt NeedsNothing (StateName.Title state) (world tokenizer.old) }
     ensures to { result ≢ State.Error → result ≡ (title_transition state (world tokenizer.old)).to }
     ensures world { result ≢ State.Error → world tokenizer.new ≡ (title_transition state (world tokenizer.old)).world }
+    ensures rule { result ≢ State.Error → TitleMeans state (world tokenizer.old) result (world tokenizer.new) }
+    ensures full { OnError result (IsFull tokenizer.new) }
 {
     match state {
         TitleState::Start => start(tokenizer),
