@@ -3,26 +3,45 @@ use Rattle.md_engine.specs.World.{World, world}
 use Rattle.md_engine.specs.declared.state.list_item.State.TheVariants as its
 use Rattle.md_containers.specs.Item.{cont_blank_code, indent_code, inside_transition, refused}
 use Rattle.md_seam.specs.Spaces.{sees_white}
+use Rattle.md_seam.specs.Transition.{Transition}
+use Rattle.md_containers.proofs.ItemMeaning.{item_rule}
 use Rattle.md_containers.proofs.list_item.cont_blank.Goals as goal
 
 -- an item that started blank is refused before its indent
-started-blank : (w : World) (max : ℕ) → max ≡ 0 → w.flags.asked.starts_blank ≡ true →
-    w ≡ (cont_blank_code w max).world
+started-blank : (w : World) (max : ℕ) → max ≡ 0 → w.flags.asked.starts_blank ≡ true → refused w ≡ cont_blank_code w max
 started-blank w zero e b =
-    ap (λ (x : Bool). (cond x (refused w) (indent_code its.ContBlank 1 w (sees_white w.current))).world) (sym b)
+    ap (λ (x : Bool). cond x (refused w) (indent_code its.ContBlank 1 w (sees_white w.current))) (sym b)
 started-blank w (suc more) e b = absurd (omega (arith, e))
 
 -- one that was begun goes on
-gone-on : (w : World) (max : ℕ) → 0 < max → (inside_transition its.ContBlank w).world ≡ (cont_blank_code w max).world
+gone-on : (w : World) (max : ℕ) → 0 < max → inside_transition its.ContBlank w ≡ cont_blank_code w max
 gone-on w zero lt = absurd (omega (arith, lt))
 gone-on w (suc more) lt = refl
 
 pub returns-then-tokenizer-gt0-clause-world : goal.returns-then-tokenizer-gt0-clause-world
 returns-then-tokenizer-gt0-clause-world c fine =
     c.go_on_indent.ensures.world fine
-    ∙ gone-on (world c.args.tokenizer.now) c.args.tokenizer.now.scratch.whitespace.max c.if-tokenizer-gt0.true
+    ∙ ap (λ (t : Transition). t.world)
+    (gone-on (world c.args.tokenizer.now) c.args.tokenizer.now.scratch.whitespace.max c.if-tokenizer-gt0.true)
+
+pub returns-then-tokenizer-gt0-clause-rule : goal.returns-then-tokenizer-gt0-clause-rule
+returns-then-tokenizer-gt0-clause-rule c fine =
+    item_rule its.ContBlank (world c.args.tokenizer.now) _ _
+    (c.go_on_indent.ensures.to fine
+    ∙ ap (λ (t : Transition). t.to)
+    (gone-on (world c.args.tokenizer.now) c.args.tokenizer.now.scratch.whitespace.max c.if-tokenizer-gt0.true))
+    (returns-then-tokenizer-gt0-clause-world c fine)
 
 pub returns-then-tokenizer-clause-world : goal.returns-then-tokenizer-clause-world
 returns-then-tokenizer-clause-world c fine =
-    started-blank (world c.args.tokenizer.now) c.args.tokenizer.now.scratch.whitespace.max
-    (omega (arith, c.if-tokenizer-gt0.false)) c.if-tokenizer.true
+    ap (λ (t : Transition). t.world)
+    (started-blank (world c.args.tokenizer.now) c.args.tokenizer.now.scratch.whitespace.max
+    (omega (arith, c.if-tokenizer-gt0.false)) c.if-tokenizer.true)
+
+pub returns-then-tokenizer-clause-rule : goal.returns-then-tokenizer-clause-rule
+returns-then-tokenizer-clause-rule c fine =
+    item_rule its.ContBlank (world c.args.tokenizer.now) _ _
+    (ap (λ (t : Transition). t.to)
+    (started-blank (world c.args.tokenizer.now) c.args.tokenizer.now.scratch.whitespace.max
+    (omega (arith, c.if-tokenizer-gt0.false)) c.if-tokenizer.true))
+    (returns-then-tokenizer-clause-world c fine)
