@@ -85,7 +85,7 @@ fn take_mark(tokenizer: &mut Tokenizer, name: Name, next: TableState) -> State
 /// ```
 #[inline(always)]
 #[tactic(auto, using(crate::proofs::GfmTableMeaning::table_rule))]
-pub fn start(tokenizer: &mut Tokenizer) -> State
+pub fn head_delimiter_start(tokenizer: &mut Tokenizer) -> State
     requires { IsAt DelimiterNeeds (StateName.GfmTable TableState.HeadDelimiterStart) (world tokenizer.old) }
     ensures to { result ≢ State.Error → result ≡ (start_transition (world tokenizer.old)).to }
     ensures world { result ≢ State.Error → world tokenizer.new ≡ (start_transition (world tokenizer.old)).world }
@@ -108,7 +108,7 @@ pub fn start(tokenizer: &mut Tokenizer) -> State
 /// ```
 #[inline(always)]
 #[tactic(auto, using(crate::proofs::GfmTableMeaning::table_rule))]
-pub fn before(tokenizer: &mut Tokenizer) -> State
+pub fn head_delimiter_before(tokenizer: &mut Tokenizer) -> State
     requires { IsAt DelimiterNeeds (StateName.GfmTable TableState.HeadDelimiterBefore) (world tokenizer.old) }
     ensures to { result ≢ State.Error → result ≡ (before_transition (world tokenizer.old)).to }
     ensures world { result ≢ State.Error → world tokenizer.new ≡ (before_transition (world tokenizer.old)).world }
@@ -138,7 +138,7 @@ pub fn before(tokenizer: &mut Tokenizer) -> State
 /// ```
 #[inline(always)]
 #[tactic(auto, using(crate::proofs::GfmTableMeaning::table_rule))]
-pub fn cell_before(tokenizer: &mut Tokenizer) -> State
+pub fn head_delimiter_cell_before(tokenizer: &mut Tokenizer) -> State
     requires { IsAt DelimiterNeeds (StateName.GfmTable TableState.HeadDelimiterCellBefore) (world tokenizer.old) }
     ensures to { result ≢ State.Error → result ≡ (cell_before_transition (world tokenizer.old)).to }
     ensures world { result ≢ State.Error →
@@ -159,7 +159,7 @@ pub fn cell_before(tokenizer: &mut Tokenizer) -> State
 /// ```
 #[inline(always)]
 #[tactic(auto, using(crate::proofs::GfmTableMeaning::table_rule))]
-pub fn value_before(tokenizer: &mut Tokenizer) -> State
+pub fn head_delimiter_value_before(tokenizer: &mut Tokenizer) -> State
     requires { IsAt DelimiterNeeds (StateName.GfmTable TableState.HeadDelimiterValueBefore) (world tokenizer.old) }
     ensures to { result ≢ State.Error → result ≡ (value_before_transition (world tokenizer.old)).to }
     ensures world { result ≢ State.Error →
@@ -191,7 +191,7 @@ pub fn value_before(tokenizer: &mut Tokenizer) -> State
 /// ```
 #[inline(always)]
 #[tactic(auto, using(crate::proofs::GfmTableMeaning::table_rule))]
-pub fn left_alignment_after(tokenizer: &mut Tokenizer) -> State
+pub fn head_delimiter_left_alignment_after(tokenizer: &mut Tokenizer) -> State
     requires { IsAt DelimiterNeeds (StateName.GfmTable TableState.HeadDelimiterLeftAlignmentAfter) (world tokenizer.old) }
     ensures to { result ≢ State.Error → result ≡ (left_after_transition (world tokenizer.old)).to }
     ensures world { result ≢ State.Error → world tokenizer.new ≡ (left_after_transition (world tokenizer.old)).world }
@@ -218,7 +218,7 @@ pub fn left_alignment_after(tokenizer: &mut Tokenizer) -> State
 /// ```
 #[inline(always)]
 #[tactic(auto, using(crate::proofs::GfmTableMeaning::table_rule))]
-pub fn filler(tokenizer: &mut Tokenizer) -> State
+pub fn head_delimiter_filler(tokenizer: &mut Tokenizer) -> State
     requires { IsAt DelimiterNeeds (StateName.GfmTable TableState.HeadDelimiterFiller) (world tokenizer.old) }
     ensures to { result ≢ State.Error → result ≡ (filler_transition (world tokenizer.old)).to }
     ensures world { result ≢ State.Error → world tokenizer.new ≡ (filler_transition (world tokenizer.old)).world }
@@ -255,7 +255,7 @@ pub fn filler(tokenizer: &mut Tokenizer) -> State
 /// ```
 #[inline(always)]
 #[tactic(auto, using(crate::proofs::GfmTableMeaning::table_rule))]
-pub fn right_alignment_after(tokenizer: &mut Tokenizer) -> State
+pub fn head_delimiter_right_alignment_after(tokenizer: &mut Tokenizer) -> State
     requires { IsAt DelimiterNeeds (StateName.GfmTable TableState.HeadDelimiterRightAlignmentAfter) (world tokenizer.old) }
     ensures to { result ≢ State.Error → result ≡ (right_after_transition (world tokenizer.old)).to }
     ensures world { result ≢ State.Error → world tokenizer.new ≡ (right_after_transition (world tokenizer.old)).world }
@@ -275,7 +275,7 @@ pub fn right_alignment_after(tokenizer: &mut Tokenizer) -> State
 /// ```
 #[inline(always)]
 #[tactic(auto, using(crate::proofs::GfmTableMeaning::table_rule))]
-pub fn cell_after(tokenizer: &mut Tokenizer) -> State
+pub fn head_delimiter_cell_after(tokenizer: &mut Tokenizer) -> State
     requires { IsAt DelimiterNeeds (StateName.GfmTable TableState.HeadDelimiterCellAfter) (world tokenizer.old) }
     ensures to { result ≢ State.Error → result ≡ (cell_after_transition (world tokenizer.old)).to }
     ensures world { result ≢ State.Error → world tokenizer.new ≡ (cell_after_transition (world tokenizer.old)).world }
@@ -326,27 +326,5 @@ pub fn takes_at_once(state: TableState) -> Option<Stay>
     match state {
         TableState::HeadDelimiterFiller => Some(Stay::Byte(b'-')),
         _ => None,
-    }
-}
-
-/// Calls a state of a delimiter row.
-#[inline(always)]
-pub fn call(tokenizer: &mut Tokenizer, state: TableState) -> State
-    requires { IsAt DelimiterNeeds (StateName.GfmTable state) (world tokenizer.old) }
-    ensures to { result ≢ State.Error → result ≡ (delimiter_transition state (world tokenizer.old)).to }
-    ensures world { result ≢ State.Error →
-        world tokenizer.new ≡ (delimiter_transition state (world tokenizer.old)).world }
-    ensures full { OnError result (IsFull tokenizer.new) }
-{
-    match state {
-        TableState::HeadDelimiterStart => start(tokenizer),
-        TableState::HeadDelimiterBefore => before(tokenizer),
-        TableState::HeadDelimiterCellBefore => cell_before(tokenizer),
-        TableState::HeadDelimiterValueBefore => value_before(tokenizer),
-        TableState::HeadDelimiterLeftAlignmentAfter => left_alignment_after(tokenizer),
-        TableState::HeadDelimiterFiller => filler(tokenizer),
-        TableState::HeadDelimiterRightAlignmentAfter => right_alignment_after(tokenizer),
-        TableState::HeadDelimiterCellAfter => cell_after(tokenizer),
-        _ => head_delimiter_nok(tokenizer),
     }
 }

@@ -18,6 +18,16 @@ ghost use Rattle.md_seam.specs.Look.{may_with};
 ghost use Rattle.md_tables.specs.GfmTable.{AnswersWith, TableNeeds, head_row_start_transition, may_begin, may_head};
 ghost use Rattle.md_tables.specs.GfmTable.{start_transition, table_transition};
 ghost use Rattle.md_tables.specs.GfmTableRule.{TableMeans};
+ghost use Rattle.md_tables.specs.Row.{row_transition};
+ghost use Rattle.md_tables.specs.declared.row.Place.{Place};
+ghost use Rattle.md_tables.specs.declared.row.Row.{Row};
+
+pub use crate::delimiter::{
+    head_delimiter_before, head_delimiter_cell_after, head_delimiter_cell_before,
+    head_delimiter_filler, head_delimiter_left_alignment_after, head_delimiter_nok,
+    head_delimiter_right_alignment_after, head_delimiter_start, head_delimiter_value_before,
+};
+pub use crate::tables::resolve;
 
 use crate::delimiter;
 use crate::row::{self, Place, Row};
@@ -80,6 +90,26 @@ pub fn start(tokenizer: &mut Tokenizer) -> State
     }
 }
 
+/// Before the head, which is read again once it is known to be one.
+///
+/// ```markdown
+/// > | | a |
+///     ^
+///   | | - |
+/// ```
+#[tactic(auto, using(crate::proofs::GfmTableMeaning::table_rule))]
+pub fn head_row_before(tokenizer: &mut Tokenizer) -> State
+    requires { IsAt TableNeeds (StateName.GfmTable TableState.HeadRowBefore) (world tokenizer.old) }
+    ensures to { result ≢ State.Error → result ≡ (row_transition Row.Head Place.Start (world tokenizer.old)).to }
+    ensures world { result ≢ State.Error →
+        world tokenizer.new ≡ (row_transition Row.Head Place.Start (world tokenizer.old)).world }
+    ensures rule { result ≢ State.Error →
+        TableMeans TableState.HeadRowBefore (world tokenizer.old) result (world tokenizer.new) }
+    ensures full { OnError result (IsFull tokenizer.new) }
+{
+    row::start(tokenizer, Row::Head)
+}
+
 /// Behind the indent of the head: goes on with its first part.
 ///
 /// ```markdown
@@ -95,6 +125,185 @@ pub fn head_row_start(tokenizer: &mut Tokenizer) -> State
     ensures rule { TableMeans TableState.HeadRowStart (world tokenizer.old) result (world tokenizer.new) }
 {
     State::Retry(StateName::GfmTable(TableState::HeadRowBreak))
+}
+
+/// Between two parts of the head, or at its end.
+///
+/// ```markdown
+/// > | | a |
+///     ^ ^ ^
+///   | | - |
+/// ```
+#[tactic(auto, using(crate::proofs::GfmTableMeaning::table_rule))]
+pub fn head_row_break(tokenizer: &mut Tokenizer) -> State
+    requires { IsAt TableNeeds (StateName.GfmTable TableState.HeadRowBreak) (world tokenizer.old) }
+    ensures to { result ≢ State.Error → result ≡ (row_transition Row.Head Place.Break (world tokenizer.old)).to }
+    ensures world { result ≢ State.Error →
+        world tokenizer.new ≡ (row_transition Row.Head Place.Break (world tokenizer.old)).world }
+    ensures rule { result ≢ State.Error →
+        TableMeans TableState.HeadRowBreak (world tokenizer.old) result (world tokenizer.new) }
+    ensures full { OnError result (IsFull tokenizer.new) }
+{
+    row::at_break(tokenizer, Row::Head)
+}
+
+/// In a word of the head.
+///
+/// ```markdown
+/// > | | ab |
+///       ^^
+///   | | -- |
+/// ```
+#[tactic(auto, using(crate::proofs::GfmTableMeaning::table_rule))]
+pub fn head_row_data(tokenizer: &mut Tokenizer) -> State
+    requires { IsAt TableNeeds (StateName.GfmTable TableState.HeadRowData) (world tokenizer.old) }
+    ensures to { result ≢ State.Error → result ≡ (row_transition Row.Head Place.Data (world tokenizer.old)).to }
+    ensures world { result ≢ State.Error →
+        world tokenizer.new ≡ (row_transition Row.Head Place.Data (world tokenizer.old)).world }
+    ensures rule { result ≢ State.Error →
+        TableMeans TableState.HeadRowData (world tokenizer.old) result (world tokenizer.new) }
+    ensures full { OnError result (IsFull tokenizer.new) }
+{
+    row::data(tokenizer, Row::Head)
+}
+
+/// Behind `\` in a word of the head.
+///
+/// ```markdown
+/// > | | a\|b |
+///         ^
+///   | | ---- |
+/// ```
+#[tactic(auto, using(crate::proofs::GfmTableMeaning::table_rule))]
+pub fn head_row_escape(tokenizer: &mut Tokenizer) -> State
+    requires { IsAt TableNeeds (StateName.GfmTable TableState.HeadRowEscape) (world tokenizer.old) }
+    ensures to { result ≡ (row_transition Row.Head Place.Escape (world tokenizer.old)).to }
+    ensures world { world tokenizer.new ≡ (row_transition Row.Head Place.Escape (world tokenizer.old)).world }
+    ensures rule { TableMeans TableState.HeadRowEscape (world tokenizer.old) result (world tokenizer.new) }
+{
+    row::escape(tokenizer, Row::Head)
+}
+
+/// Behind a pipe of the head.
+///
+/// ```markdown
+/// > | | a |
+///      ^   ^
+///   | | - |
+/// ```
+#[tactic(auto, using(crate::proofs::GfmTableMeaning::table_rule))]
+pub fn head_row_cell_before(tokenizer: &mut Tokenizer) -> State
+    requires { IsAt TableNeeds (StateName.GfmTable TableState.HeadRowCellBefore) (world tokenizer.old) }
+    ensures to { result ≢ State.Error → result ≡ (row_transition Row.Head Place.CellBefore (world tokenizer.old)).to }
+    ensures world { result ≢ State.Error →
+        world tokenizer.new ≡ (row_transition Row.Head Place.CellBefore (world tokenizer.old)).world }
+    ensures rule { result ≢ State.Error →
+        TableMeans TableState.HeadRowCellBefore (world tokenizer.old) result (world tokenizer.new) }
+    ensures full { OnError result (IsFull tokenizer.new) }
+{
+    row::cell_before(tokenizer, Row::Head)
+}
+
+/// Before a row of the body.
+///
+/// ```markdown
+///   | | a |
+///   | | - |
+/// > | | b |
+///     ^
+/// ```
+#[tactic(auto, using(crate::proofs::GfmTableMeaning::table_rule))]
+pub fn body_row_start(tokenizer: &mut Tokenizer) -> State
+    requires { IsAt TableNeeds (StateName.GfmTable TableState.BodyRowStart) (world tokenizer.old) }
+    ensures to { result ≢ State.Error → result ≡ (row_transition Row.Body Place.Start (world tokenizer.old)).to }
+    ensures world { result ≢ State.Error →
+        world tokenizer.new ≡ (row_transition Row.Body Place.Start (world tokenizer.old)).world }
+    ensures rule { result ≢ State.Error →
+        TableMeans TableState.BodyRowStart (world tokenizer.old) result (world tokenizer.new) }
+    ensures full { OnError result (IsFull tokenizer.new) }
+{
+    row::start(tokenizer, Row::Body)
+}
+
+/// Between two parts of a row of the body, or at its end.
+///
+/// ```markdown
+///   | | a |
+///   | | - |
+/// > | | b |
+///     ^ ^ ^
+/// ```
+#[tactic(auto, using(crate::proofs::GfmTableMeaning::table_rule))]
+pub fn body_row_break(tokenizer: &mut Tokenizer) -> State
+    requires { IsAt TableNeeds (StateName.GfmTable TableState.BodyRowBreak) (world tokenizer.old) }
+    ensures to { result ≢ State.Error → result ≡ (row_transition Row.Body Place.Break (world tokenizer.old)).to }
+    ensures world { result ≢ State.Error →
+        world tokenizer.new ≡ (row_transition Row.Body Place.Break (world tokenizer.old)).world }
+    ensures rule { result ≢ State.Error →
+        TableMeans TableState.BodyRowBreak (world tokenizer.old) result (world tokenizer.new) }
+    ensures full { OnError result (IsFull tokenizer.new) }
+{
+    row::at_break(tokenizer, Row::Body)
+}
+
+/// In a word of the body.
+///
+/// ```markdown
+///   | | a  |
+///   | | -- |
+/// > | | bc |
+///       ^^
+/// ```
+#[tactic(auto, using(crate::proofs::GfmTableMeaning::table_rule))]
+pub fn body_row_data(tokenizer: &mut Tokenizer) -> State
+    requires { IsAt TableNeeds (StateName.GfmTable TableState.BodyRowData) (world tokenizer.old) }
+    ensures to { result ≢ State.Error → result ≡ (row_transition Row.Body Place.Data (world tokenizer.old)).to }
+    ensures world { result ≢ State.Error →
+        world tokenizer.new ≡ (row_transition Row.Body Place.Data (world tokenizer.old)).world }
+    ensures rule { result ≢ State.Error →
+        TableMeans TableState.BodyRowData (world tokenizer.old) result (world tokenizer.new) }
+    ensures full { OnError result (IsFull tokenizer.new) }
+{
+    row::data(tokenizer, Row::Body)
+}
+
+/// Behind `\` in a word of the body.
+///
+/// ```markdown
+///   | | a    |
+///   | | ---- |
+/// > | | b\|c |
+///         ^
+/// ```
+#[tactic(auto, using(crate::proofs::GfmTableMeaning::table_rule))]
+pub fn body_row_escape(tokenizer: &mut Tokenizer) -> State
+    requires { IsAt TableNeeds (StateName.GfmTable TableState.BodyRowEscape) (world tokenizer.old) }
+    ensures to { result ≡ (row_transition Row.Body Place.Escape (world tokenizer.old)).to }
+    ensures world { world tokenizer.new ≡ (row_transition Row.Body Place.Escape (world tokenizer.old)).world }
+    ensures rule { TableMeans TableState.BodyRowEscape (world tokenizer.old) result (world tokenizer.new) }
+{
+    row::escape(tokenizer, Row::Body)
+}
+
+/// Behind a pipe of the body.
+///
+/// ```markdown
+///   | | a |
+///   | | - |
+/// > | | b |
+///      ^   ^
+/// ```
+#[tactic(auto, using(crate::proofs::GfmTableMeaning::table_rule))]
+pub fn body_row_cell_before(tokenizer: &mut Tokenizer) -> State
+    requires { IsAt TableNeeds (StateName.GfmTable TableState.BodyRowCellBefore) (world tokenizer.old) }
+    ensures to { result ≢ State.Error → result ≡ (row_transition Row.Body Place.CellBefore (world tokenizer.old)).to }
+    ensures world { result ≢ State.Error →
+        world tokenizer.new ≡ (row_transition Row.Body Place.CellBefore (world tokenizer.old)).world }
+    ensures rule { result ≢ State.Error →
+        TableMeans TableState.BodyRowCellBefore (world tokenizer.old) result (world tokenizer.new) }
+    ensures full { OnError result (IsFull tokenizer.new) }
+{
+    row::cell_before(tokenizer, Row::Body)
 }
 
 /// What a state of a table only takes.
@@ -121,18 +330,26 @@ pub fn call(tokenizer: &mut Tokenizer, state: TableState) -> State
 {
     match state {
         TableState::Start => start(tokenizer),
-        TableState::HeadRowBefore => row::call(tokenizer, Row::Head, Place::Start),
+        TableState::HeadRowBefore => head_row_before(tokenizer),
         TableState::HeadRowStart => head_row_start(tokenizer),
-        TableState::HeadRowBreak => row::call(tokenizer, Row::Head, Place::Break),
-        TableState::HeadRowData => row::call(tokenizer, Row::Head, Place::Data),
-        TableState::HeadRowEscape => row::call(tokenizer, Row::Head, Place::Escape),
-        TableState::HeadRowCellBefore => row::call(tokenizer, Row::Head, Place::CellBefore),
-        TableState::BodyRowStart => row::call(tokenizer, Row::Body, Place::Start),
-        TableState::BodyRowBreak => row::call(tokenizer, Row::Body, Place::Break),
-        TableState::BodyRowData => row::call(tokenizer, Row::Body, Place::Data),
-        TableState::BodyRowEscape => row::call(tokenizer, Row::Body, Place::Escape),
-        TableState::BodyRowCellBefore => row::call(tokenizer, Row::Body, Place::CellBefore),
-        _ => delimiter::call(tokenizer, state),
+        TableState::HeadRowBreak => head_row_break(tokenizer),
+        TableState::HeadRowData => head_row_data(tokenizer),
+        TableState::HeadRowEscape => head_row_escape(tokenizer),
+        TableState::HeadRowCellBefore => head_row_cell_before(tokenizer),
+        TableState::HeadDelimiterStart => head_delimiter_start(tokenizer),
+        TableState::HeadDelimiterBefore => head_delimiter_before(tokenizer),
+        TableState::HeadDelimiterCellBefore => head_delimiter_cell_before(tokenizer),
+        TableState::HeadDelimiterValueBefore => head_delimiter_value_before(tokenizer),
+        TableState::HeadDelimiterLeftAlignmentAfter => head_delimiter_left_alignment_after(tokenizer),
+        TableState::HeadDelimiterFiller => head_delimiter_filler(tokenizer),
+        TableState::HeadDelimiterRightAlignmentAfter => head_delimiter_right_alignment_after(tokenizer),
+        TableState::HeadDelimiterCellAfter => head_delimiter_cell_after(tokenizer),
+        TableState::HeadDelimiterNok => head_delimiter_nok(tokenizer),
+        TableState::BodyRowStart => body_row_start(tokenizer),
+        TableState::BodyRowBreak => body_row_break(tokenizer),
+        TableState::BodyRowData => body_row_data(tokenizer),
+        TableState::BodyRowEscape => body_row_escape(tokenizer),
+        TableState::BodyRowCellBefore => body_row_cell_before(tokenizer),
     }
 }
 

@@ -8,6 +8,7 @@ ghost use Rattle.std.specs.Prelude.{◌≡◌, ◌≢◌, ◌≤◌, ◌++◌, I
 ghost use Rattle.std.specs.List.{prefix_len};
 ghost use Rattle.std.specs.Option.{option_map};
 ghost use Rattle.md_engine.specs.Found.{found_in};
+ghost use Rattle.md_engine.specs.Full.{IsFull, OnError};
 ghost use Rattle.md_engine.specs.Going.{SeesOn};
 ghost use Rattle.md_engine.specs.Run.{RunsHere};
 ghost use Rattle.md_engine.specs.Place.{IsPlaced};
@@ -48,6 +49,7 @@ fn call_state(tokenizer: &mut Tokenizer, name: StateName) -> State
     ensures runs { result ≢ State.Error →
         RunsHere HeadStep name (world tokenizer.old) result (world tokenizer.new) }
     ensures sees { result ≢ State.Error → SeesOn result (world tokenizer.old) (world tokenizer.new) }
+    ensures full { OnError result (IsFull tokenizer.new) }
 {
     match name {
         StateName::GfmTable(state) => match place_of(Row::Head, state) {

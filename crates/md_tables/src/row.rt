@@ -277,21 +277,3 @@ pub fn takes_at_once(row: Row, place: Place) -> Option<Stay>
         _ => None,
     }
 }
-
-/// Calls a state of a row.
-#[tactic(auto, using(crate::proofs::RowMeaning::row_rule))]
-pub fn call(tokenizer: &mut Tokenizer, row: Row, place: Place) -> State
-    requires { IsAt NeedsNothing (StateName.GfmTable (state_at row place)) (world tokenizer.old) }
-    ensures to { result ≢ State.Error → result ≡ (row_transition row place (world tokenizer.old)).to }
-    ensures world { result ≢ State.Error → world tokenizer.new ≡ (row_transition row place (world tokenizer.old)).world }
-    ensures rule { result ≢ State.Error → RowMeans row place (world tokenizer.old) result (world tokenizer.new) }
-    ensures full { OnError result (IsFull tokenizer.new) }
-{
-    match place {
-        Place::Start => start(tokenizer, row),
-        Place::Break => at_break(tokenizer, row),
-        Place::Data => data(tokenizer, row),
-        Place::Escape => escape(tokenizer, row),
-        Place::CellBefore => cell_before(tokenizer, row),
-    }
-}

@@ -5,7 +5,8 @@
 // Most parts of a row stand alone between single spaces. So what the states do one after another with pipes, words and
 // single spaces is done here in one call. It comes to the same.
 
-ghost use Rattle.std.specs.Prelude.{◌≡◌, ◌≢◌, ◌<◌, ◌≤◌, ◌⊎◌, IfSome, None, OnOk, Some, false, true};
+ghost use Rattle.std.specs.Prelude.{◌≡◌, ◌≢◌, ◌<◌, ◌≤◌, ◌⊎◌, IfSome, None, OnOk, Some, false, is_err, true};
+ghost use Rattle.md_engine.specs.Full.{IsFull, OnError};
 ghost use Rattle.md_engine.specs.Going.{SeesOn};
 ghost use Rattle.md_engine.specs.Run.{RunsHere};
 ghost use Rattle.md_engine.specs.Scheme.{cells_left};
@@ -66,7 +67,8 @@ fn is_escaped(current: Option<u8>) -> bool
 /// Begins the row.
 #[inline(always)]
 fn begin_row(tokenizer: &mut Tokenizer, row: Row) -> Result<(), Message>
-    ensures { OnOk result (world tokenizer.new ≡ begun row (world tokenizer.old)) }
+    ensures world { OnOk result (world tokenizer.new ≡ begun row (world tokenizer.old)) }
+    ensures full { is_err result ≡ true → IsFull tokenizer.new }
 {
     if matches!(row, Row::Body) {
         tokenizer.enter_link(Name::GfmTable, FURTHER)?;
@@ -79,7 +81,8 @@ fn begin_row(tokenizer: &mut Tokenizer, row: Row) -> Result<(), Message>
 fn take_pipe(tokenizer: &mut Tokenizer) -> Result<(), Message>
     requires current { (world tokenizer.old).current ≡ looks (world tokenizer.old) }
     requires pipe { (world tokenizer.old).current ≡ Some pipe }
-    ensures { OnOk result (world tokenizer.new ≡ divided (world tokenizer.old)) }
+    ensures world { OnOk result (world tokenizer.new ≡ divided (world tokenizer.old)) }
+    ensures full { is_err result ≡ true → IsFull tokenizer.new }
 {
     tokenizer.enter(Name::GfmTableCellDivider)?;
     tokenizer.consume();
@@ -111,6 +114,7 @@ fn gap(tokenizer: &mut Tokenizer, row: Row) -> Option<State>
         (λ to. to ≢ State.Error →
         world tokenizer.new ≡
         (behind_part row (world tokenizer.old) (sees_white tokenizer.old.current)).world) }
+    ensures full { IfSome result (λ to. OnError to (IsFull tokenizer.new)) }
 {
     if is_one_space(tokenizer) {
         if take_one_space(tokenizer).is_err() {
@@ -128,7 +132,8 @@ fn gap(tokenizer: &mut Tokenizer, row: Row) -> Option<State>
 #[inline(always)]
 fn take_to(tokenizer: &mut Tokenizer, row: Row, place: Place) -> Option<State>
     requires { (world tokenizer.old).point.index < (world tokenizer.old).setting.limit }
-    ensures { TakesTo row place (world tokenizer.old) result (world tokenizer.new) }
+    ensures takes { TakesTo row place (world tokenizer.old) result (world tokenizer.new) }
+    ensures full { IfSome result (λ to. OnError to (IsFull tokenizer.new)) }
 {
     tokenizer.consume();
     if tokenizer.see_or_wait(false) {
@@ -152,6 +157,7 @@ fn pass_plain(tokenizer: &mut Tokenizer, row: Row) -> Option<State>
         is_text (piece (world tokenizer.new).current) ≡ false →
         cells_left (world tokenizer.new).setting.limit (world tokenizer.new).point <
         cells_left (world tokenizer.old).setting.limit (world tokenizer.old).point }
+    ensures full { IfSome result (λ to. OnError to (IsFull tokenizer.new)) }
 {
     take_plain(tokenizer);
     if tokenizer.see_or_wait(false) {
@@ -176,6 +182,7 @@ fn pass_escape(tokenizer: &mut Tokenizer, row: Row) -> Option<State>
     ensures rests { result ≡ None →
         cells_left (world tokenizer.new).setting.limit (world tokenizer.new).point ≤
         cells_left (world tokenizer.old).setting.limit (world tokenizer.old).point }
+    ensures full { IfSome result (λ to. OnError to (IsFull tokenizer.new)) }
 {
     if is_escaped(tokenizer.current) {
         take_to(tokenizer, row, Place::Data)
@@ -201,6 +208,7 @@ fn pass_text(tokenizer: &mut Tokenizer, row: Row) -> Option<State>
     ensures falls { result ≡ None →
         cells_left (world tokenizer.new).setting.limit (world tokenizer.new).point <
         cells_left (world tokenizer.old).setting.limit (world tokenizer.old).point }
+    ensures full { IfSome result (λ to. OnError to (IsFull tokenizer.new)) }
 {
     if is_backslash(tokenizer.current) {
         if let Some(state) = take_to(tokenizer, row, Place::Escape) {
@@ -223,6 +231,7 @@ fn pass_rest(tokenizer: &mut Tokenizer, row: Row) -> Option<State>
         (world tokenizer.new ≡ world tokenizer.old) ⊎
         (cells_left (world tokenizer.new).setting.limit (world tokenizer.new).point <
         cells_left (world tokenizer.old).setting.limit (world tokenizer.old).point) }
+    ensures full { IfSome result (λ to. OnError to (IsFull tokenizer.new)) }
 {
     while sees_text(tokenizer.current) {
         if let Some(state) = pass_text(tokenizer, row) {
@@ -253,6 +262,7 @@ fn end_word(tokenizer: &mut Tokenizer, row: Row) -> Option<State>
     ensures falls { result ≡ None → is_text (piece (world tokenizer.old).current) ≡ true →
         cells_left (world tokenizer.new).setting.limit (world tokenizer.new).point <
         cells_left (world tokenizer.old).setting.limit (world tokenizer.old).point }
+    ensures full { IfSome result (λ to. OnError to (IsFull tokenizer.new)) }
 {
     if let Some(state) = pass_rest(tokenizer, row) {
         return Some(state);
@@ -279,6 +289,7 @@ fn pass_word(tokenizer: &mut Tokenizer, row: Row) -> Option<State>
     ensures falls { result ≡ None →
         cells_left (world tokenizer.new).setting.limit (world tokenizer.new).point <
         cells_left (world tokenizer.old).setting.limit (world tokenizer.old).point }
+    ensures full { IfSome result (λ to. OnError to (IsFull tokenizer.new)) }
 {
     if tokenizer.enter_link(Name::Data, TEXT_LINK).is_err() {
         return Some(State::Error);
@@ -305,6 +316,7 @@ fn pass_pipe(tokenizer: &mut Tokenizer, row: Row) -> Option<State>
     ensures falls { result ≡ None →
         cells_left (world tokenizer.new).setting.limit (world tokenizer.new).point <
         cells_left (world tokenizer.old).setting.limit (world tokenizer.old).point }
+    ensures full { IfSome result (λ to. OnError to (IsFull tokenizer.new)) }
 {
     if take_pipe(tokenizer).is_err() {
         return Some(State::Error);
@@ -330,6 +342,7 @@ fn pass_part(tokenizer: &mut Tokenizer, row: Row) -> Option<State>
     ensures falls { result ≡ None →
         cells_left (world tokenizer.new).setting.limit (world tokenizer.new).point <
         cells_left (world tokenizer.old).setting.limit (world tokenizer.old).point }
+    ensures full { IfSome result (λ to. OnError to (IsFull tokenizer.new)) }
 {
     if is_pipe(tokenizer.current) {
         pass_pipe(tokenizer, row)
@@ -354,6 +367,7 @@ fn parts(tokenizer: &mut Tokenizer, row: Row) -> State
     ensures runs { result ≢ State.Error →
         RunsHere (RowStep row) (name_at row Place.Break) (world tokenizer.old) result (world tokenizer.new) }
     ensures sees { result ≢ State.Error → SeesOn result (world tokenizer.old) (world tokenizer.new) }
+    ensures full { OnError result (IsFull tokenizer.new) }
 {
     loop {
         if let Some(state) = pass_part(tokenizer, row) {
@@ -373,7 +387,8 @@ fn parts(tokenizer: &mut Tokenizer, row: Row) -> State
 #[inline(always)]
 fn begin(tokenizer: &mut Tokenizer, row: Row) -> Option<State>
     requires { IsAt NeedsNothing (name_at row Place.Start) (world tokenizer.old) }
-    ensures { Goes row (name_at row Place.Start) (world tokenizer.old) result (world tokenizer.new) }
+    ensures goes { Goes row (name_at row Place.Start) (world tokenizer.old) result (world tokenizer.new) }
+    ensures full { IfSome result (λ to. OnError to (IsFull tokenizer.new)) }
 {
     if begin_row(tokenizer, row).is_err() {
         return Some(State::Error);
@@ -392,7 +407,8 @@ fn begin(tokenizer: &mut Tokenizer, row: Row) -> Option<State>
 #[inline(always)]
 fn behind_pipe(tokenizer: &mut Tokenizer, row: Row) -> Option<State>
     requires { IsAt NeedsNothing (name_at row Place.CellBefore) (world tokenizer.old) }
-    ensures { Goes row (name_at row Place.CellBefore) (world tokenizer.old) result (world tokenizer.new) }
+    ensures goes { Goes row (name_at row Place.CellBefore) (world tokenizer.old) result (world tokenizer.new) }
+    ensures full { IfSome result (λ to. OnError to (IsFull tokenizer.new)) }
 {
     gap(tokenizer, row)
 }
@@ -408,7 +424,8 @@ fn behind_pipe(tokenizer: &mut Tokenizer, row: Row) -> Option<State>
 #[inline(always)]
 fn behind_backslash(tokenizer: &mut Tokenizer, row: Row) -> Option<State>
     requires { IsAt NeedsNothing (name_at row Place.Escape) (world tokenizer.old) }
-    ensures { Goes row (name_at row Place.Escape) (world tokenizer.old) result (world tokenizer.new) }
+    ensures goes { Goes row (name_at row Place.Escape) (world tokenizer.old) result (world tokenizer.new) }
+    ensures full { IfSome result (λ to. OnError to (IsFull tokenizer.new)) }
 {
     if let Some(state) = pass_escape(tokenizer, row) {
         return Some(state);
@@ -420,7 +437,8 @@ fn behind_backslash(tokenizer: &mut Tokenizer, row: Row) -> Option<State>
 #[inline(always)]
 fn reach(tokenizer: &mut Tokenizer, row: Row, place: Place) -> Option<State>
     requires { IsAt NeedsNothing (name_at row place) (world tokenizer.old) }
-    ensures { Goes row (name_at row place) (world tokenizer.old) result (world tokenizer.new) }
+    ensures goes { Goes row (name_at row place) (world tokenizer.old) result (world tokenizer.new) }
+    ensures full { IfSome result (λ to. OnError to (IsFull tokenizer.new)) }
 {
     match place {
         Place::Start => begin(tokenizer, row),
@@ -438,6 +456,7 @@ pub fn call(tokenizer: &mut Tokenizer, row: Row, place: Place) -> State
     ensures runs { result ≢ State.Error →
         RunsHere (RowStep row) (name_at row place) (world tokenizer.old) result (world tokenizer.new) }
     ensures sees { result ≢ State.Error → SeesOn result (world tokenizer.old) (world tokenizer.new) }
+    ensures full { OnError result (IsFull tokenizer.new) }
 {
     match reach(tokenizer, row, place) {
         Some(state) => state,

@@ -4,8 +4,8 @@ use Rattle.md_tables.specs.declared.row.Place.TheVariants as place
 use Rattle.md_tables.proofs.RowWords.{goes-on}
 use Rattle.md_tables.proofs.row_words.behind_backslash.Goals as goal
 
-pub returns : goal.returns
-returns c =
+pub returns-clause-goes : goal.returns-clause-goes
+returns-clause-goes c =
     let r = c.args.row in
     goes-on r (name_at r place.Escape) (world c.args.tokenizer.now) (name_at r place.Data)
     (world c.pass_escape.new.tokenizer) (name_at r place.Break) c.end_word.result (world c.end_word.new.tokenizer)

@@ -7,8 +7,8 @@ use Rattle.md_tables.specs.declared.row.Place.TheVariants as place
 use Rattle.md_tables.proofs.RowWords.{gap-goes, stood-first}
 use Rattle.md_tables.proofs.row_words.behind_pipe.Goals as goal
 
-pub returns : goal.returns
-returns c =
+pub returns-clause-goes : goal.returns-clause-goes
+returns-clause-goes c =
     let r = c.args.row in
     let name = name_at r place.CellBefore in
     let w = world c.args.tokenizer.now in

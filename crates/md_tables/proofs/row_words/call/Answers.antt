@@ -8,5 +8,5 @@ pub returns-in-None-clause-sees : goal.returns-in-None-clause-sees
 returns-in-None-clause-sees c = λ fine.
     let r = c.args.row in
     (passes-runs r (name_at r c.args.place) (world c.args.tokenizer.now) (name_at r place.Break)
-    (world c.reach.new.tokenizer) c.parts.result (world c.parts.new.tokenizer) c.in-None.ensures
+    (world c.reach.new.tokenizer) c.parts.result (world c.parts.new.tokenizer) c.in-None.ensures.goes
     (c.parts.ensures.runs fine) (c.parts.ensures.sees fine)).1

@@ -12,7 +12,7 @@ returns-then-is_escaped-clause-goes c =
     let w = world c.args.tokenizer.now in
     takes-goes r (name_at r place.Escape) place.Data w c.take_to.result (world c.take_to.new.tokenizer)
     c.requires.current (within-world c.args.tokenizer.now)
-    (escaped-step r w (sym c.is_escaped.ensures ∙ c.if-is_escaped.true)) c.take_to.ensures
+    (escaped-step r w (sym c.is_escaped.ensures ∙ c.if-is_escaped.true)) c.take_to.ensures.takes
 
 pub returns-else-is_escaped-clause-goes : goal.returns-else-is_escaped-clause-goes
 returns-else-is_escaped-clause-goes c =

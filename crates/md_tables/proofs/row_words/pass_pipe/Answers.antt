@@ -21,7 +21,7 @@ returns-then-see_or_wait-clause-goes c = λ fine.
     let w = world c.args.tokenizer.now in
     let u = world c.take_pipe.new.tokenizer in
     let has_taken : is_ok c.take_pipe.result ≡ true = c.if-is_err.ensures.negation in
-    let is : u ≡ divided w = on-ok c.take_pipe.result (u ≡ divided w) has_taken c.take_pipe.ensures in (
+    let is : u ≡ divided w = on-ok c.take_pipe.result (u ≡ divided w) has_taken c.take_pipe.ensures.world in (
       subst (λ (name : StateName). RunsHere (RowStep r) first w (Next name) (world c.see_or_wait.new.self))
           (sym c.name_at.ensures)
           (subst (RunsHere (RowStep r) first w (Next (name_at r place.CellBefore)))
@@ -40,7 +40,7 @@ returns-clause-goes c =
     let u = world c.take_pipe.new.tokenizer in
     let v = world c.see_or_wait.new.self in
     let has_taken : is_ok c.take_pipe.result ≡ true = c.if-is_err.ensures.negation in
-    let is : u ≡ divided w = on-ok c.take_pipe.result (u ≡ divided w) has_taken c.take_pipe.ensures in
+    let is : u ≡ divided w = on-ok c.take_pipe.result (u ≡ divided w) has_taken c.take_pipe.ensures.world in
     let behind : (divided w).point.index < (divided w).setting.limit =
     subst (λ (y : World). y.point.index < y.setting.limit) is (ahead (c.if-see_or_wait.ensures.goes_on refl)) in
     let sees : v ≡ reading (divided w) = c.if-see_or_wait.ensures.sees refl ∙ ap (λ (y : World). reading y) is in
@@ -58,7 +58,7 @@ returns-clause-falls c = λ none.
     let u = world c.take_pipe.new.tokenizer in
     let v = world c.see_or_wait.new.self in
     let has_taken : is_ok c.take_pipe.result ≡ true = c.if-is_err.ensures.negation in
-    let is : u ≡ divided w = on-ok c.take_pipe.result (u ≡ divided w) has_taken c.take_pipe.ensures in
+    let is : u ≡ divided w = on-ok c.take_pipe.result (u ≡ divided w) has_taken c.take_pipe.ensures.world in
     let sees : v ≡ reading (divided w) = c.if-see_or_wait.ensures.sees refl ∙ ap (λ (y : World). reading y) is in
     let same : cells_left v.setting.limit v.point ≡ cells_left (divided w).setting.limit (divided w).point =
     ap (λ (y : World). cells_left y.setting.limit y.point) sees in

@@ -12,7 +12,7 @@ returns-in-Some-clause-goes c =
     let w = world c.args.tokenizer.now in
     takes-goes r (name_at r place.Data) place.Escape w (Some c.in-Some.state) (world c.take_to.new.tokenizer)
     c.requires.at.current (within-world c.args.tokenizer.now)
-    (text-step r w true c.requires.text (sym c.is_backslash.ensures ∙ c.if-is_backslash.true)) c.in-Some.ensures
+    (text-step r w true c.requires.text (sym c.is_backslash.ensures ∙ c.if-is_backslash.true)) c.in-Some.ensures.takes
 
 pub returns-in_default-clause-goes : goal.returns-in_default-clause-goes
 returns-in_default-clause-goes c =
@@ -22,7 +22,7 @@ returns-in_default-clause-goes c =
     let u = world c.take_to.new.tokenizer in
     goes-on r name w (name_at r place.Escape) u name c.pass_escape.result (world c.pass_escape.new.tokenizer)
     (takes-goes r name place.Escape w None u c.requires.at.current (within-world c.args.tokenizer.now)
-    (text-step r w true c.requires.text (sym c.is_backslash.ensures ∙ c.if-is_backslash.true)) c.in_default.ensures)
+    (text-step r w true c.requires.text (sym c.is_backslash.ensures ∙ c.if-is_backslash.true)) c.in_default.ensures.takes)
     c.pass_escape.ensures.goes
 
 pub returns-else-is_backslash-clause-goes : goal.returns-else-is_backslash-clause-goes
@@ -32,4 +32,4 @@ returns-else-is_backslash-clause-goes c =
     let took = c.take_to-else-is_backslash in
     takes-goes r (name_at r place.Data) place.Data w took.result (world took.new.tokenizer) c.requires.at.current
     (within-world c.args.tokenizer.now)
-    (text-step r w false c.requires.text (sym c.is_backslash.ensures ∙ c.if-is_backslash.false)) took.ensures
+    (text-step r w false c.requires.text (sym c.is_backslash.ensures ∙ c.if-is_backslash.false)) took.ensures.takes
