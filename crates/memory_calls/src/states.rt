@@ -1,5 +1,9 @@
 // The states that take no memory: they succeed while every request is refused.
 
+ghost use Rattle.std.specs.Prelude.{◌≡◌};
+ghost use Rattle.markdown_blocks.specs.Parsed.{IsSmall};
+ghost use Rattle.md_engine.specs.World.{looks, world};
+
 use crate::{AFTER, BEFORE, mark};
 use markdown_blocks::configuration::ParseOptions;
 use markdown_blocks::construct::{blank_line, html_flow, partial_non_lazy_continuation};
@@ -29,7 +33,10 @@ fn line_of(state: State) -> &'static str {
 }
 
 /// A tokenizer that sees the first byte of a text.
-fn seeing<'a>(alloc: Global, text: &'static [u8], options: &'a ParseOptions) -> Tokenizer<'a> {
+fn seeing<'a>(alloc: Global, text: &'static [u8], options: &'a ParseOptions) -> Tokenizer<'a>
+    requires { IsSmall text.now }
+    ensures { (world result).current ≡ looks (world result) }
+{
     let mut tokenizer = Tokenizer::new(alloc, FIRST_POINT, text, options);
     tokenizer.limit = text.len();
     tokenizer.current = tokenizer.look();
