@@ -1,9 +1,9 @@
 #!/usr/bin/env bash
-# Refuses requests for memory of the programs `blocks`, `events` and `references_example`, as `rt ci` or `rt run` has built them (`out`):
+# Refuses requests for memory of the programs `blocks`, `events`, `references_example` and `hoxalgurre`, as `rt ci` or `rt run` has built them (`out`):
 # on the texts of their stored runs, and the first two with the argument `all` on each begin of a text with a byte order mark,
 # frontmatter, headings of both kinds, quotes, a break, nested lists, a fence, HTML, definitions, in a quote and in front of an
 # underline, a table and a footnote definition. The third parses its text with an inline layer, wraps it in a quote and in an item, and
-# parses both; a reference in it goes over two lines of a quote, and is defined behind.
+# parses both; a reference in it goes over two lines of a quote, and is defined behind. The fourth makes each of its reports.
 #
 # Each text has a run in which nothing is refused, which must end with status 0 and print what is given, or anything where nothing is;
 # and for each request of that run one in which this request is refused (`scripts/refuse.c`). Such a run must end with status 3, say so
@@ -16,7 +16,7 @@ trap 'rm -rf "$work"' EXIT
 kit=$(dirname "$(rt doc)")
 "$kit/toolchain/bin/clang" --target=x86_64-unknown-linux-gnu --sysroot="$kit/toolchain" -O2 -shared -fPIC -nostdlib -fuse-ld=lld \
     -o "$work/refuse.so" scripts/refuse.c
-python3 - "$work/refuse.so" blocks 2000 events 2000 references_example 150 <<'PYTHON'
+python3 - "$work/refuse.so" blocks 2000 events 2000 references_example 150 hoxalgurre 1000 <<'PYTHON'
 import os, subprocess, sys
 
 library, *programs = sys.argv[1:]
@@ -128,8 +128,29 @@ def refused(name):
     return runs, count
 
 
+def refused_reports(path):
+    """The same of `hoxalgurre`: each report, in one of its formats, of a text that it also has labels to complain of."""
+    runs = count = 0
+    text = WHOLE + b"\n[1] [^2] `[3]`\n"
+    for task, form in (("outline", "json"), ("events", "json"), ("html", "text"), ("headings", "json"), ("labels", "text")):
+        command = [path, task, "-c", "all", "-f", form]
+        right, _ = run(command, text, 0)
+        if right[0] != (task == "labels") or right[2] or not right[1]:
+            sys.exit(f"hoxalgurre {task}, nothing refused: status, output and complaint {right}")
+        number = 1
+        while True:
+            ended, is_refused = run(command, text, number)
+            if not is_refused:
+                break
+            told = (b"hoxalgurre: out of memory\n", b"hoxalgurre: -: out of memory\n")
+            if ended != right and (ended[0] != 3 or ended[1] not in (b"", b"[", b"[]\n") or ended[2] not in told):
+                sys.exit(f"hoxalgurre {task}, request {number} refused: status, output and complaint {ended}")
+            number, runs, count = number + 1, runs + 1, count + (ended != right)
+    return runs, count
+
+
 for name, least in zip(programs[::2], map(int, programs[1::2])):
-    runs, count = refused(name)
+    runs, count = refused_reports(f"crates/{name}/out/{name}") if name == "hoxalgurre" else refused(name)
     print(f"refused memory: {name}, {runs} requests refused, {count} runs ended by it")
     if count < least:
         sys.exit(f"fewer than {least}")
