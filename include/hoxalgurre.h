@@ -1,6 +1,7 @@
 /* The events of the blocks of a Markdown text. Made by scripts/c_header.py.
  *
- * Link with libhoxalgurre_c.a, which `rt lib` makes in crates/hoxalgurre_c. */
+ * Link with libhoxalgurre_c.a, which `rt lib` makes in crates/hoxalgurre_c/out, and behind it with liblibc_c.a from the
+ * folder `c` of the kit, which has the library's heap over malloc, realloc and free. */
 #ifndef HOXALGURRE_H
 #define HOXALGURRE_H
 

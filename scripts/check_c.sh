@@ -3,19 +3,22 @@
 # they print with what the program `events` prints. The header must have the names and numbers of the enum, and a call that
 # does not meet what the header asks for must be answered.
 #
+# The heap of the library calls `malloc` through `liblibc_c.a` of the kit, which is linked behind it.
+#
 # It takes what `rt ci` has built, or a library LIBRARY and the programs of the folder PROGRAMS, where these are set.
 set -euo pipefail
 cd "$(dirname "$0")/.."
 scripts/c_header.py --check
 library=${LIBRARY:-crates/hoxalgurre_c/out/libhoxalgurre_c.a}
 events=${PROGRAMS:-crates/events/out}/events
+heap=$(dirname "$(rt doc)")/c/liblibc_c.a
 if [ ! -f "$library" ]; then
     (cd crates/hoxalgurre_c && rt lib >/dev/null)
 fi
 work=$(mktemp -d)
 trap 'rm -rf "$work"' EXIT
-gcc -std=c11 -O2 -Wall -Wextra -Werror -Iinclude examples/c/events.c "$library" -o "$work/events"
-gcc -shared -o "$work/libhoxalgurre.so" -Wl,--whole-archive "$library" -Wl,--no-whole-archive
+gcc -std=c11 -O2 -Wall -Wextra -Werror -Iinclude examples/c/events.c "$library" "$heap" -o "$work/events"
+gcc -shared -o "$work/libhoxalgurre.so" -Wl,--whole-archive "$library" -Wl,--no-whole-archive "$heap"
 passed=0
 failed=0
 compare() {
@@ -69,7 +72,7 @@ int main(void) {
     return none.status || none.count ? 3 : 0;
 }
 C
-gcc -std=c11 -Wall -Wextra -Werror -Iinclude "$work/room.c" "$library" -o "$work/room"
+gcc -std=c11 -Wall -Wextra -Werror -Iinclude "$work/room.c" "$library" "$heap" -o "$work/room"
 echo 0 >"$work/wanted"
 "$work/room" && echo $? >"$work/told" || echo $? >"$work/told"
 compare "an array with little room"

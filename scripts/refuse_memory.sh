@@ -10,6 +10,7 @@
 #   lists, a fence, HTML, definitions, in a quote and in front of an underline, a table and a footnote definition. The third parses its
 #   text with an inline layer, wraps it in a quote and in an item, and parses both; a reference in it goes over two lines of a quote, and
 #   is defined behind. A refused run ends with status 3, says so on its standard error and prints nothing.
+# - Of `hoxalgurre`, those of each of its reports.
 #
 # How many refused runs end as if nothing had been refused is given for each program; so is how many refused runs there are at least.
 set -euo pipefail
@@ -194,6 +195,27 @@ def refuse_program(name):
     return runs, going
 
 
+def refuse_reports():
+    """The same of `hoxalgurre`: each report, in one of its formats, of a text that it also has labels to complain of."""
+    runs = going = 0
+    text = WHOLE + b"\n[1] [^2] `[3]`\n"
+    for task, form in (("outline", "json"), ("events", "json"), ("html", "text"), ("headings", "json"), ("labels", "text")):
+        command = ["crates/hoxalgurre/out/hoxalgurre", task, "-c", "all", "-f", form]
+        right = run(command, text, 0)[0]
+        if right[0] != (task == "labels") or right[2] or not right[1]:
+            sys.exit(f"hoxalgurre {task}, nothing refused: status, output and complaint {right}")
+        number = 1
+        while True:
+            ended, count, _ = run(command, text, number)
+            if count == 0:
+                break
+            told = (b"hoxalgurre: out of memory\n", b"hoxalgurre: -: out of memory\n")
+            if ended != right and (ended[0] != 3 or ended[1] not in (b"", b"[", b"[]\n") or ended[2] not in told):
+                sys.exit(f"hoxalgurre {task}, request {number} refused: status, output and complaint {ended}")
+            number, runs, going = number + 1, runs + 1, going + (ended == right)
+    return runs, going
+
+
 def check(name, runs, going, least, allowed):
     print(f"refused memory: {name}, {runs} requests refused, {going} of these runs went on")
     if runs < least or going != allowed:
@@ -209,4 +231,5 @@ if ended != (0, STATES, b"") or count == 0:
     sys.exit(f"states, each request refused: status, output and complaint {ended}, {count} refused")
 for name, (least, allowed) in PROGRAMS.items():
     check(name, *refuse_program(name), least, allowed)
+check("hoxalgurre", *refuse_reports(), 1000, 0)
 PYTHON

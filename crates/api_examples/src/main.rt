@@ -7,7 +7,7 @@ use markdown_blocks::configuration::{Constructs, ParseOptions};
 use markdown_blocks::event::{Event, Kind, Name};
 use markdown_blocks::label::normal_form;
 use markdown_blocks::message::Message;
-use markdown_blocks::names::{is_block, is_container, is_text_part};
+use markdown_blocks::names::{is_block, is_container, is_prefix, is_text_part};
 use markdown_blocks::outline::outline;
 use markdown_blocks::parser::{MAX_LEN, parse, parse_with};
 use markdown_blocks::plain::Plain;
@@ -136,6 +136,7 @@ fn report(alloc: Global) -> Result<String, Message> {
     writeln!(lines, "{}", same_label(alloc, "Straße  1", "STRASSE 1")?)?;
     let cell = Name::GfmTableCellText;
     writeln!(lines, "{} {}", is_container(cell), is_text_part(cell))?;
+    writeln!(lines, "{}", is_prefix(Name::BlockQuoteMarker))?;
     writeln!(lines, "{}", Message)?;
     Ok(lines)
 }

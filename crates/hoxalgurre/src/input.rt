@@ -1,37 +1,8 @@
 // The text of a file or of the standard input.
 
-use std::alloc::Global;
-use std::io::{self, ErrorKind, Read};
-use std::{fs, str};
-
-/// Why a text is not had.
-#[derive(Clone, Copy)]
-pub(crate) enum Trouble {
-    /// Want of memory.
-    OutOfMemory,
-    /// There is no such file.
-    NotFound,
-    /// A read failed.
-    ReadFailed,
-}
-
-impl Trouble {
-    /// What the line on the standard error says.
-    pub(crate) fn reason(self) -> &'static str {
-        match self {
-            Trouble::OutOfMemory => "out of memory",
-            Trouble::NotFound => "no such file",
-            Trouble::ReadFailed => "read failed",
-        }
-    }
-
-    pub(crate) fn status(self) -> u8 {
-        match self {
-            Trouble::OutOfMemory => 3,
-            Trouble::NotFound | Trouble::ReadFailed => 4,
-        }
-    }
-}
+use crate::trouble::Trouble;
+use std::fs;
+use std::io::{self, Read};
 
 /// The bytes of a file, or of the standard input for `-`.
 pub(crate) fn read(rt: &HostRuntime, file: &str) -> Result<Vec<u8>, Trouble> {
@@ -42,11 +13,7 @@ pub(crate) fn read(rt: &HostRuntime, file: &str) -> Result<Vec<u8>, Trouble> {
     };
     match read {
         Ok(bytes) => Ok(bytes),
-        Err(error) => Err(match error.kind() {
-            ErrorKind::OutOfMemory => Trouble::OutOfMemory,
-            ErrorKind::NotFound => Trouble::NotFound,
-            _ => Trouble::ReadFailed,
-        }),
+        Err(error) => Err(Trouble::of_read(&error)),
     }
 }
 
@@ -56,8 +23,7 @@ fn read_stdin(rt: &HostRuntime) -> io::Result<Vec<u8>> {
     Ok(bytes)
 }
 
-/// The line and the column of a byte, both from 1, as an editor counts them: a line ends with a line feed, a carriage
-/// return, or both.
+/// The line and the column of a byte, both from 1: a line ends with a line feed, a carriage return, or both.
 pub(crate) fn place_of(bytes: &[u8], at: usize) -> (usize, usize) {
     let mut line: usize = 1;
     let mut column: usize = 1;

@@ -3,19 +3,19 @@
 ghost use Rattle.markdown_blocks.specs.Parsed.{IsWithoutMdx};
 
 use crate::input::{place_of, read};
+use crate::trouble::Trouble;
 use clap::ArgMatches;
 use hoxalgurre_body::report::{Format, Report, Task, report_on};
 use markdown_blocks::configuration::ParseOptions;
 use markdown_blocks::parser::MAX_LEN;
 use std::str;
 
-/// Why there is no report of a file: what the line on the standard error says behind the file, and the status.
-#[derive(Drop)]
+/// Why there is no report of a file.
+#[derive(Clone, Copy)]
 struct Refusal {
+    trouble: Trouble,
     /// The line and the column, where it has some.
     place: Option<(usize, usize)>,
-    reason: &'static str,
-    status: u8,
 }
 
 /// The set of constructs of this name, or those of GFM.
@@ -49,37 +49,39 @@ fn report_file(
 ) -> Result<Report, Refusal> {
     let bytes = match read(rt, file) {
         Ok(bytes) => bytes,
-        Err(trouble) => return Err(refused(trouble.reason(), trouble.status())),
+        Err(trouble) => return Err(refused(trouble)),
     };
     if bytes.len() > MAX_LEN {
-        return Err(refused("too long", 2));
+        return Err(refused(Trouble::TooLong));
     }
     let text = match str::from_utf8(bytes.as_slice()) {
         Ok(text) => text,
         Err(error) => {
             return Err(Refusal {
+                trouble: Trouble::NotUtf8,
                 place: Some(place_of(bytes.as_slice(), error.valid_up_to())),
-                reason: "not UTF-8",
-                status: 2,
             });
         }
     };
     match report_on(rt.alloc(), task, format, file, text, set_of(set)) {
         Ok(report) => Ok(report),
-        Err(_) => Err(refused("out of memory", 3)),
+        Err(_) => Err(refused(Trouble::OutOfMemory)),
     }
 }
 
-fn refused(reason: &'static str, status: u8) -> Refusal {
+fn refused(trouble: Trouble) -> Refusal {
     Refusal {
+        trouble,
         place: None,
-        reason,
-        status,
     }
 }
 
 /// Prints the reports of all files, and says of those that have none why. Answers the status, the highest of all.
-pub(crate) fn run_all(rt: &HostRuntime, name: &str, chosen: &ArgMatches<'_>) -> anyhow::Result<u8> {
+pub(crate) fn run_all(
+    rt: &HostRuntime,
+    name: &str,
+    chosen: &ArgMatches<'_>,
+) -> Result<u8, Trouble> {
     let files = chosen.get_strs("FILE").unwrap_or(&[]);
     let files = if files.is_empty() { &["-"] } else { files };
     let is_json = chosen.get_str("format") == Some("json");
@@ -106,7 +108,7 @@ pub(crate) fn run_all(rt: &HostRuntime, name: &str, chosen: &ArgMatches<'_>) -> 
             }
             Err(refusal) => {
                 tell(rt, file, &refusal)?;
-                status = status.max(refusal.status);
+                status = status.max(refusal.trouble.status());
             }
         }
     }
@@ -117,8 +119,8 @@ pub(crate) fn run_all(rt: &HostRuntime, name: &str, chosen: &ArgMatches<'_>) -> 
 }
 
 /// Says why there is no report of a file.
-fn tell(rt: &HostRuntime, file: &str, refusal: &Refusal) -> anyhow::Result<()> {
-    let reason = refusal.reason;
+fn tell(rt: &HostRuntime, file: &str, refusal: &Refusal) -> Result<(), Trouble> {
+    let reason = refusal.trouble.reason();
     match refusal.place {
         Some((line, column)) => eprintln!(rt; "hoxalgurre: {file}:{line}:{column}: {reason}")?,
         None => eprintln!(rt; "hoxalgurre: {file}: {reason}")?,

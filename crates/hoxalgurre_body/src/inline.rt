@@ -21,7 +21,7 @@ use std::collections::BTreeMap;
 const MOST_LABEL: usize = 999;
 
 /// How many bytes a destination or a title of an inline link is looked through at most.
-const MOST_LINK: usize = 9999;
+const MOST_LINK: usize = 1999;
 
 /// A `[` that no `]` has closed.
 #[derive(Clone, Copy)]
