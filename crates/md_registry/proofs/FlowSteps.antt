@@ -1,6 +1,6 @@
 -- Each state of flow, and of the document, takes one step of its rule.
 use Rattle.md_registry.proofs.DocumentMeans.{IsFront, own_means}
-use Rattle.md_frame.specs.DocumentRule.{document_behaves}
+use Rattle.md_front_rooms.specs.DocumentRule.{document_behaves}
 use Rattle.std.proofs.Common.{◌≢◌}
 use Rattle.std.proofs.Common.{◌≡◌, inl, inr, ℕ, Bool, true, false, cond, nat_eq, List, [], ◌∷◌, ◌++◌, length, take}
 use Rattle.md_registry.specs.FlowRule.{leaf_of}

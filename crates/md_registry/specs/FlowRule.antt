@@ -22,7 +22,7 @@ use Rattle.md_leaves.specs.BlankRule.{HasBlank, blank_at}
 use Rattle.md_seam.specs.Events.Nested.{pair}
 use Rattle.md_seam.specs.Look.{first_seen}
 use Rattle.md_seam.specs.Spaces.{IsRest, ends_line}
-use Rattle.md_frame.specs.DocumentRule.{document_behaves}
+use Rattle.md_front_rooms.specs.DocumentRule.{document_behaves}
 use Rattle.md_frame.specs.LeafName.{LeafName}
 use Rattle.md_registry.specs.Registry.{begins_at, behind, continues_at, goes_on_with, asked_first, leaf, opener_at}
 use Rattle.md_registry.specs.Registry.{openers, openers_behind, opens_with, bars_containers, trials, tried_at}
