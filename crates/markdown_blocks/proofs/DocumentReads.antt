@@ -66,7 +66,7 @@ use Rattle.md_rows.specs.TextRows.{text_cells, text_setting}
 use Rattle.md_frame.specs.Rule.{tried}
 use Rattle.md_registry.specs.LineFlags.{asking, next_container, kept_containers}
 use Rattle.md_front_rooms.proofs.FrontAgrees.{Begins, IsWhole, comes, front-agrees}
-use Rattle.md_rows.proofs.DocumentMeans.{document_table_means, document_stands}
+use Rattle.md_registry.proofs.DocumentMeans.{document_table_means, document_stands}
 use Rattle.md_seam.proofs.FeedLines.{feed-next, feed-none, line-feed, past-next}
 use Rattle.md_seam.proofs.PlacesLemmas.{at-next}
 use Rattle.md_meaning.proofs.PreambleLemmas.{mark-bytes, mark-length}

@@ -1,435 +1,44 @@
 -- Each state of flow takes one step of what flow means.
-use Rattle.std.proofs.Common.{◌≡◌, ◌⊎◌, inl, inr, ℕ, Bool, true, false, cond, nat_eq, List, [], ◌∷◌, ◌++◌, length, take}
-use Rattle.md_registry.specs.FlowRule.{leaf_of}
-use Rattle.md_registry.specs.FlowRule.{all_on, inside_by, inside_of}
-use Rattle.md_registry.specs.Flow.{behind_all, inside_code, leaf_front}
-use Rattle.md_registry.specs.Registry.{asked_first, bars_containers}
-use Rattle.std.specs.Option.{is_some}
-use Rattle.md_registry.specs.FlowRule.{behind_leaf}
-use Rattle.md_registry.specs.Flow.{leaf_end}
-use Rattle.std.proofs.Common.{Option, Some, None, refl, sym, ◌∙◌, ap, subst, arith, append_assoc}
-use Rattle.std.proofs.lemmas.List.{take_all}
+use Rattle.md_registry.proofs.FlowSteps.{behind_ending, containers_means, ending_left, leaves_means}
+use Rattle.md_registry.specs.FlowRule.{FlowInvariant}
+use Rattle.std.proofs.Common.{◌≡◌, inl, inr, ℕ, Bool, List, []}
+use Rattle.std.proofs.Common.{Some, refl, sym, ◌∙◌, ap, subst}
 use Rattle.md_engine.specs.declared.configuration.ParseOptions.{ParseOptions}
-use Rattle.md_engine.specs.declared.event.Event.{Event}
 use Rattle.md_engine.specs.declared.state.Name.{Name as StateName}
 use Rattle.md_engine.specs.declared.state.Name.TheVariants as n
 use Rattle.md_engine.specs.declared.state.document.State.{State as DocumentState}
 use Rattle.md_engine.specs.declared.state.document.State.TheVariants as document
 use Rattle.md_engine.specs.declared.state.flow.State.{State as FlowState}
 use Rattle.md_engine.specs.declared.state.flow.State.TheVariants as flow
-use Rattle.md_engine.specs.declared.state.blank_line.State.TheVariants as blank_line
 use Rattle.md_engine.specs.declared.state.State.{State}
-use Rattle.md_engine.specs.declared.state.State.TheVariants.{Nok, Next}
-use Rattle.md_engine.specs.declared.tokenizer.container.Container.{Container}
-use Rattle.md_engine.specs.declared.tokenizer.Frame.{Frame}
-use Rattle.md_engine.specs.declared.tokenizer.Scratch.{Scratch}
-use Rattle.md_engine.specs.Meaning.{Accepts, Behaviour, Cell, Fails, Feed, Here, Outcome, Refuses, Steps, goes, here}
-use Rattle.md_engine.specs.Meaning.{resume}
+use Rattle.md_engine.specs.declared.state.State.TheVariants.{Next}
+use Rattle.md_engine.specs.Meaning.{Behaviour, Cell, Feed, Steps, goes, here}
 use Rattle.md_engine.specs.Run.{reading}
-use Rattle.md_engine.specs.Scheme.{after_all, position, stands}
+use Rattle.md_engine.specs.Scheme.{stands}
 use Rattle.md_engine.specs.Standing.{MeansAt, StandsOn}
-use Rattle.md_engine.specs.declared.tokenizer.container.name.ContainerKind.{ContainerKind}
-use Rattle.md_engine.specs.World.{Flags, Setting, World, after, closed, container_of, looks}
+use Rattle.md_engine.specs.World.{Setting, World, closed, looks}
 use Rattle.md_engine.specs.Sees.{Sees, ahead}
-use Rattle.md_engine.proofs.StepOf.{begins_only, changes, outermost-frames, passes, sees, steps-as}
-use Rattle.md_content.specs.ChunkRule.{chunk_at}
+use Rattle.md_engine.proofs.StepOf.{outermost-frames, sees, steps-as}
 use Rattle.md_content.proofs.ContentMeaning.{chunk_means}
 use Rattle.md_leaves.specs.Blank as blank
-use Rattle.md_leaves.proofs.BlankLook.{blank-ended, blank-refused}
 use Rattle.md_leaves.proofs.BlankMeaning.{blank_means}
-use Rattle.md_seam.specs.Ahead.{begins_white}
-use Rattle.md_seam.specs.Events.Nested.{enter, exit, pair}
-use Rattle.md_seam.specs.Look.{looks_behind, may_with}
-use Rattle.md_seam.specs.Spaces.{IsRest, ends_line, sees_white}
-use Rattle.md_seam.specs.Transition.{Transition, entered, exited, taken}
-use Rattle.md_seam.proofs.LookLemmas.{first-seen, refused-first}
+use Rattle.md_seam.specs.Transition.{Transition, taken}
 use Rattle.md_seam.proofs.SpacesTermination.{does-stands}
-use Rattle.md_seam.proofs.WhiteMeaning.{begins-seen, white_means}
+use Rattle.md_seam.proofs.WhiteMeaning.{white_means}
 use Rattle.md_registry.specs.Document.{document_own_transition}
-use Rattle.markdown_blocks.specs.Fed.{feeds}
-use Rattle.md_registry.specs.Flow.{after_transition, before_content_transition, before_transition}
-use Rattle.md_registry.specs.Flow.{blank_line_after_transition, blank_line_code, containers_after_transition}
-use Rattle.md_registry.specs.Flow.{existing_after_transition, existing_before_code, flow_end_code}
-use Rattle.md_registry.specs.Flow.{flow_end_transition, flow_own_transition, leaf_after_transition}
-use Rattle.md_registry.specs.Flow.{leaf_transition, new_after_transition}
-use Rattle.md_registry.specs.Flow.{new_before_transition, opener_transition, start_transition, trial_code}
+use Rattle.md_registry.specs.FlowRule.{FlowInvariant}
+use Rattle.md_registry.specs.FlowRule.{GoesOn, feeds}
+use Rattle.md_registry.specs.Flow.{flow_end_code}
 use Rattle.md_frame.specs.Rule.{Rule}
-use Rattle.md_registry.specs.FlowRule.{HasFlow, blank_ended, ended, ended_to, existing_at, existing_by}
-use Rattle.md_registry.specs.FlowRule.{flow_at, leaves_of, line_ended, line_then, new_of, nonblank_of}
-use Rattle.md_registry.specs.FlowRule.{opened, openers_of}
-use Rattle.md_frame.specs.Rule.{tried}
+use Rattle.md_registry.specs.FlowRule.{HasFlow}
+use Rattle.md_registry.specs.FlowRule.{flow_at, line_ended}
 use Rattle.md_registry.specs.LineFlags as flags
-use Rattle.md_frame.specs.EndingName.{ending_name}
-use Rattle.md_registry.specs.LineFlags.{asking, blank_here, next_container, next_line, nothing_stands}
-use Rattle.md_registry.specs.LineFlags.{went_on}
 use Rattle.md_registry.specs.States.{FlowStep, flow_behaves, flow_behaves_by, flow_table_scheme, flow_transition}
-use Rattle.md_registry.specs.States.{leaf_owner, opener_owner}
-use Rattle.md_frame.specs.LeafName.{LeafName}
-use Rattle.md_registry.specs.Registry.{behind, container_rules, front_of, leaf, may_go_on, may_open, next_of}
-use Rattle.md_registry.specs.Registry.{next_opener, opener_at, opener_front, openers, openers_behind, trials}
-use Rattle.md_registry.specs.Registry.{tried_at}
-use Rattle.md_rows.proofs.FlowLemmas.{flow_by_line, line_by_container, new_by_container}
-use Rattle.md_registry.proofs.Openers as opening
-use Rattle.md_registry.proofs.Openers.{left-front}
+use Rattle.md_registry.specs.Registry.{behind}
+use Rattle.md_registry.proofs.FlowLemmas.{flow_by_line}
 use Rattle.md_registry.proofs.States.{flow_terminates}
-use Rattle.md_registry.proofs.Trials.{left-before, left-next}
-use Rattle.md_registry.proofs.ConstructStates.{HasTrial, construct-steps, container-states, is-tried, leaf-states}
-use Rattle.md_registry.proofs.ConstructStates.{opener-before, tried-before, white_has}
-use Rattle.md_registry.proofs.Registry.{container-laws, laws, trial-asked}
-
--- an attempt that was begun here
-abbrev frame_here : State → State → World → Frame
-frame_here ok nok w = record { ok = ok; nok = nok; is_check = false; events_len = length w.events; point = w.point }
-
--- what it comes to
-resumed : (B : Behaviour) (feed : Feed) (w : World) (ok nok : State) (o : Outcome) (onward : Rule)
-    (otherwise : Scratch → Flags → Outcome) →
-    ((cells : List Cell) (h : Here) → goes B ok cells h ≡ onward cells h) →
-    ((s : Scratch) (g : Flags) →
-    goes B nok (feed w.point) (record { events = w.events; point = w.point; scratch = s; flags = g }) ≡
-    otherwise s g) →
-    tried o onward otherwise ≡ resume B feed w.events (frame_here ok nok w) o
-resumed B feed w ok nok (Accepts h rest) y z a b = sym (a rest h)
-resumed B feed w ok nok (Refuses s g) y z a b =
-    let back : take (length w.events) w.events ≡ w.events = take_all (length w.events) w.events (omega arith) in
-    sym
-    (ap
-    (λ (x : List Event).
-    goes B nok (feed w.point) (record { events = x; point = w.point; scratch = s; flags = g })) back
-    ∙ b s g)
-resumed B feed w ok nok Fails y z a b = refl
-
--- What is left at a state where a construct is tried, at the construct's first state, where these flags are set, and at
--- those behind it; where it may not begin it is refused.
-record IsTried (B : Behaviour) (feed : Feed) (w : World) (g : Flags) (from start ok nok : StateName)
-    (may : Bool) : Type 0 where
-  onward : Rule
-  otherwise : Scratch → Flags → Outcome
-  from_is : B from (feed w.point) (here w) ≡
-      tried (B start (feed w.point) (record (here w) { flags = g })) onward otherwise
-  ok_is : (cells : List Cell) (h : Here) → B ok cells h ≡ onward cells h
-  nok_is : (s : Scratch) (x : Flags) → B nok (feed w.point) (record (here w) { scratch = s; flags = x }) ≡ otherwise s x
-  looked : may ≡ false → B start (feed w.point) (record (here w) { flags = g }) ≡ Refuses w.scratch g
-
-trial_means : (B : Behaviour) (feed : Feed) (w : World) (g : Flags) (from start ok nok : StateName) (may : Bool) →
-    IsTried B feed w g from start ok nok may →
-    Steps B feed (Next from) w (trial_code start ok nok (record w { flags = g }) may).to
-    (trial_code start ok nok (record w { flags = g }) may).world
-trial_means B feed w g from start ok nok true t =
-    begins_only B feed _ _ w (trial_code start ok nok (record w { flags = g }) true).world
-    (frame_here (Next ok) (Next nok) w) refl refl
-    (t.from_is
-    ∙ resumed B feed w (Next ok) (Next nok) (B start (feed w.point) (record (here w) { flags = g })) t.onward
-    t.otherwise t.ok_is t.nok_is)
-trial_means B feed w g from start ok nok false t =
-    passes B feed _ _ w (record w { flags = g }) refl refl
-    (t.from_is ∙ ap (λ (o : Outcome). tried o t.onward t.otherwise) (t.looked refl) ∙ sym (t.nok_is w.scratch g))
-
--- Containers.
-
--- in front of the first container that may open, as often as one does
-opening_left : (B : Behaviour) (options : ParseOptions) (next : Rule) → HasFlow B options next → (cells : List Cell)
-    (h : Here) →
-    B (n.Document (opener_front openers)) cells h ≡ new_of options next cells h
-opening_left B options next has cells h =
-    has.containers (opener_front openers) cells h ∙ left-front options next openers cells h refl
-    ∙ sym (new_by_container options next cells h)
-
--- by whether the line ends here, and by the container that is asked
-existing_left : (B : Behaviour) (feed : Feed) (w : World) (options : ParseOptions) (next : Rule) (ends : Bool) →
-    HasFlow B options next → Sees feed w → ends_line w.current ≡ ends →
-    B (n.Document document.ContainerExistingBefore) (feed w.point) (here w) ≡
-    existing_at options next (line_then options next) ends (feed w.point) (here w)
-existing_left B feed w options next ends has s e =
-    has.containers document.ContainerExistingBefore _ _ ∙ line_by_container options next (feed w.point) (here w)
-    ∙ ap (λ (x : Bool). existing_at options next (line_then options next) x (feed w.point) (here w))
-    (ap ends_line (first-seen feed w s) ∙ e)
-
--- where all containers went on
-all_left : (B : Behaviour) (options : ParseOptions) (next : Rule) → HasFlow B options next → (x : Bool)
-    (cells : List Cell) (h : Here) →
-    B (n.Document (behind_all x)) cells h ≡ all_on options next x cells h
-all_left B options next has true cells h = has.containers document.ContainersAfter cells h
-all_left B options next has false cells h = opening_left B options next has cells h
-
-existing_before_means : (B : Behaviour) (feed : Feed) (w : World) (options : ParseOptions) (next : Rule) (ends : Bool)
-    (o : Option Container) →
-    HasFlow B options next → Sees feed w → IsRest w.scratch → ends_line w.current ≡ ends → next_container w.flags ≡ o →
-    Steps B feed (Next (n.Document document.ContainerExistingBefore)) w (existing_before_code w ends o).to
-    (existing_before_code w ends o).world
-existing_before_means B feed w options next true o has s is e k =
-    passes B feed _ _ w (existing_before_code w true o).world refl refl
-    (existing_left B feed w options next true has s e ∙ sym (has.containers document.ContainersAfter _ _))
-existing_before_means B feed w options next false None has s is e k =
-    passes B feed _ _ w w refl refl
-    (existing_left B feed w options next false has s e
-    ∙ ap (λ (o : Option Container). existing_by options next (line_then options next) o (feed w.point) (here w)) k
-    ∙ sym (all_left B options next has (bars_containers w.flags.leaf) (feed w.point) (here w)))
-existing_before_means B feed w options next false (Some c) has s is e k =
-    let onward : Rule = λ rest k. line_then options next rest (record k { flags = went_on k.flags }) in
-    let otherwise : Scratch → Flags → Outcome =
-    λ s g. new_of options next (feed w.point) (record (here w) { scratch = s; flags = g }) in
-    trial_means B feed w (asking c w).flags _ _ _ _ (may_with (may_go_on c.kind) (looks_behind w)) (record {
-      onward = onward;
-      otherwise = otherwise;
-      from_is =
-          existing_left B feed w options next false has s e
-          ∙ ap (λ (o : Option Container). existing_by options next (line_then options next) o (feed w.point) (here w)) k
-          ∙ ap (λ (o : Outcome). tried o onward otherwise) (sym (has.goes_on c.kind _ _));
-      ok_is = has.containers document.ContainerExistingAfter;
-      nok_is = λ s g. opening_left B options next has _ _;
-      looked = λ no.
-          let first = refused-first (may_go_on c.kind) feed w s no in
-          has.goes_on c.kind _ _
-          ∙ (container-laws c.kind).continues_looked options _ _ first.0 is first.1 first.2;
-    })
-
-existing_after_means : (B : Behaviour) (feed : Feed) (w : World) (options : ParseOptions) (next : Rule) →
-    HasFlow B options next →
-    Steps B feed (Next (n.Document document.ContainerExistingAfter)) w (existing_after_transition w).to
-    (existing_after_transition w).world
-existing_after_means B feed w options next has =
-    passes B feed _ _ w (existing_after_transition w).world refl refl
-    (has.containers document.ContainerExistingAfter _ _ ∙ sym (has.containers document.ContainerExistingBefore _ _))
-
-new_before_means : (k : ContainerKind) (B : Behaviour) (feed : Feed) (w : World) (options : ParseOptions)
-    (next : Rule) →
-    HasFlow B options next → Sees feed w → IsRest w.scratch →
-    Steps B feed (Next (n.Document (container_rules k).before)) w (new_before_transition k w).to
-    (new_before_transition k w).world
-new_before_means k B feed w options next has s is =
-    let onward : Rule = λ rest x. new_of options next rest (opened x) in
-    let otherwise : Scratch → Flags → Outcome =
-    λ s g. openers_of options next (openers_behind k) (feed w.point) (record (here w) { scratch = s; flags = g }) in
-    trial_means B feed w (asking (container_of k) w).flags _ _ _ _ (may_with (may_open k) (looks_behind w)) (record {
-      onward = onward;
-      otherwise = otherwise;
-      from_is =
-          has.containers (container_rules k).before _ _ ∙ opening.left-before options next k (feed w.point) (here w)
-          ∙ ap (λ (o : Outcome). tried o onward otherwise) (sym (has.opens k _ _));
-      ok_is = has.containers document.ContainerNewAfter;
-      nok_is = λ s g. has.containers (next_opener k) _ _ ∙ opening.left-next options next k _ _;
-      looked = λ no.
-          let first = refused-first (may_open k) feed w s no in
-          has.opens k _ _ ∙ (container-laws k).begins_looked options _ _ first.0 is first.1 first.2;
-    })
-
--- where containers end no attempt is around, so none goes back to events before these ends
-new_after_means : (B : Behaviour) (feed : Feed) (w : World) (options : ParseOptions) (next : Rule) →
-    HasFlow B options next → w.frames ≡ [] →
-    Steps B feed (Next (n.Document document.ContainerNewAfter)) w (new_after_transition w).to
-    (new_after_transition w).world
-new_after_means B feed w options next has none =
-    changes B feed _ _ w (new_after_transition w).world none none
-    (has.containers document.ContainerNewAfter _ _ ∙ sym (opening_left B options next has _ _))
-
--- where a leaf may be asked first
-front_left : (B : Behaviour) (options : ParseOptions) (next : Rule) → HasFlow B options next → (cells : List Cell)
-    (h : Here) →
-    B (leaf_front (is_some (asked_first h.flags.leaf))) cells h ≡ inside_of options next cells h
-front_left B options next has cells h = go (asked_first h.flags.leaf) refl
-  where
-    go : (o : Option LeafName) → asked_first h.flags.leaf ≡ o →
-        B (leaf_front (is_some o)) cells h ≡ inside_by options next o cells h
-    go None e = has.leaves flow.Start cells h
-    go (Some l) e =
-        has.containers document.FlowInside cells h ∙ ap (λ (o : Option LeafName). inside_by options next o cells h) e
-
-containers_after_means : (B : Behaviour) (feed : Feed) (w : World) (options : ParseOptions) (next : Rule) →
-    HasFlow B options next →
-    Steps B feed (Next (n.Document document.ContainersAfter)) w (containers_after_transition w).to
-    (containers_after_transition w).world
-containers_after_means B feed w options next has =
-    passes B feed _ _ w (containers_after_transition w).world refl refl
-    (has.containers document.ContainersAfter _ _ ∙ sym (front_left B options next has _ _))
-
-inside_means : (B : Behaviour) (feed : Feed) (w : World) (options : ParseOptions) (next : Rule) (o : Option LeafName) →
-    HasFlow B options next → Sees feed w → asked_first w.flags.leaf ≡ o →
-    Steps B feed (Next (n.Document document.FlowInside)) w (inside_code w o).to (inside_code w o).world
-inside_means B feed w options next None has s e =
-    passes B feed _ _ w w refl refl
-    (has.containers document.FlowInside _ _
-    ∙ ap (λ (o : Option LeafName). inside_by options next o (feed w.point) (here w)) e
-    ∙ sym (has.leaves flow.Start _ _))
-inside_means B feed w options next (Some l) has s e =
-    let otherwise : Scratch → Flags → Outcome =
-    λ s g. leaf_of options next (feed w.point) (record (here w) { scratch = s; flags = g }) in
-    trial_means B feed w (blank_here (nothing_stands w.current w.point) w.flags) _ _ _ _ true (record {
-      onward = line_ended next;
-      otherwise = otherwise;
-      from_is =
-          has.containers document.FlowInside _ _
-          ∙ ap (λ (o : Option LeafName). inside_by options next o (feed w.point) (here w)) e
-          ∙ ap
-          (λ (first : Option ℕ).
-          tried
-          ((leaf l).trial options (feed w.point)
-          (record (here w) { flags = blank_here (nothing_stands first w.point) w.flags })) (line_ended next) otherwise)
-          (first-seen feed w s)
-          ∙ ap (λ (o : Outcome). tried o (line_ended next) otherwise) (sym (has.starts l _ _));
-      ok_is = has.leaves flow.After;
-      nok_is = λ s g. has.leaves flow.Start _ _;
-      looked = λ no. cc;
-    })
-
--- The leaf of a line.
-
-start_means : (B : Behaviour) (feed : Feed) (w : World) (options : ParseOptions) (next : Rule) →
-    HasFlow B options next →
-    Steps B feed (Next (n.Flow flow.Start)) w (start_transition w).to (start_transition w).world
-start_means B feed w options next has =
-    passes B feed _ _ w w refl refl (has.leaves flow.Start _ _ ∙ sym (has.leaves flow.BlankLineBefore _ _))
-
-blank_line_before_means : (B : Behaviour) (feed : Feed) (w : World) (options : ParseOptions) (next : Rule) (x : Bool) →
-    HasFlow B options next → Sees feed w → ends_line w.current ≡ x →
-    Steps B feed (Next (n.Flow flow.BlankLineBefore)) w
-    (blank_line_code w x (may_with blank.may_begin (looks_behind w))).to
-    (blank_line_code w x (may_with blank.may_begin (looks_behind w))).world
-blank_line_before_means B feed w options next true has s e =
-    let otherwise : Scratch → Flags → Outcome =
-    λ s g. nonblank_of options next (feed w.point) (record (here w) { scratch = s; flags = g }) in
-    passes B feed _ _ w w refl refl
-    (has.leaves flow.BlankLineBefore _ _
-    ∙ ap (λ (o : Outcome). tried o (blank_ended next) otherwise)
-    (blank-ended _ (here w) (ap ends_line (first-seen feed w s) ∙ e))
-    ∙ sym (has.leaves flow.BlankLineAfter _ _))
-blank_line_before_means B feed w options next false has s e =
-    let otherwise : Scratch → Flags → Outcome =
-    λ s g. nonblank_of options next (feed w.point) (record (here w) { scratch = s; flags = g }) in
-    trial_means B feed w w.flags _ _ _ _ (may_with blank.may_begin (looks_behind w)) (record {
-      onward = blank_ended next;
-      otherwise = otherwise;
-      from_is =
-          has.leaves flow.BlankLineBefore _ _
-          ∙ ap (λ (o : Outcome). tried o (blank_ended next) otherwise) (sym (has.blank.each blank_line.Start _ _));
-      ok_is = has.leaves flow.BlankLineAfter;
-      nok_is = λ s g. has.leaves (front_of trials) _ _;
-      looked = λ no.
-          let first = refused-first blank.may_begin feed w s no in
-          has.blank.each blank_line.Start _ _ ∙ blank-refused _ (here w) first.0 first.1 first.2;
-    })
-
--- behind a leaf, whether it always ends on its line or not
-flow-ends : (B : Behaviour) (options : ParseOptions) (next : Rule) → HasFlow B options next → (ends : Bool)
-    (cells : List Cell) (h : Here) →
-    B (n.Flow (leaf_end ends)) cells h ≡ behind_leaf ends next cells h
-flow-ends B options next has true cells h = has.leaves flow.LeafAfter cells h
-flow-ends B options next has false cells h = has.leaves flow.After cells h
-
-before_means : (l : LeafName) (B : Behaviour) (feed : Feed) (w : World) (options : ParseOptions) (next : Rule) →
-    HasTrial l → HasFlow B options next → Sees feed w → IsRest w.scratch → (leaf l).asked w.flags.leaf ≡ true →
-    Steps B feed (Next (n.Flow (leaf l).before)) w (before_transition l w).to (before_transition l w).world
-before_means l B feed w options next tried_is has s is asked =
-    let otherwise : Scratch → Flags → Outcome =
-    λ s g. leaves_of options next (behind l) (feed w.point) (record (here w) { scratch = s; flags = g }) in
-    let begins : ℕ → Bool = (leaf l).may_begin w.flags.leaf (sees_white w.current) in
-    trial_means B feed w w.flags _ _ _ _ (may_with begins (looks_behind w)) (record {
-      onward = behind_leaf (leaf l).ends next;
-      otherwise = otherwise;
-      from_is =
-          has.leaves (leaf l).before _ _ ∙ left-before options next l _ _ tried_is
-          ∙ ap (λ (o : Outcome). tried o (behind_leaf (leaf l).ends next) otherwise) (sym (has.starts l _ _));
-      ok_is = flow-ends B options next has (leaf l).ends;
-      nok_is = λ s g. has.leaves (next_of l) _ _ ∙ left-next options next l _ _ tried_is;
-      looked = λ no.
-          let first = refused-first begins feed w s no in
-          let none : (leaf l).may_begin w.flags.leaf (begins_white (feed w.point)) first.0 ≡ false =
-          ap (λ (white : Bool). (leaf l).may_begin w.flags.leaf white first.0) (begins-seen feed w s) ∙ first.2 in
-          has.starts l _ _
-          ∙ (laws l).refused options _ (here w) asked is ((laws l).looked options _ _ first.0 first.1 none);
-    })
-
-before_content_means : (B : Behaviour) (feed : Feed) (w : World) (options : ParseOptions) (next : Rule) →
-    HasFlow B options next →
-    Steps B feed (Next (n.Flow flow.BeforeContent)) w (before_content_transition w).to
-    (before_content_transition w).world
-before_content_means B feed w options next has =
-    let f : Frame = frame_here (Next (n.Flow flow.After)) Nok w in
-    begins_only B feed _ _ w (before_content_transition w).world f refl refl
-    (has.leaves flow.BeforeContent _ _
-    ∙ resumed B feed w (Next (n.Flow flow.After)) Nok (chunk_at (feed w.point) (here w)) (line_ended next) Refuses
-    (has.leaves flow.After) (λ s g. refl)
-    ∙ ap (resume B feed w.events f) (sym (has.chunk _ _)))
-
-blank_line_after_means : (B : Behaviour) (feed : Feed) (w : World) (options : ParseOptions) (next : Rule) →
-    HasFlow B options next →
-    Steps B feed (Next (n.Flow flow.BlankLineAfter)) w (blank_line_after_transition w).to
-    (blank_line_after_transition w).world
-blank_line_after_means B feed w options next has =
-    passes B feed _ _ w (blank_line_after_transition w).world refl refl
-    (has.leaves flow.BlankLineAfter _ _ ∙ sym (has.containers document.FlowEnd _ _))
-
-leaf_after_means : (B : Behaviour) (feed : Feed) (w : World) (options : ParseOptions) (next : Rule) →
-    HasFlow B options next →
-    Steps B feed (Next (n.Flow flow.LeafAfter)) w (leaf_after_transition w).to (leaf_after_transition w).world
-leaf_after_means B feed w options next has =
-    passes B feed _ _ w (leaf_after_transition w).world refl refl
-    (has.leaves flow.LeafAfter _ _ ∙ sym (has.containers document.FlowEnd _ _))
-
-after_means : (B : Behaviour) (feed : Feed) (w : World) (options : ParseOptions) (next : Rule) →
-    HasFlow B options next →
-    Steps B feed (Next (n.Flow flow.After)) w (after_transition w).to (after_transition w).world
-after_means B feed w options next has =
-    passes B feed _ _ w w refl refl (has.leaves flow.After _ _ ∙ sym (has.containers document.FlowEnd _ _))
-
--- The end of a line.
-
--- either no ending is taken, or the state behind it means what the rule does
-abbrev GoesOn : Behaviour → Rule → ℕ → Type 0
-GoesOn B next size =
-    (size ≡ 0) ⊎
-    ((cells : List Cell) (h : Here) → next cells h ≡ B (n.Document document.ContainerExistingBefore) cells h)
-
--- behind an ending that is taken here
-abbrev behind_ending : World → World
-behind_ending v =
-    record (exited (taken (entered v (ending_name v.flags.blank))) (ending_name v.flags.blank)) { flags = next_line (length v.events) v.flags }
-
--- and what is left behind it is what the rule makes of the rest
-ending_left : (feed : Feed) (v : World) (next : Rule) (b : ℕ) → nat_eq b 10 ≡ true →
-    ended next (ahead feed v (Some b)) (here v) ≡ next (feed (behind_ending v).point) (here (behind_ending v))
-ending_left feed v next b e =
-    let q = after v.setting v.point in
-    let name = ending_name v.flags.blank in
-    let split : v.events ++ enter name v.point ∷ [] ++ exit name q ∷ [] ≡
-    v.events ++ pair name v.point q = append_assoc v.events (enter name v.point ∷ []) (exit name q ∷ []) in
-    rw e
-    (ap
-    (λ (x : List Event).
-    next (feed q)
-    (record { events = x; point = q; scratch = v.scratch; flags = next_line (length v.events) v.flags }))
-    (sym split))
-
--- where containers ended that did not go on
-flow_end_code_means : (B : Behaviour) (feed : Feed) (w v : World) (options : ParseOptions) (next : Rule)
-    (o : Option ℕ) →
-    HasFlow B options next → w.frames ≡ [] → v.frames ≡ [] → feed v.point ≡ ahead feed v o →
-    GoesOn B next (feeds (n.Document document.FlowEnd) o) →
-    goes B (Next (n.Document document.FlowEnd)) (feed w.point) (here w) ≡ ended next (ahead feed v o) (here v) →
-    Steps B feed (Next (n.Document document.FlowEnd)) w (flow_end_code v o).to (flow_end_code v o).world
-flow_end_code_means B feed w v options next None has none also sees on is =
-    changes B feed _ _ w (flow_end_code v None).world none also
-    (is ∙ ap (Accepts (ended_to 0 (length v.events) (here v))) (sym sees))
-flow_end_code_means B feed w v options next (Some b) has none also sees on is = go (nat_eq b 10) refl on
-  where
-    go : (x : Bool) → nat_eq b 10 ≡ x → GoesOn B next (cond x 1 0) →
-        Steps B feed (Next (n.Document document.FlowEnd)) w (flow_end_code v (Some b)).to
-        (flow_end_code v (Some b)).world
-    go true e (inl none_fed) = absurd (omega (arith, none_fed))
-    go true e (inr meets) =
-        rw e
-        (changes B feed _ (Next (n.Document document.ContainerExistingBefore)) w (behind_ending v) none also
-        (is ∙ ending_left feed v next b e ∙ meets _ _))
-    go false e on = rw e (changes B feed _ Nok w v none also (is ∙ rw e refl))
-
-flow_end_means : (B : Behaviour) (feed : Feed) (w : World) (options : ParseOptions) (next : Rule) →
-    HasFlow B options next → Sees feed w → w.frames ≡ [] →
-    GoesOn B next (feeds (n.Document document.FlowEnd) w.current) →
-    Steps B feed (Next (n.Document document.FlowEnd)) w (flow_end_transition w).to (flow_end_transition w).world
-flow_end_means B feed w options next has s none on =
-    flow_end_code_means B feed w
-    (closed w (flags.kept_containers w.flags) w.flags.line_end) options next w.current has none none s.next on
-    (has.containers document.FlowEnd _ _ ∙ ap (λ (x : List Cell). line_ended next x (here w)) s.next)
+use Rattle.md_registry.proofs.ConstructStates.{construct-steps, container-states, leaf-states}
+use Rattle.md_registry.proofs.ConstructStates.{white_has}
 
 flow_has : (bytes : List ℕ) (options : ParseOptions) (next : Rule) →
     HasFlow (flow_behaves_by bytes options next) options next
@@ -443,62 +52,60 @@ flow_has bytes options next = record {
   leaves = λ _ _ _. refl;
 }
 
--- the states in front of a container that may open,
-opener_means : (B : Behaviour) (feed : Feed) (next : Rule) (state : DocumentState) (o : Option ContainerKind) →
-    opener_at state ≡ o → (w : World) →
-    HasFlow B w.setting.options next → Sees feed w →
-    (opener_owner o).ready (n.Document state) (position w) (after_all flow_table_scheme w.frames) →
-    Steps B feed (Next (n.Document state)) w (opener_transition o w).to (opener_transition o w).world
-opener_means B feed next state None e w has s at = absurd at
-opener_means B feed next state (Some k) e w has s at =
-    let P : DocumentState → Type 0 =
-    λ x. Steps B feed (Next (n.Document x)) w (new_before_transition k w).to (new_before_transition k w).world in
-    subst P (opener-before state k e) (new_before_means k B feed w _ _ has s at.0.0)
+-- where the table stands at a state, the state has what it needs
+flow-needs : (state : FlowState) (w : World) → stands flow_table_scheme w (Next (n.Flow state)) → FlowInvariant state w
+flow-needs flow.Start w at = tt
+flow-needs flow.BlankLineBefore w at = tt
+flow-needs flow.BeforeContent w at = tt
+flow-needs flow.BlankLineAfter w at = tt
+flow-needs flow.LeafAfter w at = tt
+flow-needs flow.After w at = tt
+flow-needs flow.BeforeCodeIndented w at = at.0.0
+flow-needs flow.BeforeRaw w at = at.0.0
+flow-needs flow.BeforeHtml w at = at.0.0
+flow-needs flow.BeforeHeadingAtx w at = at.0.0
+flow-needs flow.BeforeHeadingSetext w at = at.0.0
+flow-needs flow.BeforeThematicBreak w at = at.0.0
+flow-needs flow.BeforeGfmTable w at = at.0.0
 
--- and the others between the containers of a line
-containers_means : (B : Behaviour) (feed : Feed) (next : Rule) (state : DocumentState) (w : World) →
-    HasFlow B w.setting.options next → Sees feed w →
-    stands flow_table_scheme w (Next (n.Document state)) → GoesOn B next (feeds (n.Document state) w.current) →
-    Steps B feed (Next (n.Document state)) w (document_own_transition state w).to
-    (document_own_transition state w).world
-containers_means B feed next document.ContainerExistingBefore w has s at on =
-    existing_before_means B feed w _ _ _ _ has s at.0.0 refl refl
-containers_means B feed next document.ContainerExistingAfter w has s at on = existing_after_means B feed w _ _ has
-containers_means B feed next document.ContainerNewAfter w has s at on =
-    new_after_means B feed w _ _ has (outermost-frames flow_table_scheme w.frames at.1)
-containers_means B feed next document.ContainersAfter w has s at on = containers_after_means B feed w _ _ has
-containers_means B feed next document.FlowInside w has s at on = inside_means B feed w _ _ _ has s refl
-containers_means B feed next document.FlowEnd w has s at on =
-    flow_end_means B feed w _ _ has s (outermost-frames flow_table_scheme w.frames at.1) on
-containers_means B feed next document.Start w has s at on = absurd at
-containers_means B feed next document.BeforeFrontmatter w has s at on = absurd at
-containers_means B feed next state w has s at on = opener_means B feed next state (opener_at state) refl w has s at
+containers_at : (feed : Feed) (next : Rule) (state : DocumentState) (w : World) →
+    HasFlow (flow_behaves_by w.setting.bytes w.setting.options next) w.setting.options next → Sees feed w →
+    stands flow_table_scheme w (Next (n.Document state)) →
+    GoesOn (flow_behaves_by w.setting.bytes w.setting.options next) next (feeds (n.Document state) w.current) →
+    Steps (flow_behaves_by w.setting.bytes w.setting.options next) feed (Next (n.Document state)) w
+    (document_own_transition state w).to (document_own_transition state w).world
+containers_at feed next state w has s at on = go state at on
+  where
+    B : Behaviour
+    B = flow_behaves_by w.setting.bytes w.setting.options next
 
--- the states in front of a leaf,
-leaf_means : (B : Behaviour) (feed : Feed) (next : Rule) (state : FlowState) (o : Option LeafName) →
-    tried_at state ≡ o → (w : World) →
-    HasFlow B w.setting.options next → Sees feed w →
-    (leaf_owner o).ready (n.Flow state) (position w) (after_all flow_table_scheme w.frames) →
-    Steps B feed (Next (n.Flow state)) w (leaf_transition o w).to (leaf_transition o w).world
-leaf_means B feed next state None e w has s at = absurd at
-leaf_means B feed next state (Some l) e w has s at =
-    let P : FlowState →
-    Type 0 = λ x. Steps B feed (Next (n.Flow x)) w (before_transition l w).to (before_transition l w).world in
-    subst P (tried-before state l e)
-    (before_means l B feed w _ _ (is-tried state l e) has s at.0.0 (trial-asked state l e w.flags.leaf))
-
--- and those in front of none, or behind it
-leaves_means : (B : Behaviour) (feed : Feed) (next : Rule) (state : FlowState) (w : World) →
-    HasFlow B w.setting.options next → Sees feed w →
-    stands flow_table_scheme w (Next (n.Flow state)) →
-    Steps B feed (Next (n.Flow state)) w (flow_own_transition state w).to (flow_own_transition state w).world
-leaves_means B feed next flow.Start w has s at = start_means B feed w _ _ has
-leaves_means B feed next flow.BlankLineBefore w has s at = blank_line_before_means B feed w _ _ _ has s refl
-leaves_means B feed next flow.BeforeContent w has s at = before_content_means B feed w _ _ has
-leaves_means B feed next flow.BlankLineAfter w has s at = blank_line_after_means B feed w _ _ has
-leaves_means B feed next flow.LeafAfter w has s at = leaf_after_means B feed w _ _ has
-leaves_means B feed next flow.After w has s at = after_means B feed w _ _ has
-leaves_means B feed next state w has s at = leaf_means B feed next state (tried_at state) refl w has s at
+    go : (state : DocumentState) → stands flow_table_scheme w (Next (n.Document state)) →
+        GoesOn B next (feeds (n.Document state) w.current) →
+        Steps B feed (Next (n.Document state)) w (document_own_transition state w).to
+        (document_own_transition state w).world
+    go document.Start at on = absurd at
+    go document.BeforeFrontmatter at on = absurd at
+    go document.ContainerNewBeforeNotFootnoteDefinition at on = absurd at
+    go document.ContainerNewAfter at on =
+        containers_means B feed next document.ContainerNewAfter w has s
+        (outermost-frames flow_table_scheme w.frames at.1) on (λ x. cc) (λ x. cc)
+    go document.FlowEnd at on =
+        containers_means B feed next document.FlowEnd w has s (outermost-frames flow_table_scheme w.frames at.1) on
+        (λ x. cc) (λ x. cc)
+    go document.ContainerExistingBefore at on =
+        containers_means B feed next document.ContainerExistingBefore w has s at.0.0 on (λ x. cc) (λ x. cc)
+    go document.ContainerNewBefore at on =
+        containers_means B feed next document.ContainerNewBefore w has s at.0.0 on (λ x. cc) (λ x. cc)
+    go document.ContainerNewBeforeNotBlockQuote at on =
+        containers_means B feed next document.ContainerNewBeforeNotBlockQuote w has s at.0.0 on (λ x. cc) (λ x. cc)
+    go document.ContainerNewBeforeNotList at on =
+        containers_means B feed next document.ContainerNewBeforeNotList w has s at.0.0 on (λ x. cc) (λ x. cc)
+    go document.ContainerExistingAfter at on =
+        containers_means B feed next document.ContainerExistingAfter w has s tt on (λ x. cc) (λ x. cc)
+    go document.ContainersAfter at on =
+        containers_means B feed next document.ContainersAfter w has s tt on (λ x. cc) (λ x. cc)
+    go document.FlowInside at on =
+        containers_means B feed next document.FlowInside w has s tt on (λ x. cc) (λ x. cc)
 
 -- each state takes one step of what it means
 each_means : (feed : Feed) (next : Rule) (name : StateName) (w : World) →
@@ -520,8 +127,8 @@ each_means feed next name w s c at on = go name at on
     go (n.BlankLine state) at on = blank_means B feed state w has.blank s at.0
     go (n.Content state) at on =
         chunk_means B feed state w _ (record { each = λ _ _ _. refl }) s c at
-    go (n.Document state) at on = containers_means B feed next state w has s at on
-    go (n.Flow state) at on = leaves_means B feed next state w has s at
+    go (n.Document state) at on = containers_at feed next state w has s at on
+    go (n.Flow state) at on = leaves_means B feed next state w has s (flow-needs state w at)
     go (n.SpaceOrTab state) at on = white_means B feed state w has.blank.white s
     go name at on = construct-steps feed next name w s c at
 

@@ -45,7 +45,7 @@ use Rattle.md_rows.specs.Rows.{row_events_by, rows_events, tail_events}
 use Rattle.md_registry.specs.States.{FlowStep, flow_behaves, flow_table_scheme}
 use Rattle.md_frame.proofs.EachEvent.{each-behind, each-front}
 use Rattle.md_rows.proofs.EachRow.{EachRow}
-use Rattle.md_rows.proofs.FlowLemmas.{flow_by_line}
+use Rattle.md_registry.proofs.FlowLemmas.{flow_by_line}
 use Rattle.md_rows.proofs.FlowRows.{flow_at-rows}
 use Rattle.markdown_blocks.proofs.FlowRuns.{flow_flush, flow_outcome, flow_push}
 use Rattle.md_frame.proofs.ContentFacts.{content-alone, no_content-label, nothing as nothing_wanted}

@@ -38,7 +38,7 @@ use Rattle.md_frame.proofs.SubstitutedLemmas.{keeps, keeps-each}
 use Rattle.md_frame.proofs.ContentFacts.{NoContent, WantsContent, content-alone, no_content-append, no_content-unwanted, nothing, nothing-wanted}
 use Rattle.md_frame.proofs.PrefixNames.{AreFront, IsFrontEvent}
 use Rattle.md_frame.specs.Passed.{Passed}
-use Rattle.md_rows.proofs.RegistryContainers.{goes-front, opens-front}
+use Rattle.md_registry.proofs.RegistryContainers.{goes-front, opens-front}
 use Rattle.md_frame.specs.Row.{is_blank_row}
 
 -- What stands in front of a line that flow reads.

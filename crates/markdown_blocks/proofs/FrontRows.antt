@@ -32,7 +32,7 @@ use Rattle.md_frame.proofs.FrontFacts.{front_read-goes, front_read-none}
 use Rattle.md_rows.proofs.RowKinds.{kind-rest}
 use Rattle.md_frame.proofs.RegistryRead.{AreRead, read-append, read-drop}
 use Rattle.md_frame.proofs.PassedFacts.{Agree, HasFurther, HasOpening, HasPassed}
-use Rattle.md_rows.proofs.RegistryContainers.{goes-agrees, opens-agrees}
+use Rattle.md_registry.proofs.RegistryContainers.{goes-agrees, opens-agrees}
 
 -- What stands in front of a line.
 

@@ -35,7 +35,8 @@ use Rattle.md_seam.specs.Events.Nested.{pair}
 use Rattle.md_meaning.specs.State.{Container}
 use Rattle.md_seam.proofs.FeedLines.{Stops}
 use Rattle.md_frame.specs.Change.{ends_of, open_behind}
-use Rattle.markdown_blocks.specs.Fed.{fed, feeds, flow_begins, line_begins, not_left, place_behind}
+use Rattle.md_registry.specs.FlowRule.{feeds}
+use Rattle.markdown_blocks.specs.Fed.{fed, flow_begins, line_begins, not_left, place_behind}
 use Rattle.md_frame.specs.Rule.{Rule}
 use Rattle.md_registry.specs.FlowRule.{ended, line_then}
 use Rattle.md_frame.specs.EndingName.{ending_name}

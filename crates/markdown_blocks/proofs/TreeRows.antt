@@ -61,7 +61,7 @@ use Rattle.md_rows.proofs.TextFound.{front_before}
 use Rattle.md_frame.proofs.ShallowBlocks.{shallow-then}
 use Rattle.md_content_rooms.proofs.Paragraph.Laws.{shallow-front}
 use Rattle.md_frame.proofs.RegistryRead.{AreRead, IsRead, IsReadTaken, kinds-read, read-front}
-use Rattle.md_rows.proofs.RegistryContainers.{opens-read, over-empty, read-shallow}
+use Rattle.md_registry.proofs.RegistryContainers.{opens-read, over-empty, read-shallow}
 use Rattle.md_outline.specs.HeadingDepths.{are_shallow}
 use Rattle.md_seam.specs.Events.Spelled.{without_last}
 use Rattle.md_rows.proofs.Begun.{IsBegun}

@@ -24,14 +24,10 @@ use Rattle.markdown_blocks.specs.Parsed.{IsWithoutMdx}
 use Rattle.md_frame.specs.Row.{Row, behind_row}
 use Rattle.md_rows.specs.Rows.{groups, groups_events, rows_events}
 use Rattle.md_rows.specs.Stands.{StandsFor}
+use Rattle.md_registry.specs.FlowRule.{feeds}
 use Rattle.md_registry.specs.States.{FlowStep}
 use Rattle.md_rows.specs.TextRows.{text_rows}
 use Rattle.md_frame.specs.Closed.{close_containers}
-
--- how many lines a call of a state feeds: one where it takes the ending of a line
-abbrev pub feeds : StateName → Option ℕ → ℕ
-feeds (s.Document document.FlowEnd) (Some b) = if b == 10 then 1 else 0
-feeds name current = 0
 
 -- how many lines a run has fed
 abbrev pub fed : (T : Step) (is_end : Bool) (s : State) (w : World) (t : State) (v : World) → Runs T is_end s w t v → ℕ

@@ -11,7 +11,8 @@
 // ending. Where nothing is left of a line no container is asked, and none opens: what is held of each tells whether it
 // goes on there.
 
-ghost use Rattle.std.specs.Prelude.{◌≡◌, ◌≢◌, true};
+ghost use Rattle.std.specs.Prelude.{◌≡◌, ◌≢◌, ◌⊎◌, true};
+ghost use Rattle.md_engine.specs.Full.{IsFull, OnError};
 ghost use Rattle.md_engine.specs.Going.{SeesOn};
 ghost use Rattle.md_engine.specs.Run.{RunsHere};
 ghost use Rattle.md_engine.specs.Scheme.{stands};
@@ -32,9 +33,11 @@ ghost use Rattle.md_registry.specs.States.{FlowStep};
 ghost use Rattle.md_engine.specs.declared.resolve.name.Name.{Name as ResolveName};
 ghost use Rattle.md_frame.specs.HeldLeaf.{lazy_of, takes_lazy};
 ghost use Rattle.md_registry.specs.Document.{before_frontmatter_transition, document_own_transition};
+ghost use Rattle.md_registry.specs.Document.{none_opens_transition};
 ghost use Rattle.md_registry.specs.Document.{document_table_scheme, document_transition, start_transition};
 ghost use Rattle.md_seam.specs.Transition.{IsAt, NeedsNothing};
 ghost use Rattle.md_registry.specs.Flow.{opener_transition};
+ghost use Rattle.md_registry.specs.FlowRule.{DocumentMeans, HasOpen};
 ghost use Rattle.md_registry.specs.Registry.{opener_at};
 
 use crate::resolve;
@@ -63,10 +66,14 @@ use md_seam::space_or_tab;
 /// > | a
 ///     ^
 /// ```
+#[tactic(auto, using(md_registry::proofs::FlowSteps::document_rule))]
 pub fn start(tokenizer: &mut Tokenizer) -> State
     requires { IsAt NeedsNothing (StateName.Document DocumentState.Start) (world tokenizer.old) }
     ensures to { result ≢ State.Error → result ≡ (start_transition (world tokenizer.old)).to }
     ensures world { result ≢ State.Error → world tokenizer.new ≡ (start_transition (world tokenizer.old)).world }
+    ensures rule { result ≢ State.Error →
+        DocumentMeans DocumentState.Start (world tokenizer.old) result (world tokenizer.new) }
+    ensures full { OnError result (IsFull tokenizer.new) }
 {
     or_error!(tokenizer.attempt(
         State::Next(StateName::Document(DocumentState::BeforeFrontmatter)),
@@ -83,11 +90,15 @@ pub fn start(tokenizer: &mut Tokenizer) -> State
 ///   | a: b
 ///   | ---
 /// ```
+#[tactic(auto, using(md_registry::proofs::FlowSteps::document_rule))]
 pub fn before_frontmatter(tokenizer: &mut Tokenizer) -> State
     requires { IsAt NeedsNothing (StateName.Document DocumentState.BeforeFrontmatter) (world tokenizer.old) }
     ensures to { result ≢ State.Error → result ≡ (before_frontmatter_transition (world tokenizer.old)).to }
     ensures world { result ≢ State.Error →
         world tokenizer.new ≡ (before_frontmatter_transition (world tokenizer.old)).world }
+    ensures rule { result ≢ State.Error →
+        DocumentMeans DocumentState.BeforeFrontmatter (world tokenizer.old) result (world tokenizer.new) }
+    ensures full { OnError result (IsFull tokenizer.new) }
 {
     or_error!(tokenizer.attempt(State::Ok, State::Ok));
     State::Retry(StateName::Frontmatter(FrontState::Start))
@@ -138,12 +149,15 @@ fn behind_all(tokenizer: &Tokenizer) -> DocumentState
 ///     ^
 /// ```
 #[inline(always)]
-#[tactic(auto, unfolding(md_seam::specs::Look::looks_behind))]
+#[tactic(auto, using(md_registry::proofs::FlowSteps::document_rule), unfolding(md_seam::specs::Look::looks_behind))]
 pub fn container_existing_before(tokenizer: &mut Tokenizer) -> State
     requires { IsAt NeedsNothing (StateName.Document DocumentState.ContainerExistingBefore) (world tokenizer.old) }
     ensures to { result ≢ State.Error → result ≡ (existing_before_transition (world tokenizer.old)).to }
     ensures world { result ≢ State.Error →
         world tokenizer.new ≡ (existing_before_transition (world tokenizer.old)).world }
+    ensures rule { result ≢ State.Error →
+        DocumentMeans DocumentState.ContainerExistingBefore (world tokenizer.old) result (world tokenizer.new) }
+    ensures full { OnError result (IsFull tokenizer.new) }
 {
     if ends_line(tokenizer.current) {
         pass_over(tokenizer);
@@ -210,10 +224,12 @@ pub fn containers_existing(tokenizer: &mut Tokenizer) -> State
 /// > | > b
 ///       ^
 /// ```
+#[tactic(auto, using(md_registry::proofs::FlowSteps::document_rule))]
 pub fn container_existing_after(tokenizer: &mut Tokenizer) -> State
     requires { IsAt NeedsNothing (StateName.Document DocumentState.ContainerExistingAfter) (world tokenizer.old) }
     ensures to { result ≡ (existing_after_transition (world tokenizer.old)).to }
     ensures world { world tokenizer.new ≡ (existing_after_transition (world tokenizer.old)).world }
+    ensures rule { DocumentMeans DocumentState.ContainerExistingAfter (world tokenizer.old) result (world tokenizer.new) }
 {
     let Flags {
         asked,
@@ -234,12 +250,16 @@ pub fn container_existing_after(tokenizer: &mut Tokenizer) -> State
 ///     ^
 /// ```
 #[inline(always)]
+#[tactic(auto, using(md_registry::proofs::FlowSteps::document_rule))]
 pub fn container_new_before(tokenizer: &mut Tokenizer) -> State
     requires { IsAt NeedsNothing (StateName.Document DocumentState.ContainerNewBefore) (world tokenizer.old) }
     ensures to { result ≢ State.Error →
         result ≡ (new_before_transition ContainerKind.BlockQuote (world tokenizer.old)).to }
     ensures world { result ≢ State.Error →
         world tokenizer.new ≡ (new_before_transition ContainerKind.BlockQuote (world tokenizer.old)).world }
+    ensures rule { result ≢ State.Error →
+        DocumentMeans DocumentState.ContainerNewBefore (world tokenizer.old) result (world tokenizer.new) }
+    ensures full { OnError result (IsFull tokenizer.new) }
 {
     try_new(tokenizer, ContainerKind::BlockQuote)
 }
@@ -251,6 +271,7 @@ pub fn container_new_before(tokenizer: &mut Tokenizer) -> State
 ///     ^
 /// ```
 #[inline(always)]
+#[tactic(auto, using(md_registry::proofs::FlowSteps::document_rule))]
 pub fn container_new_before_not_block_quote(tokenizer: &mut Tokenizer) -> State
     requires { IsAt NeedsNothing (StateName.Document DocumentState.ContainerNewBeforeNotBlockQuote)
         (world tokenizer.old) }
@@ -258,6 +279,9 @@ pub fn container_new_before_not_block_quote(tokenizer: &mut Tokenizer) -> State
         result ≡ (new_before_transition ContainerKind.ListItem (world tokenizer.old)).to }
     ensures world { result ≢ State.Error →
         world tokenizer.new ≡ (new_before_transition ContainerKind.ListItem (world tokenizer.old)).world }
+    ensures rule { result ≢ State.Error →
+        DocumentMeans DocumentState.ContainerNewBeforeNotBlockQuote (world tokenizer.old) result (world tokenizer.new) }
+    ensures full { OnError result (IsFull tokenizer.new) }
 {
     try_new(tokenizer, ContainerKind::ListItem)
 }
@@ -269,14 +293,36 @@ pub fn container_new_before_not_block_quote(tokenizer: &mut Tokenizer) -> State
 ///     ^
 /// ```
 #[inline(always)]
+#[tactic(auto, using(md_registry::proofs::FlowSteps::document_rule))]
 pub fn container_new_before_not_list(tokenizer: &mut Tokenizer) -> State
     requires { IsAt NeedsNothing (StateName.Document DocumentState.ContainerNewBeforeNotList) (world tokenizer.old) }
     ensures to { result ≢ State.Error →
         result ≡ (new_before_transition ContainerKind.GfmFootnoteDefinition (world tokenizer.old)).to }
     ensures world { result ≢ State.Error →
         world tokenizer.new ≡ (new_before_transition ContainerKind.GfmFootnoteDefinition (world tokenizer.old)).world }
+    ensures rule { result ≢ State.Error →
+        DocumentMeans DocumentState.ContainerNewBeforeNotList (world tokenizer.old) result (world tokenizer.new) }
+    ensures full { OnError result (IsFull tokenizer.new) }
 {
     try_new(tokenizer, ContainerKind::GfmFootnoteDefinition)
+}
+
+/// Behind all containers that may open, where none does: all containers of the line are known.
+///
+/// ```markdown
+/// > | a
+///     ^
+/// ```
+#[tactic(auto, using(md_registry::proofs::FlowSteps::document_rule))]
+pub fn container_new_before_not_footnote_definition(_tokenizer: &mut Tokenizer) -> State
+    requires { IsAt NeedsNothing (StateName.Document DocumentState.ContainerNewBeforeNotFootnoteDefinition)
+        (world _tokenizer.old) }
+    ensures to { result ≡ (none_opens_transition (world _tokenizer.old)).to }
+    ensures world { world _tokenizer.new ≡ (none_opens_transition (world _tokenizer.old)).world }
+    ensures rule { DocumentMeans DocumentState.ContainerNewBeforeNotFootnoteDefinition (world _tokenizer.old) result
+        (world _tokenizer.new) }
+{
+    State::Retry(StateName::Document(DocumentState::ContainersAfter))
 }
 
 /// Calls the state of the document in front of a container that may open; those of containers that are not built refuse.
@@ -286,6 +332,7 @@ pub fn before_opener(tokenizer: &mut Tokenizer, state: DocumentState) -> State
     ensures to { result ≢ State.Error → result ≡ (opener_transition (opener_at state) (world tokenizer.old)).to }
     ensures world { result ≢ State.Error →
         world tokenizer.new ≡ (opener_transition (opener_at state) (world tokenizer.old)).world }
+    ensures full { OnError result (IsFull tokenizer.new) }
 {
     match state {
         DocumentState::ContainerNewBefore => container_new_before(tokenizer),
@@ -304,6 +351,7 @@ pub(crate) fn try_new(tokenizer: &mut Tokenizer, kind: ContainerKind) -> State
     ensures to { result ≢ State.Error → result ≡ (new_before_transition kind (world tokenizer.old)).to }
     ensures world { result ≢ State.Error →
         world tokenizer.new ≡ (new_before_transition kind (world tokenizer.old)).world }
+    ensures full { OnError result (IsFull tokenizer.new) }
 {
     ask(tokenizer, Container::new(kind));
     if !choices::may_open(tokenizer, kind) {
@@ -346,10 +394,14 @@ pub fn opens_at_once(tokenizer: &mut Tokenizer) -> State
 /// > | > a
 ///       ^
 /// ```
+#[tactic(auto, using(md_registry::proofs::FlowSteps::document_rule))]
 pub fn container_new_after(tokenizer: &mut Tokenizer) -> State
     requires { IsAt NeedsNothing (StateName.Document DocumentState.ContainerNewAfter) (world tokenizer.old) }
     ensures to { result ≢ State.Error → result ≡ (new_after_transition (world tokenizer.old)).to }
     ensures world { result ≢ State.Error → world tokenizer.new ≡ (new_after_transition (world tokenizer.old)).world }
+    ensures rule { result ≢ State.Error →
+        DocumentMeans DocumentState.ContainerNewAfter (world tokenizer.old) result (world tokenizer.new) }
+    ensures full { OnError result (IsFull tokenizer.new ⊎ HasOpen (world tokenizer.old)) }
 {
     let Flags {
         asked,
@@ -371,10 +423,12 @@ pub fn container_new_after(tokenizer: &mut Tokenizer) -> State
 ///       ^
 /// ```
 #[inline(always)]
+#[tactic(auto, using(md_registry::proofs::FlowSteps::document_rule))]
 pub fn containers_after(tokenizer: &mut Tokenizer) -> State
     requires { IsAt NeedsNothing (StateName.Document DocumentState.ContainersAfter) (world tokenizer.old) }
     ensures to { result ≡ (containers_after_transition (world tokenizer.old)).to }
     ensures world { world tokenizer.new ≡ (containers_after_transition (world tokenizer.old)).world }
+    ensures rule { DocumentMeans DocumentState.ContainersAfter (world tokenizer.old) result (world tokenizer.new) }
 {
     begin_line(tokenizer);
     if choices::goes_inside(tokenizer.flags.leaf) {
@@ -392,10 +446,14 @@ pub fn containers_after(tokenizer: &mut Tokenizer) -> State
 /// > | a
 ///     ^
 /// ```
+#[tactic(auto, using(md_registry::proofs::FlowSteps::document_rule))]
 pub fn flow_inside(tokenizer: &mut Tokenizer) -> State
     requires { IsAt NeedsNothing (StateName.Document DocumentState.FlowInside) (world tokenizer.old) }
     ensures to { result ≢ State.Error → result ≡ (inside_transition (world tokenizer.old)).to }
     ensures world { result ≢ State.Error → world tokenizer.new ≡ (inside_transition (world tokenizer.old)).world }
+    ensures rule { result ≢ State.Error →
+        DocumentMeans DocumentState.FlowInside (world tokenizer.old) result (world tokenizer.new) }
+    ensures full { OnError result (IsFull tokenizer.new) }
 {
     match choices::inside_start(tokenizer.flags.leaf) {
         None => State::Retry(StateName::Flow(FlowState::Start)),
@@ -475,10 +533,14 @@ fn ending_name(blank: bool) -> Name
 ///        ^
 /// ```
 #[inline(always)]
+#[tactic(auto, using(md_registry::proofs::FlowSteps::document_rule))]
 pub fn flow_end(tokenizer: &mut Tokenizer) -> State
     requires { IsAt NeedsNothing (StateName.Document DocumentState.FlowEnd) (world tokenizer.old) }
     ensures to { result ≢ State.Error → result ≡ (flow_end_transition (world tokenizer.old)).to }
     ensures world { result ≢ State.Error → world tokenizer.new ≡ (flow_end_transition (world tokenizer.old)).world }
+    ensures rule { result ≢ State.Error →
+        DocumentMeans DocumentState.FlowEnd (world tokenizer.old) result (world tokenizer.new) }
+    ensures full { OnError result (IsFull tokenizer.new ⊎ HasOpen (world tokenizer.old)) }
 {
     let keep = kept_containers(tokenizer);
     let line_end = tokenizer.flags.line_end;
@@ -505,11 +567,14 @@ pub fn flow_end(tokenizer: &mut Tokenizer) -> State
 
 /// Calls a state of the document: in front of its lines, or between the containers of a line.
 #[inline(always)]
+#[tactic(auto, using(md_registry::proofs::FlowSteps::document_rule))]
 pub fn call(tokenizer: &mut Tokenizer, state: DocumentState) -> State
     requires { IsAt NeedsNothing (StateName.Document state) (world tokenizer.old) }
     ensures to { result ≢ State.Error → result ≡ (document_own_transition state (world tokenizer.old)).to }
     ensures world { result ≢ State.Error →
         world tokenizer.new ≡ (document_own_transition state (world tokenizer.old)).world }
+    ensures rule { result ≢ State.Error → DocumentMeans state (world tokenizer.old) result (world tokenizer.new) }
+    ensures full { OnError result (IsFull tokenizer.new ⊎ HasOpen (world tokenizer.old)) }
 {
     match state {
         DocumentState::Start => start(tokenizer),
@@ -520,6 +585,9 @@ pub fn call(tokenizer: &mut Tokenizer, state: DocumentState) -> State
         DocumentState::ContainersAfter => containers_after(tokenizer),
         DocumentState::FlowInside => flow_inside(tokenizer),
         DocumentState::FlowEnd => flow_end(tokenizer),
+        DocumentState::ContainerNewBeforeNotFootnoteDefinition => {
+            container_new_before_not_footnote_definition(tokenizer)
+        }
         _ => before_opener(tokenizer, state),
     }
 }

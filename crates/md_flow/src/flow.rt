@@ -8,6 +8,7 @@
 // before.
 
 ghost use Rattle.std.specs.Prelude.{◌≡◌, ◌≢◌};
+ghost use Rattle.md_engine.specs.Full.{IsFull, OnError};
 ghost use Rattle.md_engine.specs.Going.{SeesOn};
 ghost use Rattle.md_engine.specs.Run.{RunsHere};
 ghost use Rattle.md_engine.specs.Scheme.{stands};
@@ -17,6 +18,7 @@ ghost use Rattle.md_registry.specs.States.{FlowStep, flow_table_scheme};
 ghost use Rattle.md_engine.specs.declared.state.Name.{Name as StateName};
 ghost use Rattle.md_engine.specs.declared.state.State.{State};
 ghost use Rattle.md_engine.specs.declared.state.flow.State.{State as FlowState};
+ghost use Rattle.md_registry.specs.FlowRule.{FlowMeans};
 ghost use Rattle.md_registry.specs.Flow.{after_transition, before_content_transition};
 ghost use Rattle.md_registry.specs.Flow.{blank_line_after_transition, blank_line_before_transition};
 ghost use Rattle.md_registry.specs.Flow.{flow_own_transition, leaf_after_transition, start_transition};
@@ -61,10 +63,12 @@ use md_tables::gfm_table;
 /// > | a
 ///     ^
 /// ```
+#[tactic(auto, using(md_registry::proofs::FlowSteps::flow_rule))]
 pub fn start(_tokenizer: &mut Tokenizer) -> State
     requires { IsAt NeedsNothing (StateName.Flow FlowState.Start) (world _tokenizer.old) }
     ensures to { result ≡ (start_transition (world _tokenizer.old)).to }
     ensures world { world _tokenizer.new ≡ (start_transition (world _tokenizer.old)).world }
+    ensures rule { FlowMeans FlowState.Start (world _tokenizer.old) result (world _tokenizer.new) }
 {
     State::Retry(StateName::Flow(FlowState::BlankLineBefore))
 }
@@ -75,11 +79,15 @@ pub fn start(_tokenizer: &mut Tokenizer) -> State
 /// > |
 ///     ^
 /// ```
+#[tactic(auto, using(md_registry::proofs::FlowSteps::flow_rule))]
 pub fn blank_line_before(tokenizer: &mut Tokenizer) -> State
     requires { IsAt NeedsNothing (StateName.Flow FlowState.BlankLineBefore) (world tokenizer.old) }
     ensures to { result ≢ State.Error → result ≡ (blank_line_before_transition (world tokenizer.old)).to }
     ensures world { result ≢ State.Error →
         world tokenizer.new ≡ (blank_line_before_transition (world tokenizer.old)).world }
+    ensures rule { result ≢ State.Error →
+        FlowMeans FlowState.BlankLineBefore (world tokenizer.old) result (world tokenizer.new) }
+    ensures full { OnError result (IsFull tokenizer.new) }
 {
     if blank_line::ends_line(tokenizer.current) {
         return State::Retry(StateName::Flow(FlowState::BlankLineAfter));
@@ -100,11 +108,15 @@ pub fn blank_line_before(tokenizer: &mut Tokenizer) -> State
 /// > |     a
 ///     ^
 /// ```
+#[tactic(auto, using(md_registry::proofs::FlowSteps::flow_rule))]
 pub fn before_code_indented(tokenizer: &mut Tokenizer) -> State
     requires { IsAt NeedsNothing (StateName.Flow FlowState.BeforeCodeIndented) (world tokenizer.old) }
     ensures to { result ≢ State.Error → result ≡ (before_transition LeafName.CodeIndented (world tokenizer.old)).to }
     ensures world { result ≢ State.Error →
         world tokenizer.new ≡ (before_transition LeafName.CodeIndented (world tokenizer.old)).world }
+    ensures rule { result ≢ State.Error →
+        FlowMeans FlowState.BeforeCodeIndented (world tokenizer.old) result (world tokenizer.new) }
+    ensures full { OnError result (IsFull tokenizer.new) }
 {
     if !choices::may_be_indented(tokenizer) {
         return State::Retry(StateName::Flow(FlowState::BeforeRaw));
@@ -124,11 +136,15 @@ pub fn before_code_indented(tokenizer: &mut Tokenizer) -> State
 ///   | a
 ///   | ~~~
 /// ```
+#[tactic(auto, using(md_registry::proofs::FlowSteps::flow_rule))]
 pub fn before_raw(tokenizer: &mut Tokenizer) -> State
     requires { IsAt NeedsNothing (StateName.Flow FlowState.BeforeRaw) (world tokenizer.old) }
     ensures to { result ≢ State.Error → result ≡ (before_transition LeafName.Fence (world tokenizer.old)).to }
     ensures world { result ≢ State.Error →
         world tokenizer.new ≡ (before_transition LeafName.Fence (world tokenizer.old)).world }
+    ensures rule { result ≢ State.Error →
+        FlowMeans FlowState.BeforeRaw (world tokenizer.old) result (world tokenizer.new) }
+    ensures full { OnError result (IsFull tokenizer.new) }
 {
     if !raw_flow::may_begin(look_behind(tokenizer)) {
         return State::Retry(StateName::Flow(FlowState::BeforeHtml));
@@ -146,11 +162,15 @@ pub fn before_raw(tokenizer: &mut Tokenizer) -> State
 /// > | <div>
 ///     ^
 /// ```
+#[tactic(auto, using(md_registry::proofs::FlowSteps::flow_rule))]
 pub fn before_html(tokenizer: &mut Tokenizer) -> State
     requires { IsAt NeedsNothing (StateName.Flow FlowState.BeforeHtml) (world tokenizer.old) }
     ensures to { result ≢ State.Error → result ≡ (before_transition LeafName.HtmlFlow (world tokenizer.old)).to }
     ensures world { result ≢ State.Error →
         world tokenizer.new ≡ (before_transition LeafName.HtmlFlow (world tokenizer.old)).world }
+    ensures rule { result ≢ State.Error →
+        FlowMeans FlowState.BeforeHtml (world tokenizer.old) result (world tokenizer.new) }
+    ensures full { OnError result (IsFull tokenizer.new) }
 {
     if !html_flow::may_begin(look_behind(tokenizer)) {
         return State::Retry(StateName::Flow(FlowState::BeforeHeadingAtx));
@@ -168,11 +188,15 @@ pub fn before_html(tokenizer: &mut Tokenizer) -> State
 /// > | # a
 ///     ^
 /// ```
+#[tactic(auto, using(md_registry::proofs::FlowSteps::flow_rule))]
 pub fn before_heading_atx(tokenizer: &mut Tokenizer) -> State
     requires { IsAt NeedsNothing (StateName.Flow FlowState.BeforeHeadingAtx) (world tokenizer.old) }
     ensures to { result ≢ State.Error → result ≡ (before_transition LeafName.HeadingAtx (world tokenizer.old)).to }
     ensures world { result ≢ State.Error →
         world tokenizer.new ≡ (before_transition LeafName.HeadingAtx (world tokenizer.old)).world }
+    ensures rule { result ≢ State.Error →
+        FlowMeans FlowState.BeforeHeadingAtx (world tokenizer.old) result (world tokenizer.new) }
+    ensures full { OnError result (IsFull tokenizer.new) }
 {
     if !heading_atx::may_begin(look_behind(tokenizer)) {
         return State::Retry(StateName::Flow(FlowState::BeforeHeadingSetext));
@@ -191,11 +215,15 @@ pub fn before_heading_atx(tokenizer: &mut Tokenizer) -> State
 /// > | =
 ///     ^
 /// ```
+#[tactic(auto, using(md_registry::proofs::FlowSteps::flow_rule))]
 pub fn before_heading_setext(tokenizer: &mut Tokenizer) -> State
     requires { IsAt NeedsNothing (StateName.Flow FlowState.BeforeHeadingSetext) (world tokenizer.old) }
     ensures to { result ≢ State.Error → result ≡ (before_transition LeafName.HeadingSetext (world tokenizer.old)).to }
     ensures world { result ≢ State.Error →
         world tokenizer.new ≡ (before_transition LeafName.HeadingSetext (world tokenizer.old)).world }
+    ensures rule { result ≢ State.Error →
+        FlowMeans FlowState.BeforeHeadingSetext (world tokenizer.old) result (world tokenizer.new) }
+    ensures full { OnError result (IsFull tokenizer.new) }
 {
     if !heading_setext::may_begin(look_behind(tokenizer)) {
         return State::Retry(StateName::Flow(FlowState::BeforeThematicBreak));
@@ -213,11 +241,15 @@ pub fn before_heading_setext(tokenizer: &mut Tokenizer) -> State
 /// > | ***
 ///     ^
 /// ```
+#[tactic(auto, using(md_registry::proofs::FlowSteps::flow_rule))]
 pub fn before_thematic_break(tokenizer: &mut Tokenizer) -> State
     requires { IsAt NeedsNothing (StateName.Flow FlowState.BeforeThematicBreak) (world tokenizer.old) }
     ensures to { result ≢ State.Error → result ≡ (before_transition LeafName.ThematicBreak (world tokenizer.old)).to }
     ensures world { result ≢ State.Error →
         world tokenizer.new ≡ (before_transition LeafName.ThematicBreak (world tokenizer.old)).world }
+    ensures rule { result ≢ State.Error →
+        FlowMeans FlowState.BeforeThematicBreak (world tokenizer.old) result (world tokenizer.new) }
+    ensures full { OnError result (IsFull tokenizer.new) }
 {
     if !thematic_break::may_begin(look_behind(tokenizer)) {
         return State::Retry(StateName::Flow(FlowState::BeforeGfmTable));
@@ -238,11 +270,15 @@ pub fn before_thematic_break(tokenizer: &mut Tokenizer) -> State
 /// > | | b |
 ///     ^
 /// ```
+#[tactic(auto, using(md_registry::proofs::FlowSteps::flow_rule))]
 pub fn before_gfm_table(tokenizer: &mut Tokenizer) -> State
     requires { IsAt NeedsNothing (StateName.Flow FlowState.BeforeGfmTable) (world tokenizer.old) }
     ensures to { result ≢ State.Error → result ≡ (before_transition LeafName.GfmTable (world tokenizer.old)).to }
     ensures world { result ≢ State.Error →
         world tokenizer.new ≡ (before_transition LeafName.GfmTable (world tokenizer.old)).world }
+    ensures rule { result ≢ State.Error →
+        FlowMeans FlowState.BeforeGfmTable (world tokenizer.old) result (world tokenizer.new) }
+    ensures full { OnError result (IsFull tokenizer.new) }
 {
     if !gfm_table::may_begin(tokenizer.flags.leaf, look_behind(tokenizer)) {
         return State::Retry(StateName::Flow(FlowState::BeforeContent));
@@ -261,6 +297,7 @@ pub fn before_leaf(tokenizer: &mut Tokenizer, state: FlowState) -> State
     ensures to { result ≢ State.Error → result ≡ (leaf_transition (tried_at state) (world tokenizer.old)).to }
     ensures world { result ≢ State.Error →
         world tokenizer.new ≡ (leaf_transition (tried_at state) (world tokenizer.old)).world }
+    ensures full { OnError result (IsFull tokenizer.new) }
 {
     match state {
         FlowState::BeforeCodeIndented => before_code_indented(tokenizer),
@@ -280,11 +317,15 @@ pub fn before_leaf(tokenizer: &mut Tokenizer, state: FlowState) -> State
 /// > | a
 ///     ^
 /// ```
+#[tactic(auto, using(md_registry::proofs::FlowSteps::flow_rule))]
 pub fn before_content(tokenizer: &mut Tokenizer) -> State
     requires { IsAt NeedsNothing (StateName.Flow FlowState.BeforeContent) (world tokenizer.old) }
     ensures to { result ≢ State.Error → result ≡ (before_content_transition (world tokenizer.old)).to }
     ensures world { result ≢ State.Error →
         world tokenizer.new ≡ (before_content_transition (world tokenizer.old)).world }
+    ensures rule { result ≢ State.Error →
+        FlowMeans FlowState.BeforeContent (world tokenizer.old) result (world tokenizer.new) }
+    ensures full { OnError result (IsFull tokenizer.new) }
 {
     or_error!(tokenizer.attempt(State::Next(StateName::Flow(FlowState::After)), State::Nok));
     State::Retry(StateName::Content(ContentState::ChunkStart))
@@ -296,10 +337,12 @@ pub fn before_content(tokenizer: &mut Tokenizer) -> State
 /// > |
 ///     ^
 /// ```
+#[tactic(auto, using(md_registry::proofs::FlowSteps::flow_rule))]
 pub fn blank_line_after(tokenizer: &mut Tokenizer) -> State
     requires { IsAt NeedsNothing (StateName.Flow FlowState.BlankLineAfter) (world tokenizer.old) }
     ensures to { result ≡ (blank_line_after_transition (world tokenizer.old)).to }
     ensures world { world tokenizer.new ≡ (blank_line_after_transition (world tokenizer.old)).world }
+    ensures rule { FlowMeans FlowState.BlankLineAfter (world tokenizer.old) result (world tokenizer.new) }
 {
     tokenizer.flags.blank = true;
     leaf_after(tokenizer)
@@ -311,10 +354,12 @@ pub fn blank_line_after(tokenizer: &mut Tokenizer) -> State
 /// > | ***
 ///        ^
 /// ```
+#[tactic(auto, using(md_registry::proofs::FlowSteps::flow_rule))]
 pub fn leaf_after(tokenizer: &mut Tokenizer) -> State
     requires { IsAt NeedsNothing (StateName.Flow FlowState.LeafAfter) (world tokenizer.old) }
     ensures to { result ≡ (leaf_after_transition (world tokenizer.old)).to }
     ensures world { world tokenizer.new ≡ (leaf_after_transition (world tokenizer.old)).world }
+    ensures rule { FlowMeans FlowState.LeafAfter (world tokenizer.old) result (world tokenizer.new) }
 {
     tokenizer.flags.leaf = HeldLeaf::None;
     State::Retry(StateName::Document(DocumentState::FlowEnd))
@@ -326,20 +371,25 @@ pub fn leaf_after(tokenizer: &mut Tokenizer) -> State
 /// > | a
 ///      ^
 /// ```
+#[tactic(auto, using(md_registry::proofs::FlowSteps::flow_rule))]
 pub fn after(_tokenizer: &mut Tokenizer) -> State
     requires { IsAt NeedsNothing (StateName.Flow FlowState.After) (world _tokenizer.old) }
     ensures to { result ≡ (after_transition (world _tokenizer.old)).to }
     ensures world { world _tokenizer.new ≡ (after_transition (world _tokenizer.old)).world }
+    ensures rule { FlowMeans FlowState.After (world _tokenizer.old) result (world _tokenizer.new) }
 {
     State::Retry(StateName::Document(DocumentState::FlowEnd))
 }
 
 /// Calls a state of flow.
+#[tactic(auto, using(md_registry::proofs::FlowSteps::flow_rule))]
 pub fn call(tokenizer: &mut Tokenizer, state: FlowState) -> State
     requires { IsAt NeedsNothing (StateName.Flow state) (world tokenizer.old) }
     ensures to { result ≢ State.Error → result ≡ (flow_own_transition state (world tokenizer.old)).to }
     ensures world { result ≢ State.Error →
         world tokenizer.new ≡ (flow_own_transition state (world tokenizer.old)).world }
+    ensures rule { result ≢ State.Error → FlowMeans state (world tokenizer.old) result (world tokenizer.new) }
+    ensures full { OnError result (IsFull tokenizer.new) }
 {
     match state {
         FlowState::Start => start(tokenizer),

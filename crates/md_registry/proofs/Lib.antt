@@ -22,3 +22,7 @@ pub mod States
 pub mod Termination
 pub mod Trials
 pub mod UnderNames
+pub mod FlowLemmas
+pub mod RegistryContainers
+pub mod DocumentMeans
+pub mod FlowSteps

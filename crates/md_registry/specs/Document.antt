@@ -34,6 +34,10 @@ start_transition w =
 abbrev pub before_frontmatter_transition : World → Transition
 before_frontmatter_transition w = record { to = Retry (s.Frontmatter front.Start); world = tried w Ok Ok }
 
+-- behind the last container that may open, where none does: the containers of the line are all there
+abbrev pub none_opens_transition : World → Transition
+none_opens_transition w = record { to = Retry (s.Document document.ContainersAfter); world = w }
+
 -- each state with what it does, where there is memory: in front of the lines, and between the containers of a line;
 -- those of blocks that are not built refuse
 abbrev pub document_own_transition : DocumentState → World → Transition
@@ -45,6 +49,7 @@ document_own_transition document.ContainerNewAfter w = new_after_transition w
 document_own_transition document.ContainersAfter w = containers_after_transition w
 document_own_transition document.FlowInside w = inside_transition w
 document_own_transition document.FlowEnd w = flow_end_transition w
+document_own_transition document.ContainerNewBeforeNotFootnoteDefinition w = none_opens_transition w
 document_own_transition state w = opener_transition (opener_at state) w
 
 abbrev pub document_rank : StateName → Position → Rank

@@ -1,9 +1,12 @@
 -- What is left at each state of the lines of a text: the lines that are still to come, each by its containers and the
 -- block that takes the rest of it.
 use Rattle.std.specs.Prelude.{◌≡◌, ℕ, zero, suc, Bool, true, false, ◌==◌, Option, Some, None, if◌then◌else◌, List, []}
-use Rattle.std.specs.Prelude.{◌∷◌, ◌++◌, length}
+use Rattle.std.specs.Prelude.{◌∷◌, ◌++◌, ◌<◌, ◌⊎◌, length}
 use Rattle.md_engine.specs.declared.configuration.ParseOptions.{ParseOptions}
+use Rattle.md_engine.specs.declared.state.Name.{Name as StateName}
 use Rattle.md_engine.specs.declared.state.Name.TheVariants as s
+use Rattle.md_engine.specs.declared.state.State.{State}
+use Rattle.md_engine.specs.declared.state.State.TheVariants.{Next}
 use Rattle.md_engine.specs.declared.state.content.State.TheVariants as content
 use Rattle.md_engine.specs.declared.state.document.State.{State as DocumentState}
 use Rattle.md_engine.specs.declared.state.document.State.TheVariants as document
@@ -11,13 +14,15 @@ use Rattle.md_engine.specs.declared.state.flow.State.{State as FlowState}
 use Rattle.md_engine.specs.declared.state.flow.State.TheVariants as flow
 use Rattle.md_engine.specs.declared.tokenizer.container.Container.{Container}
 use Rattle.md_engine.specs.declared.tokenizer.container.name.ContainerKind.{ContainerKind}
-use Rattle.md_engine.specs.Meaning.{Accepts, Behaviour, Cell, Here, Refuses}
-use Rattle.md_engine.specs.World.{closed_events, container_of, kept}
+use Rattle.md_engine.specs.Meaning.{Accepts, Behaviour, Cell, Feed, Here, Refuses, Steps}
+use Rattle.md_engine.specs.Sees.{IsStep, Sees}
+use Rattle.md_engine.specs.World.{World, closed_events, container_of, kept}
 use Rattle.md_content.specs.ChunkRule.{chunk_at}
 use Rattle.md_leaves.specs.BlankRule.{HasBlank, blank_at}
 use Rattle.md_seam.specs.Events.Nested.{pair}
 use Rattle.md_seam.specs.Look.{first_seen}
-use Rattle.md_seam.specs.Spaces.{ends_line}
+use Rattle.md_seam.specs.Spaces.{IsRest, ends_line}
+use Rattle.md_front_rooms.specs.DocumentRule.{document_behaves}
 use Rattle.md_frame.specs.LeafName.{LeafName}
 use Rattle.md_registry.specs.Registry.{begins_at, behind, continues_at, goes_on_with, asked_first, leaf, opener_at}
 use Rattle.md_registry.specs.Registry.{openers, openers_behind, opens_with, bars_containers, trials, tried_at}
@@ -185,6 +190,8 @@ containers_behave options next document.ContainerNewAfter cells h = new_of optio
 containers_behave options next document.ContainersAfter cells h = behind_containers options next cells h
 containers_behave options next document.FlowInside cells h = inside_of options next cells h
 containers_behave options next document.FlowEnd cells h = line_ended next cells h
+containers_behave options next document.ContainerNewBeforeNotFootnoteDefinition cells h =
+    behind_containers options next cells h
 containers_behave options next state cells h = opener_behaves options next (opener_at state) cells h
 
 -- at each state in front of a leaf, by the leaf that is tried there,
@@ -213,3 +220,64 @@ pub record HasFlow (B : Behaviour) (options : ParseOptions) (next : Rule) : Type
       B (s.Document state) cells h ≡ containers_behave options next state cells h
   pub leaves : (state : FlowState) (cells : List Cell) (h : Here) →
       B (s.Flow state) cells h ≡ leaves_behave options next state cells h
+
+-- What a state means.
+
+-- how many lines a call of a state feeds: one where it takes the ending of a line
+abbrev pub feeds : StateName → Option ℕ → ℕ
+feeds (s.Document document.FlowEnd) (Some b) = if b == 10 then 1 else 0
+feeds name current = 0
+
+-- either no ending is taken, or the rule for what follows is what is left at the begin of a line
+abbrev pub GoesOn : Behaviour → Rule → ℕ → Type 0
+GoesOn B next size =
+    (size ≡ 0) ⊎
+    ((cells : List Cell) (h : Here) → next cells h ≡ B (s.Document document.ContainerExistingBefore) cells h)
+
+-- what a state of flow needs: one that tries a leaf is called at rest
+abbrev pub FlowInvariant : FlowState → World → Type 0
+FlowInvariant flow.Start w = Unit {0}
+FlowInvariant flow.BlankLineBefore w = Unit {0}
+FlowInvariant flow.BeforeContent w = Unit {0}
+FlowInvariant flow.BlankLineAfter w = Unit {0}
+FlowInvariant flow.LeafAfter w = Unit {0}
+FlowInvariant flow.After w = Unit {0}
+FlowInvariant _ w = IsRest w.scratch
+
+-- a state of flow means: its call is one step of the rule of a line, whatever follows behind the line
+unfoldable pub FlowMeans : FlowState → World → State → World → Type 0
+FlowMeans state old to new = FlowInvariant state old → (next : Rule) →
+    IsStep (λ B. HasFlow B old.setting.options next) (s.Flow state) to old new
+
+-- what a state between the containers of a line needs: one that asks or tries a container is called at rest, and one
+-- that ends containers with no attempt around it
+abbrev pub ContainersInvariant : DocumentState → World → Type 0
+ContainersInvariant document.ContainerExistingBefore w = IsRest w.scratch
+ContainersInvariant document.ContainerExistingAfter w = Unit {0}
+ContainersInvariant document.ContainerNewAfter w = w.frames ≡ []
+ContainersInvariant document.ContainersAfter w = Unit {0}
+ContainersInvariant document.FlowInside w = Unit {0}
+ContainersInvariant document.FlowEnd w = w.frames ≡ []
+ContainersInvariant document.ContainerNewBeforeNotFootnoteDefinition w = Unit {0}
+ContainersInvariant _ w = IsRest w.scratch
+
+-- such a state means: its call is one step of the rule of a line, and behind the ending of a line of the next line's
+unfoldable pub ContainersMean : DocumentState → World → State → World → Type 0
+ContainersMean state old to new = ContainersInvariant state old → (next : Rule) (B : Behaviour) (feed : Feed) →
+    HasFlow B old.setting.options next → Sees feed old →
+    GoesOn B next (feeds (s.Document state) old.current) → Steps B feed (Next (s.Document state)) old to new
+
+-- a state in front of the lines means: its call is one step of what is left of the document
+unfoldable pub FrontMeans : DocumentState → World → State → World → Type 0
+FrontMeans state old to new = (feed : Feed) →
+    Steps (document_behaves old.setting.options) feed (Next (s.Document state)) old to new
+
+-- each state of the document, in front of the lines or between the containers of one
+abbrev pub DocumentMeans : DocumentState → World → State → World → Type 0
+DocumentMeans document.Start old to new = FrontMeans document.Start old to new
+DocumentMeans document.BeforeFrontmatter old to new = FrontMeans document.BeforeFrontmatter old to new
+DocumentMeans state old to new = ContainersMean state old to new
+
+-- containers are open, whose ends are put in a list of their own before they are events
+abbrev pub HasOpen : World → Type 0
+HasOpen w = 0 < length w.flags.containers

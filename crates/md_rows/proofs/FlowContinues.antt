@@ -25,7 +25,7 @@ use Rattle.md_frame.specs.Rule.{Rule, tried}
 use Rattle.md_registry.specs.LineFlags.{asks, ended_on, next_container, over_end, went_on}
 use Rattle.md_frame.specs.Passed.{Passed, passed_by, passed_here, passed_over}
 use Rattle.md_rows.specs.Stands.{AreOpen}
-use Rattle.md_rows.proofs.RegistryContainers.{further-is, goes-over, goes-same, goes-shorter, goes-within}
+use Rattle.md_registry.proofs.RegistryContainers.{further-is, goes-over, goes-same, goes-shorter, goes-within}
 use Rattle.md_rows.proofs.FlowHeld.{IsNext, open-append, open-length, open-next, open-parts}
 
 pub went-shorter : (options : ParseOptions) (cs : List Container) (cells : List Cell) (p : Point) →

@@ -25,11 +25,11 @@ use Rattle.md_registry.specs.LineFlags.{begun_line, blanked, ended_on, next_cont
 use Rattle.md_registry.specs.LineFlags.{went_on}
 use Rattle.md_frame.specs.LeafName.{LeafName}
 use Rattle.md_registry.specs.Registry.{begins_at, continues_at, leaf, openers, trials}
-use Rattle.md_rows.proofs.FlowLemmas.{blank_at-shrinks, chunk_at-shrinks}
+use Rattle.md_registry.proofs.FlowLemmas.{blank_at-shrinks, chunk_at-shrinks}
 use Rattle.md_frame.proofs.FromEnding.{stops-same}
 use Rattle.md_frame.proofs.LeafLaws.{Shrinks}
 use Rattle.md_registry.proofs.Registry.{laws}
-use Rattle.md_rows.proofs.RegistryContainers.{continues-shortens, begins-shortens}
+use Rattle.md_registry.proofs.RegistryContainers.{continues-shortens, begins-shortens}
 use Rattle.md_containers.proofs.Shorter.{Shortens}
 
 -- all is taken

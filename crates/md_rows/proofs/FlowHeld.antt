@@ -16,7 +16,7 @@ use Rattle.md_meaning.specs.State.{Container}
 use Rattle.md_frame.specs.Change.{ends_of}
 use Rattle.md_registry.specs.Registry.{MatchesContainer}
 use Rattle.md_rows.specs.Stands.{AreOpen}
-use Rattle.md_rows.proofs.RegistryContainers.{known-name}
+use Rattle.md_registry.proofs.RegistryContainers.{known-name}
 
 pub open-length : (ks : List Known) (cs : List Container) → AreOpen ks cs → length ks ≡ length cs
 open-length [] [] are = refl

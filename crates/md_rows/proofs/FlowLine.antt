@@ -31,7 +31,7 @@ use Rattle.md_frame.specs.Row.{BlankRow, LeafRow, RowKind, TextRow}
 use Rattle.md_rows.specs.Stands.{AreOpen}
 use Rattle.md_rows.proofs.ContainedLemmas.{lazy-some}
 use Rattle.md_registry.proofs.Registry.{laws}
-use Rattle.md_rows.proofs.RegistryContainers.{opens-ended, opens-same, opens-shorter}
+use Rattle.md_registry.proofs.RegistryContainers.{opens-ended, opens-same, opens-shorter}
 use Rattle.md_rows.proofs.FlowLeaf.{added_by, blank_by, inside-is, leaf_here}
 use Rattle.md_rows.proofs.FlowHeld.{Ends, closed-ends, closed-none, open-all, open-append, open-length, open-parts}
 use Rattle.md_rows.proofs.FlowContinues.{Gone, asked_at, existing-is, left_of, went-shorter}

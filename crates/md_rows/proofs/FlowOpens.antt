@@ -21,7 +21,7 @@ use Rattle.md_frame.specs.Passed.{Passed, passed_by, passed_here}
 use Rattle.md_registry.specs.Registry.{container_rules, openers, opens_at, opens_by}
 use Rattle.md_rows.specs.Rows.{Front, in_front, opened_prefixes, no_front}
 use Rattle.md_rows.specs.Stands.{AreOpen}
-use Rattle.md_rows.proofs.RegistryContainers.{opening-is, opens-same, opens-shorter}
+use Rattle.md_registry.proofs.RegistryContainers.{opening-is, opens-same, opens-shorter}
 use Rattle.md_rows.proofs.FlowHeld.{closed-none, open-all, open-append}
 use Rattle.md_rows.proofs.FlowContinues.{asked_at}
 

@@ -3,11 +3,9 @@ pub mod BetweenRows
 pub mod ContainedLemmas
 pub mod ContentCut
 pub mod Defined
-pub mod DocumentMeans
 pub mod EachRow
 pub mod EndingRows
 pub mod FlowEnds
-pub mod FlowLemmas
 pub mod FlowLeaf
 pub mod FlowHeld
 pub mod FlowContinues
@@ -37,7 +35,6 @@ pub mod ParagraphReads
 pub mod PartedRows
 pub mod PieceRows
 pub mod PlainEvents
-pub mod RegistryContainers
 pub mod RegistryFound
 pub mod RowFacts
 pub mod RowKinds

@@ -29,7 +29,7 @@ use Rattle.md_registry.specs.Registry.{begins_at, continues_at, leaf, openers, t
 use Rattle.md_frame.proofs.FromEnding.{from_ending-again, from_ending-shrinks}
 use Rattle.md_frame.proofs.LeafLaws.{Shrinks, cond-shrinks}
 use Rattle.md_registry.proofs.Registry.{laws}
-use Rattle.md_rows.proofs.RegistryContainers.{begins-shortens, continues-shortens}
+use Rattle.md_registry.proofs.RegistryContainers.{begins-shortens, continues-shortens}
 use Rattle.md_containers.proofs.Shorter.{Shortens}
 
 -- Blank lines and content: a line is taken or refused.

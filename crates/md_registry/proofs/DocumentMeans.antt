@@ -60,8 +60,14 @@ resumed options feed behind w (Refuses s g) =
     (record { events = x; point = w.point; scratch = s; flags = g })) back)
 resumed options feed behind w Fails = refl
 
-own_means : (options : ParseOptions) (feed : Feed) (state : DocumentState) (w : World) →
-    stands document_table_scheme w (Next (n.Document state)) →
+-- the states in front of the lines
+abbrev pub IsFront : DocumentState → Type 0
+IsFront document.Start = Unit {0}
+IsFront document.BeforeFrontmatter = Unit {0}
+IsFront _ = ⊥
+
+pub own_means : (options : ParseOptions) (feed : Feed) (state : DocumentState) (w : World) →
+    IsFront state →
     Steps (document_behaves options) feed (Next (n.Document state)) w (document_own_transition state w).to
     (document_own_transition state w).world
 own_means options feed document.Start w at =
@@ -73,6 +79,11 @@ own_means options feed document.BeforeFrontmatter w at =
     (resumed options feed Ok w (front_at options (feed w.point) (here w)))
 own_means options feed state w at = absurd at
 
+front-at : (state : DocumentState) (w : World) → stands document_table_scheme w (Next (n.Document state)) → IsFront state
+front-at document.Start w at = tt
+front-at document.BeforeFrontmatter w at = tt
+front-at _ w at = absurd at
+
 document_means : (feed : Feed) (name : StateName) (w : World) → Sees feed w → w.current ≡ looks w →
     stands document_table_scheme w (Next name) →
     Steps (document_behaves w.setting.options) feed (Next name) w (document_transition name w).to
@@ -83,7 +94,8 @@ document_means feed (n.Frontmatter state) w s c at =
     front_means (document_behaves w.setting.options) feed state w (has_front w.setting.options) s
 document_means feed (n.SpaceOrTab state) w s c at =
     white_means (document_behaves w.setting.options) feed state w (has_white w.setting.options) s
-document_means feed (n.Document state) w s c at = own_means w.setting.options feed state w at
+document_means feed (n.Document state) w s c at =
+    own_means w.setting.options feed state w (front-at state w at)
 document_means feed name w s c at = absurd at
 
 -- each state of the document takes one step of what the document means
