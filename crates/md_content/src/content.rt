@@ -37,6 +37,7 @@ ghost use Rattle.md_seam.specs.Spaces.{ends_line};
 ghost use Rattle.md_seam.specs.Stays.{TakesEach};
 ghost use Rattle.md_seam.specs.Transition.{IsAt, NeedsNothing};
 
+pub use crate::definitions::{definition_after, definition_before};
 use crate::labels::{between, labels};
 use crate::{definitions, paragraph};
 use md_engine::configuration::ParseOptions;
