@@ -5,16 +5,17 @@ use Rattle.md_engine.specs.declared.event.Name.TheVariants as parts
 use Rattle.md_engine.specs.declared.state.Name.TheVariants as n
 use Rattle.md_engine.specs.declared.state.content.State.{State as ContentState}
 use Rattle.md_engine.specs.declared.state.content.State.TheVariants as content
-use Rattle.md_engine.specs.declared.state.State.TheVariants.{Next}
+use Rattle.md_engine.specs.declared.state.State.{State}
+use Rattle.md_engine.specs.declared.state.State.TheVariants.{Nok, Next}
 use Rattle.md_engine.specs.declared.event.Point.{Point}
 use Rattle.md_engine.specs.declared.tokenizer.Scratch.{Scratch}
 use Rattle.md_engine.specs.Meaning.{Accepts, Behaviour, Cell, Feed, Here, Steps, here}
 use Rattle.md_engine.specs.Scheme.{After, position}
 use Rattle.md_engine.specs.World.{World, after, looks}
 use Rattle.md_engine.specs.Sees.{Sees, ahead, cell_here}
-use Rattle.md_engine.proofs.StepOf.{moves, passes}
-use Rattle.md_content.specs.ChunkRule.{HasChunk, chunk_at, inside_chunk, longer}
-use Rattle.md_content.specs.Chunks.{chunk_inside_code, chunk_ready, chunk_start_transition, chunk_transition}
+use Rattle.md_engine.proofs.StepOf.{moves, passes, steps-as}
+use Rattle.md_content.specs.ChunkRule.{ChunkMeans, HasChunk, chunk_at, inside_chunk, longer}
+use Rattle.md_content.specs.Chunks.{ChunkInvariant, chunk_inside_code, chunk_ready, chunk_start_transition, chunk_transition}
 use Rattle.md_content.specs.Chunks.{content_link, line_taken, rest_taken, unbegun}
 use Rattle.md_content.proofs.LineTaken.{bytes-none, taken-more}
 use Rattle.md_meaning.specs.Rest.{Rest}
@@ -128,12 +129,27 @@ chunk_inside_means B feed w false has s c le e =
     ∙ sym (has.each content.ChunkInside _ _))
 
 -- each state of a line of content takes one step of what it means
-pub chunk_means : (B : Behaviour) (feed : Feed) (state : ContentState) (w : World)
-    (K : After) →
+chunk_steps : (B : Behaviour) (feed : Feed) (state : ContentState) (w : World) → HasChunk B w.setting.bytes →
+    Sees feed w → w.current ≡ looks w → ChunkInvariant (n.Content state) (position w) →
+    Steps B feed (Next (n.Content state)) w (chunk_transition state w).to (chunk_transition state w).world
+chunk_steps B feed content.ChunkStart w has s c at = chunk_start_means B feed w has at
+chunk_steps B feed content.ChunkInside w has s c at = chunk_inside_means B feed w _ has s c at refl
+chunk_steps B feed content.DefinitionBefore w has s c at =
+    passes B feed _ Nok w w refl refl (has.each content.DefinitionBefore _ _)
+chunk_steps B feed content.DefinitionAfter w has s c at =
+    passes B feed _ Nok w w refl refl (has.each content.DefinitionAfter _ _)
+
+-- and so where its attempts end as they have to
+pub chunk_means : (B : Behaviour) (feed : Feed) (state : ContentState) (w : World) (K : After) →
     HasChunk B w.setting.bytes → Sees feed w → w.current ≡ looks w → chunk_ready (n.Content state) (position w) K →
-    Steps B feed (Next (n.Content state)) w (chunk_transition state w).to
-    (chunk_transition state w).world
-chunk_means B feed content.ChunkStart w K has s c at = chunk_start_means B feed w has at.0
-chunk_means B feed content.ChunkInside w K has s c at =
-    chunk_inside_means B feed w _ has s c at.0 refl
+    Steps B feed (Next (n.Content state)) w (chunk_transition state w).to (chunk_transition state w).world
+chunk_means B feed content.ChunkStart w K has s c at = chunk_steps B feed content.ChunkStart w has s c at.0
+chunk_means B feed content.ChunkInside w K has s c at = chunk_steps B feed content.ChunkInside w has s c at.0
 chunk_means B feed state w K has s c at = absurd at
+
+-- what answers as the transition of a state does means what the state means
+pub chunk_rule : (state : ContentState) (w new : World) (to : State) → w.current ≡ looks w →
+    to ≡ (chunk_transition state w).to → new ≡ (chunk_transition state w).world → ChunkMeans state w to new
+unfolding ChunkMeans
+chunk_rule state w new to c e k at B feed has s =
+    steps-as B feed _ _ to w _ new e k (chunk_steps B feed state w has s c at)

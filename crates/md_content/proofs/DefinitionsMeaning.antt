@@ -12,17 +12,18 @@ use Rattle.md_engine.specs.declared.state.content.State.{State as ContentState}
 use Rattle.md_engine.specs.declared.state.content.State.TheVariants as its
 use Rattle.md_engine.specs.declared.state.definition.State.TheVariants as definition
 use Rattle.md_engine.specs.declared.state.paragraph.State.TheVariants as paragraph
+use Rattle.md_engine.specs.declared.state.State.{State}
 use Rattle.md_engine.specs.declared.state.State.TheVariants.{Nok, Next}
 use Rattle.md_engine.specs.declared.tokenizer.Frame.{Frame}
 use Rattle.md_engine.specs.Meaning.{Accepts, Behaviour, Cell, Feed, Here, Refuses, Steps, here, resume}
 use Rattle.md_engine.specs.Scheme.{After, position}
 use Rattle.md_engine.specs.World.{World, after}
 use Rattle.md_engine.specs.Sees.{Sees, ahead, cell_here}
-use Rattle.md_engine.proofs.StepOf.{begins_only, moves, passes}
+use Rattle.md_engine.proofs.StepOf.{begins_only, moves, passes, steps-as}
 use Rattle.md_content.specs.ContentRule.{behind_definition, content_by, content_over, definition_in}
 use Rattle.md_content.specs.Definitions.{definition_after_code, definition_before_code, definitions_ready}
 use Rattle.md_content.specs.Definitions.{definitions_transition, may_define}
-use Rattle.md_content.specs.DefinitionsRule.{HasDefinitions, after_definition, content_at}
+use Rattle.md_content.specs.DefinitionsRule.{DefinitionsMeans, HasDefinitions, after_definition, content_at}
 use Rattle.md_content.specs.ParagraphRule.{inside_paragraph, paragraph_at, paragraph_line, paragraph_over}
 use Rattle.md_content.proofs.ContentRuleLemmas.{content-unfolds, in-none, in-takes}
 use Rattle.md_content.proofs.DefinitionTakes.{takes-end}
@@ -174,12 +175,29 @@ after_means B feed options w (Some b) has e = go (nat_eq b line_feed) refl
         ∙ after-other options c cs (here w) k))
 
 -- each state in front of a paragraph takes one step of what it means
+definitions_steps : (B : Behaviour) (feed : Feed) (state : ContentState) (w : World) →
+    HasDefinitions B w.setting.options → Sees feed w → IsRest w.scratch →
+    Steps B feed (Next (n.Content state)) w (definitions_transition state w).to (definitions_transition state w).world
+definitions_steps B feed its.DefinitionBefore w has s at =
+    before_means B feed w.setting.options w _ has s at refl
+definitions_steps B feed its.DefinitionAfter w has s at = after_means B feed w.setting.options w w.current has s.next
+definitions_steps B feed its.ChunkStart w has s at = passes B feed _ Nok w w refl refl (has.each its.ChunkStart _ _)
+definitions_steps B feed its.ChunkInside w has s at = passes B feed _ Nok w w refl refl (has.each its.ChunkInside _ _)
+
+-- and so where its attempts end as they have to
 pub definitions_means : (B : Behaviour) (feed : Feed) (state : ContentState) (w : World) (K : After) →
     HasDefinitions B w.setting.options → Sees feed w → definitions_ready (n.Content state) (position w) K →
     Steps B feed (Next (n.Content state)) w (definitions_transition state w).to (definitions_transition state w).world
 definitions_means B feed its.DefinitionBefore w K has s at =
-    before_means B feed w.setting.options w _ has s at.0 refl
+    definitions_steps B feed its.DefinitionBefore w has s at.0
 definitions_means B feed its.DefinitionAfter w K has s at =
-    after_means B feed w.setting.options w w.current has s.next
+    definitions_steps B feed its.DefinitionAfter w has s at.0
 definitions_means B feed its.ChunkStart w K has s at = absurd at
 definitions_means B feed its.ChunkInside w K has s at = absurd at
+
+-- what answers as the transition of a state does means what the state means
+pub definitions_rule : (state : ContentState) (w new : World) (to : State) → to ≡ (definitions_transition state w).to →
+    new ≡ (definitions_transition state w).world → DefinitionsMeans state w to new
+unfolding DefinitionsMeans
+definitions_rule state w new to e k at B feed has s =
+    steps-as B feed _ _ to w _ new e k (definitions_steps B feed state w has s at)

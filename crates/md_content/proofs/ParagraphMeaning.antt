@@ -5,14 +5,15 @@ use Rattle.md_engine.specs.declared.event.Name.TheVariants as parts
 use Rattle.md_engine.specs.declared.state.Name.TheVariants as n
 use Rattle.md_engine.specs.declared.state.paragraph.State.{State as ParagraphState}
 use Rattle.md_engine.specs.declared.state.paragraph.State.TheVariants as paragraph
+use Rattle.md_engine.specs.declared.state.State.{State}
 use Rattle.md_engine.specs.declared.state.State.TheVariants.{Next}
 use Rattle.md_engine.specs.Meaning.{Accepts, Behaviour, Cell, Feed, Here, Steps, here}
 use Rattle.md_engine.specs.World.{World, after}
 use Rattle.md_engine.specs.Sees.{Sees, ahead, cell_here}
-use Rattle.md_engine.proofs.StepOf.{moves, passes}
+use Rattle.md_engine.proofs.StepOf.{moves, passes, steps-as}
 use Rattle.md_content.specs.Paragraph.{inside_code, line_start_transition, paragraph_transition, start_transition}
 use Rattle.md_content.specs.Paragraph.{text_link}
-use Rattle.md_content.specs.ParagraphRule.{HasParagraph, inside_paragraph, paragraph_at}
+use Rattle.md_content.specs.ParagraphRule.{HasParagraph, ParagraphMeans, inside_paragraph, paragraph_at}
 use Rattle.md_content.specs.ParagraphRule.{paragraph_line}
 use Rattle.md_seam.specs.Events.Nested.{enter, enter_link, exit}
 
@@ -83,3 +84,10 @@ pub paragraph_means : (B : Behaviour) (feed : Feed) (state : ParagraphState) (w 
 paragraph_means B feed paragraph.Start w has s = paragraph_start_means B feed w has
 paragraph_means B feed paragraph.LineStart w has s = paragraph_line_means B feed w has
 paragraph_means B feed paragraph.Inside w has s = paragraph_inside_means B feed w has s
+
+-- what answers as the transition of a state does means what the state means
+pub paragraph_rule : (state : ParagraphState) (w new : World) (to : State) → to ≡ (paragraph_transition state w).to →
+    new ≡ (paragraph_transition state w).world → ParagraphMeans state w to new
+unfolding ParagraphMeans
+paragraph_rule state w new to e k B feed has s =
+    steps-as B feed _ _ to w _ new e k (paragraph_means B feed state w has s)

@@ -4,8 +4,12 @@ use Rattle.md_engine.specs.declared.event.Name.TheVariants as parts
 use Rattle.md_engine.specs.declared.state.Name.TheVariants as n
 use Rattle.md_engine.specs.declared.state.content.State.{State as ContentState}
 use Rattle.md_engine.specs.declared.state.content.State.TheVariants as its
+use Rattle.md_engine.specs.declared.state.State.{State}
 use Rattle.md_engine.specs.Meaning.{Accepts, Behaviour, Cell, Here, Outcome, Refuses}
-use Rattle.md_content.specs.Chunks.{content_link, rest_taken, unbegun}
+use Rattle.md_engine.specs.Scheme.{position}
+use Rattle.md_engine.specs.Sees.{IsStep}
+use Rattle.md_engine.specs.World.{World}
+use Rattle.md_content.specs.Chunks.{ChunkInvariant, content_link, rest_taken, unbegun}
 use Rattle.md_meaning.specs.Rest.{Rest}
 use Rattle.md_link_definitions.specs.OpenText.{text_behind}
 use Rattle.md_link_definitions.specs.WholeCells.{rest_here, whole_line}
@@ -44,3 +48,9 @@ chunk_behaves bytes _ cells h = Refuses h.scratch h.flags
 pub record HasChunk (B : Behaviour) (bytes : List ℕ) : Type 0 where
   pub each : (state : ContentState) (cells : List Cell) (h : Here) →
       B (n.Content state) cells h ≡ chunk_behaves bytes state cells h
+
+-- what a state of a line of content means: where what it needs holds, its call is one step of the rule
+unfoldable pub ChunkMeans : ContentState → World → State → World → Type 0
+ChunkMeans state old to new =
+    ChunkInvariant (n.Content state) (position old) →
+    IsStep (λ B. HasChunk B old.setting.bytes) (n.Content state) to old new

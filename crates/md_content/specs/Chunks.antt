@@ -73,6 +73,11 @@ abbrev pub chunk_rank : StateName → Position → Rank
 chunk_rank (n.Content its.ChunkStart) x = ranked 1 refl
 chunk_rank _ x = ranked 0 refl
 
+-- what a state of it needs: in a line, that this began before the point
+abbrev pub ChunkInvariant : StateName → Position → Type 0
+ChunkInvariant (n.Content its.ChunkInside) x = x.scratch.start ≤ whole_from x.point
+ChunkInvariant _ x = IsRest x.scratch
+
 -- in a line: at rest but for where it began
 abbrev pub in_chunk : Position → After → Type 0
 in_chunk x K =

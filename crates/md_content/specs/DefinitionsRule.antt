@@ -4,13 +4,16 @@ use Rattle.md_engine.specs.declared.configuration.ParseOptions.{ParseOptions}
 use Rattle.md_engine.specs.declared.state.Name.TheVariants as n
 use Rattle.md_engine.specs.declared.state.content.State.{State as ContentState}
 use Rattle.md_engine.specs.declared.state.content.State.TheVariants as its
+use Rattle.md_engine.specs.declared.state.State.{State}
 use Rattle.md_engine.specs.Meaning.{Accepts, Behaviour, Cell, Here, Outcome, Refuses}
+use Rattle.md_engine.specs.Sees.{IsStep}
+use Rattle.md_engine.specs.World.{World}
 use Rattle.md_content.specs.ContentRule.{behind_definition, content_over}
 use Rattle.md_content.specs.ParagraphRule.{HasParagraph}
 use Rattle.md_link_definitions.specs.DefinitionRule.{HasDefinition}
 use Rattle.md_seam.specs.Ahead.{point_after}
 use Rattle.md_seam.specs.Look.{first_seen}
-use Rattle.md_seam.specs.Spaces.{ends_line}
+use Rattle.md_seam.specs.Spaces.{IsRest, ends_line}
 
 -- the content of all that is left
 unfoldable pub content_at : ParseOptions → List Cell → Here → Outcome
@@ -42,3 +45,8 @@ pub record HasDefinitions (B : Behaviour) (options : ParseOptions) : Type 0 wher
   pub paragraph : HasParagraph B
   pub each : (state : ContentState) (cells : List Cell) (h : Here) →
       B (n.Content state) cells h ≡ definitions_behave options state cells h
+
+-- what a state in front of a paragraph means: at rest, its call is one step of the rule
+unfoldable pub DefinitionsMeans : ContentState → World → State → World → Type 0
+DefinitionsMeans state old to new =
+    IsRest old.scratch → IsStep (λ B. HasDefinitions B old.setting.options) (n.Content state) to old new

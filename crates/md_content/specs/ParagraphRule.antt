@@ -6,7 +6,10 @@ use Rattle.md_engine.specs.declared.event.Point.{Point}
 use Rattle.md_engine.specs.declared.state.Name.TheVariants as n
 use Rattle.md_engine.specs.declared.state.paragraph.State.{State as ParagraphState}
 use Rattle.md_engine.specs.declared.state.paragraph.State.TheVariants as its
+use Rattle.md_engine.specs.declared.state.State.{State}
 use Rattle.md_engine.specs.Meaning.{Accepts, Behaviour, Cell, Here, Outcome}
+use Rattle.md_engine.specs.Sees.{IsStep}
+use Rattle.md_engine.specs.World.{World}
 use Rattle.md_content.specs.Paragraph.{text_link}
 use Rattle.md_seam.specs.Ahead.{point_after}
 use Rattle.md_seam.specs.Events.Nested.{enter, enter_link, exit}
@@ -47,3 +50,7 @@ paragraph_behaves its.Inside cells h = inside_paragraph cells h
 pub record HasParagraph (B : Behaviour) : Type 0 where
   pub each : (state : ParagraphState) (cells : List Cell) (h : Here) →
       B (n.Paragraph state) cells h ≡ paragraph_behaves state cells h
+
+-- what a state of a paragraph means: its call is one step of the rule
+unfoldable pub ParagraphMeans : ParagraphState → World → State → World → Type 0
+ParagraphMeans state old to new = IsStep HasParagraph (n.Paragraph state) to old new

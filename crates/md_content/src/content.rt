@@ -13,6 +13,8 @@ ghost use Rattle.std.specs.Prelude.{◌≡◌, ◌≢◌, ℕ, ◌^◌, ◌<◌,
 ghost use Rattle.std.specs.Prelude.{OnOk, length};
 ghost use Rattle.std.specs.List.{position_or_len, prefix_len};
 ghost use Rattle.std.specs.Option.{option_map};
+ghost use Rattle.md_content.specs.ChunkRule.{ChunkMeans};
+ghost use Rattle.md_engine.specs.Full.{IsFull, OnError};
 ghost use Rattle.md_engine.specs.Found.{found_in};
 ghost use Rattle.md_engine.specs.Scheme.{stands};
 ghost use Rattle.md_engine.specs.World.{looks, world};
@@ -35,6 +37,7 @@ ghost use Rattle.md_seam.specs.Spaces.{ends_line};
 ghost use Rattle.md_seam.specs.Stays.{TakesEach};
 ghost use Rattle.md_seam.specs.Transition.{IsAt, NeedsNothing};
 
+pub use crate::definitions::{definition_after, definition_before};
 use crate::labels::{between, labels};
 use crate::{definitions, paragraph};
 use md_engine::configuration::ParseOptions;
@@ -97,10 +100,14 @@ fn text_with_line(tokenizer: &Tokenizer) -> HeldLeaf
 /// > | a
 ///     ^
 /// ```
+#[tactic(auto, using(crate::proofs::ContentMeaning::chunk_rule))]
 pub fn chunk_start(tokenizer: &mut Tokenizer) -> State
     requires { IsAt NeedsNothing (StateName.Content ContentState.ChunkStart) (world tokenizer.old) }
     ensures to { result ≢ State.Error → result ≡ (chunk_start_transition (world tokenizer.old)).to }
     ensures world { result ≢ State.Error → world tokenizer.new ≡ (chunk_start_transition (world tokenizer.old)).world }
+    ensures rule { result ≢ State.Error →
+        ChunkMeans ContentState.ChunkStart (world tokenizer.old) result (world tokenizer.new) }
+    ensures full { OnError result (IsFull tokenizer.new) }
 {
     let link = Link {
         previous: false,
@@ -120,6 +127,7 @@ pub fn chunk_start(tokenizer: &mut Tokenizer) -> State
 /// > | ab
 ///     ^^
 /// ```
+#[tactic(auto, using(crate::proofs::ContentMeaning::chunk_rule))]
 pub fn chunk_inside(tokenizer: &mut Tokenizer) -> State
     requires { IsAt NeedsNothing (StateName.Content ContentState.ChunkInside) (world tokenizer.old) }
     ensures to { result ≢ State.Error →
@@ -130,6 +138,9 @@ pub fn chunk_inside(tokenizer: &mut Tokenizer) -> State
         world tokenizer.new ≡
         (chunk_inside_code (world tokenizer.old)
         (ends_line tokenizer.old.current)).world }
+    ensures rule { result ≢ State.Error →
+        ChunkMeans ContentState.ChunkInside (world tokenizer.old) result (world tokenizer.new) }
+    ensures full { OnError result (IsFull tokenizer.new) }
 {
     match tokenizer.current {
         None | Some(b'\n') => {
@@ -149,6 +160,7 @@ pub fn chunk_inside(tokenizer: &mut Tokenizer) -> State
 }
 
 /// Calls a state of a line of content.
+#[tactic(auto, using(crate::proofs::ContentMeaning::chunk_rule))]
 pub fn call(tokenizer: &mut Tokenizer, state: ContentState) -> State
     requires { IsAt NeedsNothing (StateName.Content state) (world tokenizer.old) }
     ensures to { result ≢ State.Error →
@@ -159,6 +171,8 @@ pub fn call(tokenizer: &mut Tokenizer, state: ContentState) -> State
         world tokenizer.new ≡
         (chunk_transition state
         (world tokenizer.old)).world }
+    ensures rule { result ≢ State.Error → ChunkMeans state (world tokenizer.old) result (world tokenizer.new) }
+    ensures full { OnError result (IsFull tokenizer.new) }
 {
     match state {
         ContentState::ChunkStart => chunk_start(tokenizer),
@@ -183,6 +197,7 @@ fn call_state(tokenizer: &mut Tokenizer, name: StateName) -> State
     requires stands { stands content_scheme (world tokenizer.old) (State.Next name) }
     ensures to { result ≢ State.Error → result ≡ (content_transition name (world tokenizer.old)).to }
     ensures world { result ≢ State.Error → world tokenizer.new ≡ (content_transition name (world tokenizer.old)).world }
+    ensures full { OnError result (IsFull tokenizer.new) }
 {
     match name {
         StateName::Content(state) => definitions::call(tokenizer, state),

@@ -6,6 +6,8 @@
 // `LineEnding` behind a definition. By one look most paragraphs begin at once.
 
 ghost use Rattle.std.specs.Prelude.{◌≡◌, ◌≢◌};
+ghost use Rattle.md_content.specs.DefinitionsRule.{DefinitionsMeans};
+ghost use Rattle.md_engine.specs.Full.{IsFull, OnError};
 ghost use Rattle.md_engine.specs.World.{world};
 ghost use Rattle.md_engine.specs.declared.state.Name.{Name as StateName};
 ghost use Rattle.md_engine.specs.declared.state.State.{State};
@@ -38,11 +40,15 @@ fn may_define(current: Option<u8>) -> bool
 /// > | c
 ///     ^
 /// ```
+#[tactic(auto, using(crate::proofs::DefinitionsMeaning::definitions_rule))]
 pub fn definition_before(tokenizer: &mut Tokenizer) -> State
     requires { IsAt NeedsNothing (StateName.Content ContentState.DefinitionBefore) (world tokenizer.old) }
     ensures to { result ≢ State.Error → result ≡ (definition_before_transition (world tokenizer.old)).to }
     ensures world { result ≢ State.Error →
         world tokenizer.new ≡ (definition_before_transition (world tokenizer.old)).world }
+    ensures rule { result ≢ State.Error →
+        DefinitionsMeans ContentState.DefinitionBefore (world tokenizer.old) result (world tokenizer.new) }
+    ensures full { OnError result (IsFull tokenizer.new) }
 {
     let paragraph = StateName::Paragraph(ParagraphState::Start);
     if !may_define(tokenizer.current) {
@@ -60,11 +66,15 @@ pub fn definition_before(tokenizer: &mut Tokenizer) -> State
 ///           ^
 ///   | c
 /// ```
+#[tactic(auto, using(crate::proofs::DefinitionsMeaning::definitions_rule))]
 pub fn definition_after(tokenizer: &mut Tokenizer) -> State
     requires { IsAt NeedsNothing (StateName.Content ContentState.DefinitionAfter) (world tokenizer.old) }
     ensures to { result ≢ State.Error → result ≡ (definition_after_transition (world tokenizer.old)).to }
     ensures world { result ≢ State.Error →
         world tokenizer.new ≡ (definition_after_transition (world tokenizer.old)).world }
+    ensures rule { result ≢ State.Error →
+        DefinitionsMeans ContentState.DefinitionAfter (world tokenizer.old) result (world tokenizer.new) }
+    ensures full { OnError result (IsFull tokenizer.new) }
 {
     match tokenizer.current {
         None => State::Ok,
@@ -79,11 +89,14 @@ pub fn definition_after(tokenizer: &mut Tokenizer) -> State
 }
 
 /// Calls a state in front of the paragraph of a text.
+#[tactic(auto, using(crate::proofs::DefinitionsMeaning::definitions_rule))]
 pub fn call(tokenizer: &mut Tokenizer, state: ContentState) -> State
     requires { IsAt NeedsNothing (StateName.Content state) (world tokenizer.old) }
     ensures to { result ≢ State.Error → result ≡ (definitions_transition state (world tokenizer.old)).to }
     ensures world { result ≢ State.Error →
         world tokenizer.new ≡ (definitions_transition state (world tokenizer.old)).world }
+    ensures rule { result ≢ State.Error → DefinitionsMeans state (world tokenizer.old) result (world tokenizer.new) }
+    ensures full { OnError result (IsFull tokenizer.new) }
 {
     match state {
         ContentState::DefinitionBefore => definition_before(tokenizer),

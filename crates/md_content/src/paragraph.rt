@@ -6,6 +6,8 @@
 // on.
 
 ghost use Rattle.std.specs.Prelude.{◌≡◌, ◌≢◌, IfSome};
+ghost use Rattle.md_content.specs.ParagraphRule.{ParagraphMeans};
+ghost use Rattle.md_engine.specs.Full.{IsFull, OnError};
 ghost use Rattle.md_engine.specs.World.{world};
 ghost use Rattle.md_engine.specs.declared.state.Name.{Name as StateName};
 ghost use Rattle.md_engine.specs.declared.state.State.{State};
@@ -29,10 +31,14 @@ use md_engine::tokenizer::Tokenizer;
 ///     ^
 ///   | b
 /// ```
+#[tactic(auto, using(crate::proofs::ParagraphMeaning::paragraph_rule))]
 pub fn start(tokenizer: &mut Tokenizer) -> State
     requires { IsAt NeedsNothing (StateName.Paragraph ParagraphState.Start) (world tokenizer.old) }
     ensures to { result ≢ State.Error → result ≡ (start_transition (world tokenizer.old)).to }
     ensures world { result ≢ State.Error → world tokenizer.new ≡ (start_transition (world tokenizer.old)).world }
+    ensures rule { result ≢ State.Error →
+        ParagraphMeans ParagraphState.Start (world tokenizer.old) result (world tokenizer.new) }
+    ensures full { OnError result (IsFull tokenizer.new) }
 {
     or_error!(tokenizer.enter(Name::Paragraph));
     State::Retry(StateName::Paragraph(ParagraphState::LineStart))
@@ -46,10 +52,14 @@ pub fn start(tokenizer: &mut Tokenizer) -> State
 /// > | b
 ///     ^
 /// ```
+#[tactic(auto, using(crate::proofs::ParagraphMeaning::paragraph_rule))]
 pub fn line_start(tokenizer: &mut Tokenizer) -> State
     requires { IsAt NeedsNothing (StateName.Paragraph ParagraphState.LineStart) (world tokenizer.old) }
     ensures to { result ≢ State.Error → result ≡ (line_start_transition (world tokenizer.old)).to }
     ensures world { result ≢ State.Error → world tokenizer.new ≡ (line_start_transition (world tokenizer.old)).world }
+    ensures rule { result ≢ State.Error →
+        ParagraphMeans ParagraphState.LineStart (world tokenizer.old) result (world tokenizer.new) }
+    ensures full { OnError result (IsFull tokenizer.new) }
 {
     let link = Link {
         previous: false,
@@ -66,10 +76,14 @@ pub fn line_start(tokenizer: &mut Tokenizer) -> State
 /// > | ab
 ///     ^^
 /// ```
+#[tactic(auto, using(crate::proofs::ParagraphMeaning::paragraph_rule))]
 pub fn inside(tokenizer: &mut Tokenizer) -> State
     requires { IsAt NeedsNothing (StateName.Paragraph ParagraphState.Inside) (world tokenizer.old) }
     ensures to { result ≢ State.Error → result ≡ (inside_transition (world tokenizer.old)).to }
     ensures world { result ≢ State.Error → world tokenizer.new ≡ (inside_transition (world tokenizer.old)).world }
+    ensures rule { result ≢ State.Error →
+        ParagraphMeans ParagraphState.Inside (world tokenizer.old) result (world tokenizer.new) }
+    ensures full { OnError result (IsFull tokenizer.new) }
 {
     match tokenizer.current {
         None => {
@@ -90,11 +104,14 @@ pub fn inside(tokenizer: &mut Tokenizer) -> State
 }
 
 /// Calls a state of a paragraph.
+#[tactic(auto, using(crate::proofs::ParagraphMeaning::paragraph_rule))]
 pub fn call(tokenizer: &mut Tokenizer, state: ParagraphState) -> State
     requires { IsAt NeedsNothing (StateName.Paragraph state) (world tokenizer.old) }
     ensures to { result ≢ State.Error → result ≡ (paragraph_transition state (world tokenizer.old)).to }
     ensures world { result ≢ State.Error →
         world tokenizer.new ≡ (paragraph_transition state (world tokenizer.old)).world }
+    ensures rule { result ≢ State.Error → ParagraphMeans state (world tokenizer.old) result (world tokenizer.new) }
+    ensures full { OnError result (IsFull tokenizer.new) }
 {
     match state {
         ParagraphState::Start => start(tokenizer),
