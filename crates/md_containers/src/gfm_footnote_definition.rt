@@ -20,7 +20,7 @@ ghost use Rattle.md_engine.specs.World.{world};
 ghost use Rattle.md_engine.specs.declared.state.Name.{Name as StateName};
 ghost use Rattle.md_engine.specs.declared.state.State.{State};
 ghost use Rattle.md_engine.specs.declared.state.gfm_footnote_definition.State.{State as FootnoteState};
-ghost use Rattle.md_containers.specs.Footnote.{closed_code, footnote_transition, label_after_transition};
+ghost use Rattle.md_containers.specs.Footnote.{breaks_label, closed_code, footnote_transition, label_after_transition};
 ghost use Rattle.md_containers.specs.Footnote.{label_at_marker_transition, label_before_transition};
 ghost use Rattle.md_containers.specs.Footnote.{label_escape_transition, label_inside_transition};
 ghost use Rattle.md_containers.specs.Footnote.{marker_after_transition};
@@ -49,6 +49,13 @@ fn is_label_mark(byte: u8) -> bool
     ensures { result ≡ is_label_mark byte }
 {
     byte == b'[' || byte == b'\\' || byte == b']'
+}
+
+/// Whether this may not stand in a label, unless a backslash takes it.
+fn breaks_label(byte: u8) -> bool
+    ensures { result ≡ breaks_label byte }
+{
+    byte == b'[' || byte == b' ' || byte == b'\t' || byte == b'\n'
 }
 
 /// Whether a footnote definition may open here, by what stands first behind whitespace: `[`, if that is known.
@@ -211,12 +218,19 @@ pub fn label_inside(tokenizer: &mut Tokenizer) -> State
         FootnoteMeans FootnoteState.LabelInside (world tokenizer.old) result (world tokenizer.new) }
     ensures full { OnError result (IsFull tokenizer.new) }
 {
-    match tokenizer.current {
-        Some(b']') => close(tokenizer),
-        None | Some(b'\t' | b'\n' | b' ' | b'[') => refuse(tokenizer),
-        Some(b'\\') => take(tokenizer, FootnoteState::LabelEscape),
-        _ => take(tokenizer, FootnoteState::LabelInside),
+    let Some(byte) = tokenizer.current else {
+        return refuse(tokenizer);
+    };
+    if byte == b']' {
+        return close(tokenizer);
     }
+    if breaks_label(byte) {
+        return refuse(tokenizer);
+    }
+    if byte == b'\\' {
+        return take(tokenizer, FootnoteState::LabelEscape);
+    }
+    take(tokenizer, FootnoteState::LabelInside)
 }
 
 /// Behind `\`.

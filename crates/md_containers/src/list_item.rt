@@ -25,7 +25,7 @@ ghost use Rattle.md_containers.specs.Item.{before_unordered_transition, blank_co
 ghost use Rattle.md_containers.specs.Item.{cont_filled_transition, cont_start_transition, ends_value, filled_transition};
 ghost use Rattle.md_containers.specs.Item.{indent_code, inside_transition, item_transition, least_width};
 ghost use Rattle.md_containers.specs.Item.{marker_after_transition, marker_transition, may_begin, may_break};
-ghost use Rattle.md_containers.specs.Item.{prefix_other_transition, start_transition, value_transition};
+ghost use Rattle.md_containers.specs.Item.{prefix_other_transition, sees, start_transition, value_transition};
 ghost use Rattle.md_containers.specs.Item.{whitespace_after_transition, whitespace_transition, width_here};
 ghost use Rattle.md_meaning.specs.Containers.{is_bullet, is_digit};
 ghost use Rattle.md_seam.specs.Look.{looks_behind, may_with};
@@ -73,6 +73,26 @@ fn is_digit(byte: u8) -> bool
     ensures { result ≡ is_digit byte }
 {
     byte >= b'0' && byte <= b'9'
+}
+
+/// Whether a digit stands here.
+fn sees_digit(current: Option<u8>) -> bool
+    ensures { result ≡ sees is_digit current }
+{
+    match current {
+        Some(byte) => is_digit(byte),
+        None => false,
+    }
+}
+
+/// Whether what ends the value of an item stands here.
+fn sees_value_end(current: Option<u8>) -> bool
+    ensures { result ≡ sees ends_value current }
+{
+    match current {
+        Some(byte) => ends_value(byte),
+        None => false,
+    }
 }
 
 /// Whether a thematic break of this marker may stand here: there is none of `+`, and none where another byte is seen.
@@ -220,21 +240,17 @@ pub fn value(tokenizer: &mut Tokenizer) -> State
     ensures full { OnError result (IsFull tokenizer.new) }
 {
     let size = tokenizer.scratch.size;
-    match tokenizer.current {
-        Some(byte) if is_digit(byte) && size < DIGITS => {
-            tokenizer.consume();
-            tokenizer.scratch.size += 1;
-            State::Next(StateName::ListItem(ItemState::Value))
-        }
-        Some(byte) if ends_value(byte) && (size < 2 || !interrupts(tokenizer)) => {
-            or_error!(tokenizer.exit(Name::ListItemValue));
-            tokenizer.scratch.size = 0;
-            State::Retry(StateName::ListItem(ItemState::Marker))
-        }
-        _ => {
-            tokenizer.scratch.size = 0;
-            State::Nok
-        }
+    if sees_digit(tokenizer.current) && size < DIGITS {
+        tokenizer.consume();
+        tokenizer.scratch.size = size + 1;
+        return State::Next(StateName::ListItem(ItemState::Value));
+    }
+    tokenizer.scratch.size = 0;
+    if sees_value_end(tokenizer.current) && (!interrupts(tokenizer) || size < 2) {
+        or_error!(tokenizer.exit(Name::ListItemValue));
+        State::Retry(StateName::ListItem(ItemState::Marker))
+    } else {
+        State::Nok
     }
 }
 

@@ -1,4 +1,4 @@
-use Rattle.std.proofs.Common.{◌≡◌, ℕ, zero, suc, ◌<◌, ◌∙◌, ap, refl, sym, arith}
+use Rattle.std.proofs.Common.{◌≡◌, ℕ, zero, suc, ◌<◌, ◌∙◌, ap, refl, arith}
 use Rattle.md_engine.specs.World.{World, world}
 use Rattle.md_engine.specs.declared.state.list_item.State.TheVariants as its
 use Rattle.md_containers.specs.Item.{cont_filled_code, indent_code, inside_transition, least_width}
