@@ -20,8 +20,8 @@ use std::collections::BTreeMap;
 /// How many bytes a label has at most.
 const MOST_LABEL: usize = 999;
 
-/// How many bytes a destination or a title of an inline link is looked through at most.
-const MOST_LINK: usize = 1999;
+/// How many bytes the title of an inline link has at most.
+const MOST_TITLE: usize = 1999;
 
 /// A `[` that no `]` has closed.
 #[derive(Clone, Copy)]
@@ -265,11 +265,15 @@ fn white_len(text: &[u8]) -> usize {
 }
 
 /// How many bytes the destination has that begins here: between `<` and `>`, or up to a space, with parentheses in pairs.
+/// One with `](` in it is not taken, so that bytes which may begin many links are not read for each of them.
 fn destination_len(text: &[u8]) -> Option<usize> {
     let is_pointed = text.first() == Some(&b'<');
     let mut depth: usize = 0;
     let mut is_escaped = false;
-    for (at, byte) in text.iter().take(MOST_LINK).enumerate() {
+    let mut is_closed = false;
+    for (at, byte) in text.iter().enumerate() {
+        let follows = is_closed;
+        is_closed = *byte == b']';
         if is_escaped {
             is_escaped = false;
             continue;
@@ -280,6 +284,7 @@ fn destination_len(text: &[u8]) -> Option<usize> {
             b'<' if is_pointed && at > 0 => return None,
             _ if is_pointed => {}
             b' ' | b'\t' => return if depth == 0 { Some(at) } else { None },
+            b'(' if follows => return None,
             b'(' => depth = depth.saturating_add(1),
             b')' if depth == 0 => return Some(at),
             b')' => depth = depth.saturating_sub(1),
@@ -298,7 +303,7 @@ fn title_len(text: &[u8]) -> Option<usize> {
         _ => return None,
     };
     let mut is_escaped = false;
-    for (at, byte) in text.iter().take(MOST_LINK).enumerate().skip(1) {
+    for (at, byte) in text.iter().take(MOST_TITLE).enumerate().skip(1) {
         if is_escaped {
             is_escaped = false;
             continue;
