@@ -310,6 +310,8 @@ impl Walk {
 /// The events with the text of each heading set: from the run behind its opening sequence to the last that does not
 /// close it. They stand in the list of the events, which keeps no more memory than they need. What finds no place there
 /// is put into `spare` first, which is handed back empty.
+///
+/// An `Err` says that memory ran out, also for the list that is cut to its size.
 pub fn put_texts(events: Vec<Event>, spare: Vec<Event>) -> Result<(Vec<Event>, Vec<Event>), Message>
     requires { spare.items ≡ [] }
     ensures events { IfOk result (λ lists. lists.0.items ≡ headings_resolved events.items) }
@@ -327,5 +329,8 @@ pub fn put_texts(events: Vec<Event>, spare: Vec<Event>) -> Result<(Vec<Event>, V
     }
     let (mut all, spare) = walk.finish()?;
     all.shrink_to_fit();
+    if all.capacity() > all.len() {
+        return Err(Message);
+    }
     Ok((all, spare))
 }

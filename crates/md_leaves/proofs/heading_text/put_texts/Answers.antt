@@ -21,14 +21,16 @@ loop-event-preserved c =
     (left_of c.step.new.self.all) (headings_resolved c.args.events.items) c.in-Some.event
     c.in-Some.ensures.some c.in_ok-step.ensures.walked c.in_ok-step.ensures.left c.loop-event.invariant
 
-all-walked : (c : goal.After-shrink_to_fit) → c.shrink_to_fit.new.self.items ≡ headings_resolved c.args.events.items
-all-walked c =
+pub returns-clause-events : goal.returns-clause-events
+returns-clause-events c =
     c.shrink_to_fit.ensures.items ∙ c.in_ok-all.ensures
     ∙ walk-done (walk_of c.loop-event.walk) (left_of c.loop-event.walk.all)
     (headings_resolved c.args.events.items) c.in_default.ensures.none c.loop-event.invariant
 
-pub returns-clause-events : goal.returns-clause-events
-returns-clause-events c = all-walked c
-
 pub returns-clause-placed : goal.returns-clause-placed
-returns-clause-placed c = λ bytes h. rw (all-walked c) (headings-placed bytes c.args.events.items h)
+returns-clause-placed c = λ bytes h.
+    let walked : c.shrink_to_fit.new.self.items ≡ headings_resolved c.args.events.items =
+    c.shrink_to_fit.ensures.items ∙ c.in_ok-all.ensures
+    ∙ walk-done (walk_of c.loop-event.walk) (left_of c.loop-event.walk.all)
+    (headings_resolved c.args.events.items) c.in_default.ensures.none c.loop-event.invariant in
+    rw walked (headings-placed bytes c.args.events.items h)
