@@ -25,8 +25,9 @@ import os, subprocess, sys
 
 library = sys.argv[1]
 
-# The refused runs of each program that there are at least, and how many of these go on.
-PROGRAMS = {"blocks": (2000, 285), "events": (2000, 286), "references_example": (150, 15)}
+# The refused runs of each program that there are at least, and how many of these go on: 12 where the example layer collects the bytes
+# of a label, which asks for less memory where its first request is refused (four labels in each of three texts).
+PROGRAMS = {"blocks": (2000, 0), "events": (2000, 0), "references_example": (150, 12)}
 
 # The sizes of the requests of `memory_calls` before and after its call.
 MARKS = {"BEFORE": "42421", "AFTER": "42423"}
@@ -64,12 +65,12 @@ footnotes 1
 
 # What each call prints, what it says where it is refused, and how many refused runs go on.
 CALLS = {
-    "parse": (TEXT_OUTLINE, b"", 1),
-    "parse_with": (TEXT_OUTLINE, b"", 1),
+    "parse": (TEXT_OUTLINE, b"", 0),
+    "parse_with": (TEXT_OUTLINE, b"", 0),
     "outline": (TEXT_OUTLINE, b"", 0),
     "quote": (b"\n".join(b"> " + line for line in TEXT.split(b"\n")), b"", 0),
     "item": (b"+ " + TEXT.replace(b"\n", b"\n  "), b"", 0),
-    "run": (TEXT_OUTLINE, b"blocks: out of memory\n", 1),
+    "run": (TEXT_OUTLINE, b"blocks: out of memory\n", 0),
 }
 
 # What the states answer that take no memory, and that an event finds no place.
