@@ -545,7 +545,25 @@ behind_stop m x K = (x.scratch.marker ≡ m) × in_html x K
 abbrev pub IsStop : ℕ → Type 0
 IsStop m = (m ≡ 45) ⊎ ((m ≡ 63) ⊎ (m ≡ 93))
 
--- no tokenizer stands in front of a line ending
+-- what holds at each state of HTML; no tokenizer is in front of a line ending
+abbrev pub HtmlInvariant : StateName → Position → Type 0
+HtmlInvariant (n.HtmlFlow its.Start) x = IsRest x.scratch
+HtmlInvariant (n.HtmlFlow its.TagName) x =
+    (x.scratch.start ≤ x.point.index) × (has_letter (name_of x) (seen x) ≡ true) ×
+    (list_all is_tag_byte (name_of x) ≡ true) ×
+    IsRest (cleared x.scratch)
+HtmlInvariant (n.HtmlFlow its.CdataOpenInside) x = (x.scratch.size ≤ 5) × IsRest (cleared x.scratch)
+HtmlInvariant (n.HtmlFlow its.ContinuationStart) x = IsRest x.scratch
+HtmlInvariant (n.HtmlFlow its.ContinuationStartNonLazy) x = ⊥
+HtmlInvariant (n.HtmlFlow its.ContinuationCommentInside) x = (x.scratch.marker ≡ 45) × IsRest (cleared x.scratch)
+HtmlInvariant (n.HtmlFlow its.ContinuationCdataInside) x = (x.scratch.marker ≡ 93) × IsRest (cleared x.scratch)
+HtmlInvariant (n.HtmlFlow its.ContinuationRawTagOpen) x = (x.scratch.marker ≡ 60) × IsRest (cleared x.scratch)
+HtmlInvariant (n.HtmlFlow its.ContinuationRawEndTag) x =
+    in_letters x × (x.scratch.marker ≡ 60) × IsRest (cleared x.scratch)
+HtmlInvariant (n.HtmlFlow its.ContinuationDeclarationInside) x = IsStop x.scratch.marker × IsRest (cleared x.scratch)
+HtmlInvariant _ x = IsRest (cleared x.scratch)
+
+-- and that its attempts end as they have to
 abbrev pub html_ready : StateName → Position → After → Type 0
 html_ready (n.HtmlFlow its.Start) x K = rest_ready x K
 html_ready (n.HtmlFlow its.TagName) x K = in_name x K

@@ -26,6 +26,8 @@
 // A resolver makes one block of them.
 
 ghost use Rattle.std.specs.Prelude.{◌≡◌, ◌≢◌, ◌<◌, IfSome, false, length};
+ghost use Rattle.md_html.specs.HtmlRule.{HtmlMeans};
+ghost use Rattle.md_engine.specs.Full.{IsFull, OnError};
 ghost use Rattle.md_engine.specs.World.{looks, world};
 ghost use Rattle.md_engine.specs.declared.state.Name.{Name as StateName};
 ghost use Rattle.md_engine.specs.declared.state.State.{State};
@@ -89,10 +91,13 @@ pub fn may_begin(first: Option<u8>) -> bool
 /// > |  <x />
 ///     ^
 /// ```
+#[tactic(auto, using(crate::proofs::HtmlMeaning::html_rule))]
 pub fn start(tokenizer: &mut Tokenizer) -> State
     requires { IsAt HtmlNeeds (StateName.HtmlFlow HtmlState.Start) (world tokenizer.old) }
     ensures to { result ≢ State.Error → result ≡ (start_transition (world tokenizer.old)).to }
     ensures world { result ≢ State.Error → world tokenizer.new ≡ (start_transition (world tokenizer.old)).world }
+    ensures rule { result ≢ State.Error → HtmlMeans HtmlState.Start (world tokenizer.old) result (world tokenizer.new) }
+    ensures full { OnError result (IsFull tokenizer.new) }
 {
     if !tokenizer.options.constructs.html_flow {
         return State::Nok;
@@ -108,10 +113,12 @@ pub fn start(tokenizer: &mut Tokenizer) -> State
 /// > |  <x />
 ///     ^
 /// ```
+#[tactic(auto, using(crate::proofs::HtmlMeaning::html_rule))]
 pub fn indent(tokenizer: &mut Tokenizer) -> State
     requires { IsAt HtmlNeeds (StateName.HtmlFlow HtmlState.Indent) (world tokenizer.old) }
     ensures to { result ≡ (indent_transition (world tokenizer.old)).to }
     ensures world { world tokenizer.new ≡ (indent_transition (world tokenizer.old)).world }
+    ensures rule { HtmlMeans HtmlState.Indent (world tokenizer.old) result (world tokenizer.new) }
 {
     if is_space_or_tab(tokenizer.current) && tokenizer.scratch.size < small_indent(tokenizer) {
         tokenizer.consume();
@@ -129,10 +136,12 @@ pub fn indent(tokenizer: &mut Tokenizer) -> State
 /// > | <x />
 ///     ^
 /// ```
+#[tactic(auto, using(crate::proofs::HtmlMeaning::html_rule))]
 pub fn before(tokenizer: &mut Tokenizer) -> State
     requires { IsAt HtmlNeeds (StateName.HtmlFlow HtmlState.Before) (world tokenizer.old) }
     ensures to { result ≡ (before_transition (world tokenizer.old)).to }
     ensures world { world tokenizer.new ≡ (before_transition (world tokenizer.old)).world }
+    ensures rule { HtmlMeans HtmlState.Before (world tokenizer.old) result (world tokenizer.new) }
 {
     if tokenizer.current == Some(b'<') {
         tokenizer.consume();
@@ -152,10 +161,12 @@ pub fn before(tokenizer: &mut Tokenizer) -> State
 /// > | <!--x-->
 ///      ^
 /// ```
+#[tactic(auto, using(crate::proofs::HtmlMeaning::html_rule))]
 pub fn open(tokenizer: &mut Tokenizer) -> State
     requires { IsAt HtmlNeeds (StateName.HtmlFlow HtmlState.Open) (world tokenizer.old) }
     ensures to { result ≡ (open_transition (world tokenizer.old)).to }
     ensures world { world tokenizer.new ≡ (open_transition (world tokenizer.old)).world }
+    ensures rule { HtmlMeans HtmlState.Open (world tokenizer.old) result (world tokenizer.new) }
 {
     match tokenizer.current {
         Some(b'!') => {
@@ -190,10 +201,12 @@ pub fn open(tokenizer: &mut Tokenizer) -> State
 /// > | <!--x-->
 ///       ^
 /// ```
+#[tactic(auto, using(crate::proofs::HtmlMeaning::html_rule))]
 pub fn declaration_open(tokenizer: &mut Tokenizer) -> State
     requires { IsAt HtmlNeeds (StateName.HtmlFlow HtmlState.DeclarationOpen) (world tokenizer.old) }
     ensures to { result ≡ (declaration_open_transition (world tokenizer.old)).to }
     ensures world { world tokenizer.new ≡ (declaration_open_transition (world tokenizer.old)).world }
+    ensures rule { HtmlMeans HtmlState.DeclarationOpen (world tokenizer.old) result (world tokenizer.new) }
 {
     match tokenizer.current {
         Some(b'-') => {
@@ -220,10 +233,12 @@ pub fn declaration_open(tokenizer: &mut Tokenizer) -> State
 /// > | <!--x-->
 ///        ^
 /// ```
+#[tactic(auto, using(crate::proofs::HtmlMeaning::html_rule))]
 pub fn comment_open_inside(tokenizer: &mut Tokenizer) -> State
     requires { IsAt HtmlNeeds (StateName.HtmlFlow HtmlState.CommentOpenInside) (world tokenizer.old) }
     ensures to { result ≡ (comment_open_inside_transition (world tokenizer.old)).to }
     ensures world { world tokenizer.new ≡ (comment_open_inside_transition (world tokenizer.old)).world }
+    ensures rule { HtmlMeans HtmlState.CommentOpenInside (world tokenizer.old) result (world tokenizer.new) }
 {
     if tokenizer.current == Some(b'-') {
         begin_behind(
@@ -242,10 +257,12 @@ pub fn comment_open_inside(tokenizer: &mut Tokenizer) -> State
 /// > | <![CDATA[x]]>
 ///        ^^^^^^
 /// ```
+#[tactic(auto, using(crate::proofs::HtmlMeaning::html_rule))]
 pub fn cdata_open_inside(tokenizer: &mut Tokenizer) -> State
     requires { IsAt HtmlNeeds (StateName.HtmlFlow HtmlState.CdataOpenInside) (world tokenizer.old) }
     ensures to { result ≡ (cdata_open_inside_transition (world tokenizer.old)).to }
     ensures world { world tokenizer.new ≡ (cdata_open_inside_transition (world tokenizer.old)).world }
+    ensures rule { HtmlMeans HtmlState.CdataOpenInside (world tokenizer.old) result (world tokenizer.new) }
 {
     if tokenizer.current != Some(cdata_byte(tokenizer.scratch.size)) {
         refuse(tokenizer)
@@ -264,10 +281,12 @@ pub fn cdata_open_inside(tokenizer: &mut Tokenizer) -> State
 /// > | </x>
 ///       ^
 /// ```
+#[tactic(auto, using(crate::proofs::HtmlMeaning::html_rule))]
 pub fn tag_close_start(tokenizer: &mut Tokenizer) -> State
     requires { IsAt HtmlNeeds (StateName.HtmlFlow HtmlState.TagCloseStart) (world tokenizer.old) }
     ensures to { result ≡ (tag_close_start_transition (world tokenizer.old)).to }
     ensures world { world tokenizer.new ≡ (tag_close_start_transition (world tokenizer.old)).world }
+    ensures rule { HtmlMeans HtmlState.TagCloseStart (world tokenizer.old) result (world tokenizer.new) }
 {
     if sees_letter(tokenizer.current) {
         tokenizer.scratch = Scratch {
@@ -347,10 +366,12 @@ fn name_ended(tokenizer: &mut Tokenizer) -> State
 /// > | </ab>
 ///       ^^
 /// ```
+#[tactic(auto, using(crate::proofs::HtmlMeaning::html_rule))]
 pub fn tag_name(tokenizer: &mut Tokenizer) -> State
     requires { IsAt HtmlNeeds (StateName.HtmlFlow HtmlState.TagName) (world tokenizer.old) }
     ensures to { result ≡ (tag_name_transition (world tokenizer.old)).to }
     ensures world { world tokenizer.new ≡ (tag_name_transition (world tokenizer.old)).world }
+    ensures rule { HtmlMeans HtmlState.TagName (world tokenizer.old) result (world tokenizer.new) }
 {
     if sees_tag_byte(tokenizer.current) {
         tokenizer.consume();
@@ -368,10 +389,12 @@ pub fn tag_name(tokenizer: &mut Tokenizer) -> State
 /// > | <div/>
 ///          ^
 /// ```
+#[tactic(auto, using(crate::proofs::HtmlMeaning::html_rule))]
 pub fn basic_self_closing(tokenizer: &mut Tokenizer) -> State
     requires { IsAt HtmlNeeds (StateName.HtmlFlow HtmlState.BasicSelfClosing) (world tokenizer.old) }
     ensures to { result ≡ (basic_self_closing_transition (world tokenizer.old)).to }
     ensures world { world tokenizer.new ≡ (basic_self_closing_transition (world tokenizer.old)).world }
+    ensures rule { HtmlMeans HtmlState.BasicSelfClosing (world tokenizer.old) result (world tokenizer.new) }
 {
     if tokenizer.current == Some(b'>') {
         tokenizer.consume();
@@ -409,10 +432,14 @@ fn at_stop(tokenizer: &mut Tokenizer) -> State
 /// > | <!--xxx-->
 ///         ^^^
 /// ```
+#[tactic(auto, using(crate::proofs::HtmlMeaning::html_rule))]
 pub fn continuation(tokenizer: &mut Tokenizer) -> State
     requires { IsAt HtmlNeeds (StateName.HtmlFlow HtmlState.Continuation) (world tokenizer.old) }
     ensures to { result ≢ State.Error → result ≡ (continuation_transition (world tokenizer.old)).to }
     ensures world { result ≢ State.Error → world tokenizer.new ≡ (continuation_transition (world tokenizer.old)).world }
+    ensures rule { result ≢ State.Error →
+        HtmlMeans HtmlState.Continuation (world tokenizer.old) result (world tokenizer.new) }
+    ensures full { OnError result (IsFull tokenizer.new) }
 {
     match tokenizer.current {
         None | Some(b'\n') => end_data(tokenizer),
@@ -434,11 +461,15 @@ pub fn continuation(tokenizer: &mut Tokenizer) -> State
 /// > | asd
 ///     ^
 /// ```
+#[tactic(auto, using(crate::proofs::HtmlMeaning::html_rule))]
 pub fn continuation_start(tokenizer: &mut Tokenizer) -> State
     requires { IsAt HtmlNeeds (StateName.HtmlFlow HtmlState.ContinuationStart) (world tokenizer.old) }
     ensures to { result ≢ State.Error → result ≡ (continuation_start_transition (world tokenizer.old)).to }
     ensures world { result ≢ State.Error →
         world tokenizer.new ≡ (continuation_start_transition (world tokenizer.old)).world }
+    ensures rule { result ≢ State.Error →
+        HtmlMeans HtmlState.ContinuationStart (world tokenizer.old) result (world tokenizer.new) }
+    ensures full { OnError result (IsFull tokenizer.new) }
 {
     or_error!(tokenizer.enter_link(Name::HtmlFlow, FURTHER));
     if ends_in_front(tokenizer.flags.leaf) {
@@ -456,11 +487,15 @@ pub fn continuation_start(tokenizer: &mut Tokenizer) -> State
 /// > | asd
 ///     ^
 /// ```
+#[tactic(auto, using(crate::proofs::HtmlMeaning::html_rule))]
 pub fn continuation_before(tokenizer: &mut Tokenizer) -> State
     requires { IsAt HtmlNeeds (StateName.HtmlFlow HtmlState.ContinuationBefore) (world tokenizer.old) }
     ensures to { result ≢ State.Error → result ≡ (continuation_before_transition (world tokenizer.old)).to }
     ensures world { result ≢ State.Error →
         world tokenizer.new ≡ (continuation_before_transition (world tokenizer.old)).world }
+    ensures rule { result ≢ State.Error →
+        HtmlMeans HtmlState.ContinuationBefore (world tokenizer.old) result (world tokenizer.new) }
+    ensures full { OnError result (IsFull tokenizer.new) }
 {
     match tokenizer.current {
         None | Some(b'\n') => State::Retry(StateName::HtmlFlow(HtmlState::ContinuationAfter)),
@@ -478,10 +513,12 @@ pub fn continuation_before(tokenizer: &mut Tokenizer) -> State
 /// > | <!--xxx-->
 ///             ^
 /// ```
+#[tactic(auto, using(crate::proofs::HtmlMeaning::html_rule))]
 pub fn continuation_comment_inside(tokenizer: &mut Tokenizer) -> State
     requires { IsAt HtmlNeeds (StateName.HtmlFlow HtmlState.ContinuationCommentInside) (world tokenizer.old) }
     ensures to { result ≡ (continuation_comment_inside_transition (world tokenizer.old)).to }
     ensures world { world tokenizer.new ≡ (continuation_comment_inside_transition (world tokenizer.old)).world }
+    ensures rule { HtmlMeans HtmlState.ContinuationCommentInside (world tokenizer.old) result (world tokenizer.new) }
 {
     if tokenizer.current == Some(b'-') {
         tokenizer.consume();
@@ -497,10 +534,12 @@ pub fn continuation_comment_inside(tokenizer: &mut Tokenizer) -> State
 /// > | <script>x</script>
 ///               ^
 /// ```
+#[tactic(auto, using(crate::proofs::HtmlMeaning::html_rule))]
 pub fn continuation_raw_tag_open(tokenizer: &mut Tokenizer) -> State
     requires { IsAt HtmlNeeds (StateName.HtmlFlow HtmlState.ContinuationRawTagOpen) (world tokenizer.old) }
     ensures to { result ≡ (continuation_raw_tag_open_transition (world tokenizer.old)).to }
     ensures world { world tokenizer.new ≡ (continuation_raw_tag_open_transition (world tokenizer.old)).world }
+    ensures rule { HtmlMeans HtmlState.ContinuationRawTagOpen (world tokenizer.old) result (world tokenizer.new) }
 {
     if tokenizer.current == Some(b'/') {
         tokenizer.consume();
@@ -517,10 +556,12 @@ pub fn continuation_raw_tag_open(tokenizer: &mut Tokenizer) -> State
 /// > | <script>x</script>
 ///                ^^^^^^
 /// ```
+#[tactic(auto, using(crate::proofs::HtmlMeaning::html_rule))]
 pub fn continuation_raw_end_tag(tokenizer: &mut Tokenizer) -> State
     requires { IsAt HtmlNeeds (StateName.HtmlFlow HtmlState.ContinuationRawEndTag) (world tokenizer.old) }
     ensures to { result ≡ (continuation_raw_end_tag_transition (world tokenizer.old)).to }
     ensures world { world tokenizer.new ≡ (continuation_raw_end_tag_transition (world tokenizer.old)).world }
+    ensures rule { HtmlMeans HtmlState.ContinuationRawEndTag (world tokenizer.old) result (world tokenizer.new) }
 {
     if sees_letter(tokenizer.current) {
         tokenizer.consume();
@@ -539,10 +580,12 @@ pub fn continuation_raw_end_tag(tokenizer: &mut Tokenizer) -> State
 /// > | <![CDATA[x]]>
 ///                ^
 /// ```
+#[tactic(auto, using(crate::proofs::HtmlMeaning::html_rule))]
 pub fn continuation_cdata_inside(tokenizer: &mut Tokenizer) -> State
     requires { IsAt HtmlNeeds (StateName.HtmlFlow HtmlState.ContinuationCdataInside) (world tokenizer.old) }
     ensures to { result ≡ (continuation_cdata_inside_transition (world tokenizer.old)).to }
     ensures world { world tokenizer.new ≡ (continuation_cdata_inside_transition (world tokenizer.old)).world }
+    ensures rule { HtmlMeans HtmlState.ContinuationCdataInside (world tokenizer.old) result (world tokenizer.new) }
 {
     if tokenizer.current == Some(b']') {
         tokenizer.consume();
@@ -560,10 +603,12 @@ pub fn continuation_cdata_inside(tokenizer: &mut Tokenizer) -> State
 /// > | <?x?>
 ///         ^
 /// ```
+#[tactic(auto, using(crate::proofs::HtmlMeaning::html_rule))]
 pub fn continuation_declaration_inside(tokenizer: &mut Tokenizer) -> State
     requires { IsAt HtmlNeeds (StateName.HtmlFlow HtmlState.ContinuationDeclarationInside) (world tokenizer.old) }
     ensures to { result ≡ (continuation_declaration_inside_transition (world tokenizer.old)).to }
     ensures world { world tokenizer.new ≡ (continuation_declaration_inside_transition (world tokenizer.old)).world }
+    ensures rule { HtmlMeans HtmlState.ContinuationDeclarationInside (world tokenizer.old) result (world tokenizer.new) }
 {
     if tokenizer.current == Some(b'>') {
         shut(tokenizer)
@@ -581,12 +626,16 @@ pub fn continuation_declaration_inside(tokenizer: &mut Tokenizer) -> State
 /// > | <!doctype> x
 ///               ^^
 /// ```
+#[tactic(auto, using(crate::proofs::HtmlMeaning::html_rule))]
 pub fn continuation_close(tokenizer: &mut Tokenizer) -> State
     requires { IsAt HtmlNeeds (StateName.HtmlFlow HtmlState.ContinuationClose) (world tokenizer.old) }
     ensures to { result ≢ State.Error → result ≡ (continuation_close_transition (world tokenizer.old)).to }
     ensures world { result ≢ State.Error →
         world tokenizer.new ≡ (continuation_close_transition (world tokenizer.old)).world }
     ensures in_line { ends_line (world tokenizer.old).current ≡ false → result ≢ State.Error }
+    ensures rule { result ≢ State.Error →
+        HtmlMeans HtmlState.ContinuationClose (world tokenizer.old) result (world tokenizer.new) }
+    ensures full { OnError result (IsFull tokenizer.new) }
 {
     match tokenizer.current {
         None | Some(b'\n') => end_data(tokenizer),
@@ -603,11 +652,15 @@ pub fn continuation_close(tokenizer: &mut Tokenizer) -> State
 /// > | <!doctype>
 ///               ^
 /// ```
+#[tactic(auto, using(crate::proofs::HtmlMeaning::html_rule))]
 pub fn continuation_after(tokenizer: &mut Tokenizer) -> State
     requires { IsAt HtmlNeeds (StateName.HtmlFlow HtmlState.ContinuationAfter) (world tokenizer.old) }
     ensures to { result ≢ State.Error → result ≡ (continuation_after_transition (world tokenizer.old)).to }
     ensures world { result ≢ State.Error →
         world tokenizer.new ≡ (continuation_after_transition (world tokenizer.old)).world }
+    ensures rule { result ≢ State.Error →
+        HtmlMeans HtmlState.ContinuationAfter (world tokenizer.old) result (world tokenizer.new) }
+    ensures full { OnError result (IsFull tokenizer.new) }
 {
     or_error!(tokenizer.exit(Name::HtmlFlow));
     tokenizer.scratch = cleared(tokenizer.scratch);
@@ -621,10 +674,12 @@ pub fn continuation_after(tokenizer: &mut Tokenizer) -> State
 /// > |  asd
 ///     ^
 /// ```
+#[tactic(auto, using(crate::proofs::HtmlMeaning::html_rule))]
 pub fn blank_line_before(tokenizer: &mut Tokenizer) -> State
     requires { IsAt HtmlNeeds (StateName.HtmlFlow HtmlState.BlankLineBefore) (world tokenizer.old) }
     ensures to { result ≡ (blank_line_before_transition (world tokenizer.old)).to }
     ensures world { world tokenizer.new ≡ (blank_line_before_transition (world tokenizer.old)).world }
+    ensures rule { HtmlMeans HtmlState.BlankLineBefore (world tokenizer.old) result (world tokenizer.new) }
 {
     match tokenizer.current {
         None | Some(b'\n') => refuse(tokenizer),
@@ -648,10 +703,13 @@ pub fn takes_at_once(state: HtmlState) -> Option<Stay>
 }
 
 /// Calls a state of HTML.
+#[tactic(auto, using(crate::proofs::HtmlMeaning::html_rule))]
 pub fn call(tokenizer: &mut Tokenizer, state: HtmlState) -> State
     requires { IsAt HtmlNeeds (StateName.HtmlFlow state) (world tokenizer.old) }
     ensures to { result ≢ State.Error → result ≡ (html_transition state (world tokenizer.old)).to }
     ensures world { result ≢ State.Error → world tokenizer.new ≡ (html_transition state (world tokenizer.old)).world }
+    ensures rule { result ≢ State.Error → HtmlMeans state (world tokenizer.old) result (world tokenizer.new) }
+    ensures full { OnError result (IsFull tokenizer.new) }
 {
     match state {
         HtmlState::Start => start(tokenizer),
