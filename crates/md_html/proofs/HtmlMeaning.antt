@@ -44,7 +44,7 @@ html_steps B feed its.CompleteEnd w has s c at = tag.end_means B feed w has s
 html_steps B feed its.CompleteAfter w has s c at = tag.after_means B feed w has s
 html_steps B feed its.Continuation w has s c at = line.continuation_means B feed w has s
 html_steps B feed its.ContinuationStart w has s c at = line.continuation_start_means B feed w has
-html_steps B feed its.ContinuationStartNonLazy w has s c at = absurd at
+html_steps B feed its.ContinuationStartNonLazy w has s c at = line.continuation_start_non_lazy_means B feed w has
 html_steps B feed its.ContinuationBefore w has s c at = line.continuation_before_means B feed w has s
 html_steps B feed its.ContinuationCommentInside w has s c at =
     line.continuation_comment_inside_means B feed w has s at.0
@@ -83,7 +83,7 @@ holds-at its.CompleteEnd x K at = at.0
 holds-at its.CompleteAfter x K at = at.0
 holds-at its.Continuation x K at = at.0
 holds-at its.ContinuationStart x K at = at.0
-holds-at its.ContinuationStartNonLazy x K at = absurd at
+holds-at its.ContinuationStartNonLazy x K at = at.0
 holds-at its.ContinuationBefore x K at = at.0
 holds-at its.ContinuationCommentInside x K at = (at.0, at.1.0)
 holds-at its.ContinuationRawTagOpen x K at = (at.0, at.1.0)

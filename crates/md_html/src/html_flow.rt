@@ -36,7 +36,8 @@ ghost use Rattle.md_html.specs.Html.{HtmlNeeds, basic_name_code, basic_self_clos
 ghost use Rattle.md_html.specs.Html.{complete_name_code, name_move, stop_move, blank_line_before_transition};
 ghost use Rattle.md_html.specs.Html.{cdata_open_inside_transition, comment_open_inside_transition};
 ghost use Rattle.md_html.specs.Html.{continuation_after_transition, continuation_before_transition};
-ghost use Rattle.md_html.specs.Html.{continuation_close_transition, continuation_start_transition};
+ghost use Rattle.md_html.specs.Html.{continuation_close_transition, continuation_start_non_lazy_transition};
+ghost use Rattle.md_html.specs.Html.{continuation_start_transition};
 ghost use Rattle.md_html.specs.Html.{continuation_cdata_inside_transition, continuation_comment_inside_transition};
 ghost use Rattle.md_html.specs.Html.{continuation_transition, continuation_declaration_inside_transition};
 ghost use Rattle.md_html.specs.Html.{continuation_raw_end_tag_transition, continuation_raw_tag_open_transition};
@@ -480,6 +481,24 @@ pub fn continuation_start(tokenizer: &mut Tokenizer) -> State
     }
 }
 
+/// Before a further line of the first five kinds that is not lazy. The ending in front of it was taken by flow, so that
+/// nothing is left to do here, and the line continues with `continuation_before`.
+///
+/// ```markdown
+///   | <!--
+/// > | asd
+///     ^
+/// ```
+#[tactic(auto, using(crate::proofs::HtmlMeaning::html_rule))]
+pub fn continuation_start_non_lazy(_tokenizer: &mut Tokenizer) -> State
+    requires { IsAt HtmlNeeds (StateName.HtmlFlow HtmlState.ContinuationStartNonLazy) (world _tokenizer.old) }
+    ensures to { result ≡ (continuation_start_non_lazy_transition (world _tokenizer.old)).to }
+    ensures world { world _tokenizer.new ≡ (continuation_start_non_lazy_transition (world _tokenizer.old)).world }
+    ensures rule { HtmlMeans HtmlState.ContinuationStartNonLazy (world _tokenizer.old) result (world _tokenizer.new) }
+{
+    State::Retry(StateName::HtmlFlow(HtmlState::ContinuationBefore))
+}
+
 /// Before a further line of the first five kinds; an empty one has no data.
 ///
 /// ```markdown
@@ -736,6 +755,7 @@ pub fn call(tokenizer: &mut Tokenizer, state: HtmlState) -> State
         HtmlState::CompleteAfter => complete_after(tokenizer),
         HtmlState::Continuation => continuation(tokenizer),
         HtmlState::ContinuationStart => continuation_start(tokenizer),
+        HtmlState::ContinuationStartNonLazy => continuation_start_non_lazy(tokenizer),
         HtmlState::ContinuationBefore => continuation_before(tokenizer),
         HtmlState::ContinuationCommentInside => continuation_comment_inside(tokenizer),
         HtmlState::ContinuationRawTagOpen => continuation_raw_tag_open(tokenizer),
@@ -745,7 +765,5 @@ pub fn call(tokenizer: &mut Tokenizer, state: HtmlState) -> State
         HtmlState::ContinuationClose => continuation_close(tokenizer),
         HtmlState::ContinuationAfter => continuation_after(tokenizer),
         HtmlState::BlankLineBefore => blank_line_before(tokenizer),
-        // HTML is read line by line, and no state takes a line ending.
-        HtmlState::ContinuationStartNonLazy => State::Nok,
     }
 }
