@@ -435,6 +435,14 @@ pub continuation_start_means : (B : Behaviour) (feed : Feed) (w : World) →
     (html_transition its.ContinuationStart w).world
 continuation_start_means B feed w has = further_means B feed w _ has refl
 
+pub continuation_start_non_lazy_means : (B : Behaviour) (feed : Feed) (w : World) →
+    HasHtml B w.setting.bytes w.setting.options →
+    Steps B feed (Next (n.HtmlFlow its.ContinuationStartNonLazy)) w (html_transition its.ContinuationStartNonLazy w).to
+    (html_transition its.ContinuationStartNonLazy w).world
+continuation_start_non_lazy_means B feed w has =
+    passes B feed _ _ w w refl refl
+    (has.each its.ContinuationStartNonLazy _ _ ∙ sym (has.each its.ContinuationBefore _ _))
+
 blank-end : (cells : List Cell) (h : Here) → Ended cells → nonblank_at cells h ≡ refuses h
 unfolding nonblank_at
 blank-end cells h e = rw e.line refl

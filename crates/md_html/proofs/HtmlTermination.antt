@@ -501,7 +501,11 @@ html_terminates T its.CompleteAfter w has c r =
     move_terminates T its.CompleteAfter w _ has r (asks_after T w _ _ (stands-here w sees_white c refl) r)
 html_terminates T its.Continuation w has c r = text_ends T w _ has c r refl
 html_terminates T its.ContinuationStart w has c r = further_ends T w _ has r
-html_terminates T its.ContinuationStartNonLazy w has c r = absurd r
+html_terminates T its.ContinuationStartNonLazy w has c r = (
+  turns T html_scheme _ (n.HtmlFlow its.ContinuationBefore) w w.events w.scratch
+      (has.each its.ContinuationStartNonLazy) (has.each its.ContinuationBefore) r (omega arith) (omega arith),
+  refl,
+)
 html_terminates T its.ContinuationBefore w has c r = line_before_ends T w _ has r
 html_terminates T its.ContinuationCommentInside w has c r =
     move_terminates T its.ContinuationCommentInside w _ has r.1

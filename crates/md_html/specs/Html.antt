@@ -442,6 +442,10 @@ continuation_transition w = continuation_code w (ends_line w.current)
 abbrev pub continuation_start_transition : World → Transition
 continuation_start_transition w = further_code w (ends_in_front w.flags.leaf)
 
+-- in front of a further line of the first five kinds, where its ending before it is taken already
+abbrev pub continuation_start_non_lazy_transition : World → Transition
+continuation_start_non_lazy_transition w = record { to = Retry (n.HtmlFlow its.ContinuationBefore); world = w }
+
 abbrev pub continuation_before_transition : World → Transition
 continuation_before_transition w = line_before_code w (ends_line w.current)
 
@@ -472,7 +476,7 @@ continuation_after_transition w = record { to = Ok; world = record (exited w Htm
 abbrev pub blank_line_before_transition : World → Transition
 blank_line_before_transition w = moved w (blank_move w.scratch (ends_line w.current) (sees_white w.current))
 
--- all of them; that in front of a line ending is none
+-- all of them
 abbrev pub html_transition : HtmlState → World → Transition
 html_transition its.Start w = start_transition w
 html_transition its.Indent w = indent_transition w
@@ -496,7 +500,7 @@ html_transition its.CompleteEnd w = complete_end_transition w
 html_transition its.CompleteAfter w = complete_after_transition w
 html_transition its.Continuation w = continuation_transition w
 html_transition its.ContinuationStart w = continuation_start_transition w
-html_transition its.ContinuationStartNonLazy w = record { to = Nok; world = w }
+html_transition its.ContinuationStartNonLazy w = continuation_start_non_lazy_transition w
 html_transition its.ContinuationBefore w = continuation_before_transition w
 html_transition its.ContinuationCommentInside w = continuation_comment_inside_transition w
 html_transition its.ContinuationRawTagOpen w = continuation_raw_tag_open_transition w
@@ -545,13 +549,29 @@ behind_stop m x K = (x.scratch.marker ≡ m) × in_html x K
 abbrev pub IsStop : ℕ → Type 0
 IsStop m = (m ≡ 45) ⊎ ((m ≡ 63) ⊎ (m ≡ 93))
 
--- no tokenizer stands in front of a line ending
+-- what holds at each state of HTML
+abbrev pub HtmlInvariant : StateName → Position → Type 0
+HtmlInvariant (n.HtmlFlow its.Start) x = IsRest x.scratch
+HtmlInvariant (n.HtmlFlow its.TagName) x =
+    (x.scratch.start ≤ x.point.index) × (has_letter (name_of x) (seen x) ≡ true) ×
+    (list_all is_tag_byte (name_of x) ≡ true) ×
+    IsRest (cleared x.scratch)
+HtmlInvariant (n.HtmlFlow its.CdataOpenInside) x = (x.scratch.size ≤ 5) × IsRest (cleared x.scratch)
+HtmlInvariant (n.HtmlFlow its.ContinuationStart) x = IsRest x.scratch
+HtmlInvariant (n.HtmlFlow its.ContinuationCommentInside) x = (x.scratch.marker ≡ 45) × IsRest (cleared x.scratch)
+HtmlInvariant (n.HtmlFlow its.ContinuationCdataInside) x = (x.scratch.marker ≡ 93) × IsRest (cleared x.scratch)
+HtmlInvariant (n.HtmlFlow its.ContinuationRawTagOpen) x = (x.scratch.marker ≡ 60) × IsRest (cleared x.scratch)
+HtmlInvariant (n.HtmlFlow its.ContinuationRawEndTag) x =
+    in_letters x × (x.scratch.marker ≡ 60) × IsRest (cleared x.scratch)
+HtmlInvariant (n.HtmlFlow its.ContinuationDeclarationInside) x = IsStop x.scratch.marker × IsRest (cleared x.scratch)
+HtmlInvariant _ x = IsRest (cleared x.scratch)
+
+-- and that its attempts end as they have to
 abbrev pub html_ready : StateName → Position → After → Type 0
 html_ready (n.HtmlFlow its.Start) x K = rest_ready x K
 html_ready (n.HtmlFlow its.TagName) x K = in_name x K
 html_ready (n.HtmlFlow its.CdataOpenInside) x K = (x.scratch.size ≤ 5) × in_html x K
 html_ready (n.HtmlFlow its.ContinuationStart) x K = rest_ready x K
-html_ready (n.HtmlFlow its.ContinuationStartNonLazy) x K = ⊥
 html_ready (n.HtmlFlow its.ContinuationCommentInside) x K = behind_stop 45 x K
 html_ready (n.HtmlFlow its.ContinuationCdataInside) x K = behind_stop 93 x K
 html_ready (n.HtmlFlow its.ContinuationRawTagOpen) x K = behind_stop 60 x K
@@ -562,6 +582,7 @@ html_ready _ x K = in_html x K
 abbrev pub html_rank : StateName → Position → Rank
 html_rank (n.HtmlFlow its.Start) x = ranked 10 refl
 html_rank (n.HtmlFlow its.ContinuationStart) x = ranked 10 refl
+html_rank (n.HtmlFlow its.ContinuationStartNonLazy) x = ranked 9 refl
 html_rank (n.HtmlFlow its.Indent) x = ranked 9 refl
 html_rank (n.HtmlFlow its.Before) x = ranked 8 refl
 html_rank (n.HtmlFlow its.Open) x = ranked 8 refl

@@ -8,7 +8,11 @@ use Rattle.md_engine.specs.declared.state.html_flow.State.{State as HtmlState}
 use Rattle.md_engine.specs.declared.state.html_flow.State.TheVariants as its
 use Rattle.md_engine.specs.declared.tokenizer.held_leaf.HeldLeaf.{HeldLeaf}
 use Rattle.md_engine.specs.declared.tokenizer.held_leaf.HeldLeaf.TheVariants as held_leaf
+use Rattle.md_engine.specs.declared.state.State.{State}
 use Rattle.md_engine.specs.Meaning.{Accepts, Behaviour, Cell, Here, Outcome, Refuses}
+use Rattle.md_engine.specs.Scheme.{position}
+use Rattle.md_engine.specs.Sees.{IsStep}
+use Rattle.md_engine.specs.World.{World, looks}
 use Rattle.md_meaning.specs.Bytes.{after, is_end}
 use Rattle.md_meaning.specs.Html.{HtmlKind, Raw, Comment, Instruction, Cdata, Basic, Complete}
 use Rattle.md_meaning.specs.Html.{after_assignment, after_next, after_value, closes_tag, ends_opening, holds_word}
@@ -16,7 +20,7 @@ use Rattle.md_meaning.specs.Html.{html_ends, html_kind, is_attribute_byte, is_va
 use Rattle.md_meaning.specs.Lines.{begins_with}
 use Rattle.md_meaning.specs.Rest.{is_blank, trim_start}
 use Rattle.md_leaves.specs.Further.{further_link}
-use Rattle.md_html.specs.Html.{cleared, ends_in_front, is_open_text, name_text, stop_of}
+use Rattle.md_html.specs.Html.{HtmlInvariant, cleared, ends_in_front, is_open_text, name_text, stop_of}
 use Rattle.md_seam.specs.Ahead.{from_ending, line_bytes, line_end, white_rest}
 use Rattle.md_seam.specs.Events.Nested.{enter, enter_link, exit}
 use Rattle.md_seam.specs.Spaces.{small_indent}
@@ -180,7 +184,7 @@ html_behaves text options its.CompleteEnd cells h = tag_by Complete (closes_tag 
 html_behaves text options its.CompleteAfter cells h = tag_by Complete (is_blank (line_bytes cells)) cells h
 html_behaves text options its.Continuation cells h = goes_on [] cells h
 html_behaves text options its.ContinuationStart cells h = further_at cells h
-html_behaves text options its.ContinuationStartNonLazy cells h = Refuses h.scratch h.flags
+html_behaves text options its.ContinuationStartNonLazy cells h = line_at cells h
 html_behaves text options its.ContinuationBefore cells h = line_at cells h
 html_behaves text options its.ContinuationCommentInside cells h = goes_on (codes "-") cells h
 html_behaves text options its.ContinuationRawTagOpen cells h = goes_on (codes "<") cells h
@@ -195,3 +199,9 @@ html_behaves text options its.BlankLineBefore cells h = nonblank_at cells h
 pub record HasHtml (B : Behaviour) (text : List ℕ) (options : ParseOptions) : Type 0 where
   pub each : (state : HtmlState) (cells : List Cell) (h : Here) →
       B (n.HtmlFlow state) cells h ≡ html_behaves text options state cells h
+
+-- what a state of HTML means: where what it needs holds, its call is one step of the rule
+unfoldable pub HtmlMeans : HtmlState → World → State → World → Type 0
+HtmlMeans state old to new =
+    HtmlInvariant (n.HtmlFlow state) (position old) → old.current ≡ looks old →
+    IsStep (λ B. HasHtml B old.setting.bytes old.setting.options) (n.HtmlFlow state) to old new

@@ -26,6 +26,8 @@
 // A resolver makes one block of them.
 
 ghost use Rattle.std.specs.Prelude.{◌≡◌, ◌≢◌, ◌<◌, IfSome, false, length};
+ghost use Rattle.md_html.specs.HtmlRule.{HtmlMeans};
+ghost use Rattle.md_engine.specs.Full.{IsFull, OnError};
 ghost use Rattle.md_engine.specs.World.{looks, world};
 ghost use Rattle.md_engine.specs.declared.state.Name.{Name as StateName};
 ghost use Rattle.md_engine.specs.declared.state.State.{State};
@@ -34,7 +36,8 @@ ghost use Rattle.md_html.specs.Html.{HtmlNeeds, basic_name_code, basic_self_clos
 ghost use Rattle.md_html.specs.Html.{complete_name_code, name_move, stop_move, blank_line_before_transition};
 ghost use Rattle.md_html.specs.Html.{cdata_open_inside_transition, comment_open_inside_transition};
 ghost use Rattle.md_html.specs.Html.{continuation_after_transition, continuation_before_transition};
-ghost use Rattle.md_html.specs.Html.{continuation_close_transition, continuation_start_transition};
+ghost use Rattle.md_html.specs.Html.{continuation_close_transition, continuation_start_non_lazy_transition};
+ghost use Rattle.md_html.specs.Html.{continuation_start_transition};
 ghost use Rattle.md_html.specs.Html.{continuation_cdata_inside_transition, continuation_comment_inside_transition};
 ghost use Rattle.md_html.specs.Html.{continuation_transition, continuation_declaration_inside_transition};
 ghost use Rattle.md_html.specs.Html.{continuation_raw_end_tag_transition, continuation_raw_tag_open_transition};
@@ -89,10 +92,13 @@ pub fn may_begin(first: Option<u8>) -> bool
 /// > |  <x />
 ///     ^
 /// ```
+#[tactic(auto, using(crate::proofs::HtmlMeaning::html_rule))]
 pub fn start(tokenizer: &mut Tokenizer) -> State
     requires { IsAt HtmlNeeds (StateName.HtmlFlow HtmlState.Start) (world tokenizer.old) }
     ensures to { result ≢ State.Error → result ≡ (start_transition (world tokenizer.old)).to }
     ensures world { result ≢ State.Error → world tokenizer.new ≡ (start_transition (world tokenizer.old)).world }
+    ensures rule { result ≢ State.Error → HtmlMeans HtmlState.Start (world tokenizer.old) result (world tokenizer.new) }
+    ensures full { OnError result (IsFull tokenizer.new) }
 {
     if !tokenizer.options.constructs.html_flow {
         return State::Nok;
@@ -108,10 +114,12 @@ pub fn start(tokenizer: &mut Tokenizer) -> State
 /// > |  <x />
 ///     ^
 /// ```
+#[tactic(auto, using(crate::proofs::HtmlMeaning::html_rule))]
 pub fn indent(tokenizer: &mut Tokenizer) -> State
     requires { IsAt HtmlNeeds (StateName.HtmlFlow HtmlState.Indent) (world tokenizer.old) }
     ensures to { result ≡ (indent_transition (world tokenizer.old)).to }
     ensures world { world tokenizer.new ≡ (indent_transition (world tokenizer.old)).world }
+    ensures rule { HtmlMeans HtmlState.Indent (world tokenizer.old) result (world tokenizer.new) }
 {
     if is_space_or_tab(tokenizer.current) && tokenizer.scratch.size < small_indent(tokenizer) {
         tokenizer.consume();
@@ -129,10 +137,12 @@ pub fn indent(tokenizer: &mut Tokenizer) -> State
 /// > | <x />
 ///     ^
 /// ```
+#[tactic(auto, using(crate::proofs::HtmlMeaning::html_rule))]
 pub fn before(tokenizer: &mut Tokenizer) -> State
     requires { IsAt HtmlNeeds (StateName.HtmlFlow HtmlState.Before) (world tokenizer.old) }
     ensures to { result ≡ (before_transition (world tokenizer.old)).to }
     ensures world { world tokenizer.new ≡ (before_transition (world tokenizer.old)).world }
+    ensures rule { HtmlMeans HtmlState.Before (world tokenizer.old) result (world tokenizer.new) }
 {
     if tokenizer.current == Some(b'<') {
         tokenizer.consume();
@@ -152,10 +162,12 @@ pub fn before(tokenizer: &mut Tokenizer) -> State
 /// > | <!--x-->
 ///      ^
 /// ```
+#[tactic(auto, using(crate::proofs::HtmlMeaning::html_rule))]
 pub fn open(tokenizer: &mut Tokenizer) -> State
     requires { IsAt HtmlNeeds (StateName.HtmlFlow HtmlState.Open) (world tokenizer.old) }
     ensures to { result ≡ (open_transition (world tokenizer.old)).to }
     ensures world { world tokenizer.new ≡ (open_transition (world tokenizer.old)).world }
+    ensures rule { HtmlMeans HtmlState.Open (world tokenizer.old) result (world tokenizer.new) }
 {
     match tokenizer.current {
         Some(b'!') => {
@@ -190,10 +202,12 @@ pub fn open(tokenizer: &mut Tokenizer) -> State
 /// > | <!--x-->
 ///       ^
 /// ```
+#[tactic(auto, using(crate::proofs::HtmlMeaning::html_rule))]
 pub fn declaration_open(tokenizer: &mut Tokenizer) -> State
     requires { IsAt HtmlNeeds (StateName.HtmlFlow HtmlState.DeclarationOpen) (world tokenizer.old) }
     ensures to { result ≡ (declaration_open_transition (world tokenizer.old)).to }
     ensures world { world tokenizer.new ≡ (declaration_open_transition (world tokenizer.old)).world }
+    ensures rule { HtmlMeans HtmlState.DeclarationOpen (world tokenizer.old) result (world tokenizer.new) }
 {
     match tokenizer.current {
         Some(b'-') => {
@@ -220,10 +234,12 @@ pub fn declaration_open(tokenizer: &mut Tokenizer) -> State
 /// > | <!--x-->
 ///        ^
 /// ```
+#[tactic(auto, using(crate::proofs::HtmlMeaning::html_rule))]
 pub fn comment_open_inside(tokenizer: &mut Tokenizer) -> State
     requires { IsAt HtmlNeeds (StateName.HtmlFlow HtmlState.CommentOpenInside) (world tokenizer.old) }
     ensures to { result ≡ (comment_open_inside_transition (world tokenizer.old)).to }
     ensures world { world tokenizer.new ≡ (comment_open_inside_transition (world tokenizer.old)).world }
+    ensures rule { HtmlMeans HtmlState.CommentOpenInside (world tokenizer.old) result (world tokenizer.new) }
 {
     if tokenizer.current == Some(b'-') {
         begin_behind(
@@ -242,10 +258,12 @@ pub fn comment_open_inside(tokenizer: &mut Tokenizer) -> State
 /// > | <![CDATA[x]]>
 ///        ^^^^^^
 /// ```
+#[tactic(auto, using(crate::proofs::HtmlMeaning::html_rule))]
 pub fn cdata_open_inside(tokenizer: &mut Tokenizer) -> State
     requires { IsAt HtmlNeeds (StateName.HtmlFlow HtmlState.CdataOpenInside) (world tokenizer.old) }
     ensures to { result ≡ (cdata_open_inside_transition (world tokenizer.old)).to }
     ensures world { world tokenizer.new ≡ (cdata_open_inside_transition (world tokenizer.old)).world }
+    ensures rule { HtmlMeans HtmlState.CdataOpenInside (world tokenizer.old) result (world tokenizer.new) }
 {
     if tokenizer.current != Some(cdata_byte(tokenizer.scratch.size)) {
         refuse(tokenizer)
@@ -264,10 +282,12 @@ pub fn cdata_open_inside(tokenizer: &mut Tokenizer) -> State
 /// > | </x>
 ///       ^
 /// ```
+#[tactic(auto, using(crate::proofs::HtmlMeaning::html_rule))]
 pub fn tag_close_start(tokenizer: &mut Tokenizer) -> State
     requires { IsAt HtmlNeeds (StateName.HtmlFlow HtmlState.TagCloseStart) (world tokenizer.old) }
     ensures to { result ≡ (tag_close_start_transition (world tokenizer.old)).to }
     ensures world { world tokenizer.new ≡ (tag_close_start_transition (world tokenizer.old)).world }
+    ensures rule { HtmlMeans HtmlState.TagCloseStart (world tokenizer.old) result (world tokenizer.new) }
 {
     if sees_letter(tokenizer.current) {
         tokenizer.scratch = Scratch {
@@ -347,10 +367,12 @@ fn name_ended(tokenizer: &mut Tokenizer) -> State
 /// > | </ab>
 ///       ^^
 /// ```
+#[tactic(auto, using(crate::proofs::HtmlMeaning::html_rule))]
 pub fn tag_name(tokenizer: &mut Tokenizer) -> State
     requires { IsAt HtmlNeeds (StateName.HtmlFlow HtmlState.TagName) (world tokenizer.old) }
     ensures to { result ≡ (tag_name_transition (world tokenizer.old)).to }
     ensures world { world tokenizer.new ≡ (tag_name_transition (world tokenizer.old)).world }
+    ensures rule { HtmlMeans HtmlState.TagName (world tokenizer.old) result (world tokenizer.new) }
 {
     if sees_tag_byte(tokenizer.current) {
         tokenizer.consume();
@@ -368,10 +390,12 @@ pub fn tag_name(tokenizer: &mut Tokenizer) -> State
 /// > | <div/>
 ///          ^
 /// ```
+#[tactic(auto, using(crate::proofs::HtmlMeaning::html_rule))]
 pub fn basic_self_closing(tokenizer: &mut Tokenizer) -> State
     requires { IsAt HtmlNeeds (StateName.HtmlFlow HtmlState.BasicSelfClosing) (world tokenizer.old) }
     ensures to { result ≡ (basic_self_closing_transition (world tokenizer.old)).to }
     ensures world { world tokenizer.new ≡ (basic_self_closing_transition (world tokenizer.old)).world }
+    ensures rule { HtmlMeans HtmlState.BasicSelfClosing (world tokenizer.old) result (world tokenizer.new) }
 {
     if tokenizer.current == Some(b'>') {
         tokenizer.consume();
@@ -409,10 +433,14 @@ fn at_stop(tokenizer: &mut Tokenizer) -> State
 /// > | <!--xxx-->
 ///         ^^^
 /// ```
+#[tactic(auto, using(crate::proofs::HtmlMeaning::html_rule))]
 pub fn continuation(tokenizer: &mut Tokenizer) -> State
     requires { IsAt HtmlNeeds (StateName.HtmlFlow HtmlState.Continuation) (world tokenizer.old) }
     ensures to { result ≢ State.Error → result ≡ (continuation_transition (world tokenizer.old)).to }
     ensures world { result ≢ State.Error → world tokenizer.new ≡ (continuation_transition (world tokenizer.old)).world }
+    ensures rule { result ≢ State.Error →
+        HtmlMeans HtmlState.Continuation (world tokenizer.old) result (world tokenizer.new) }
+    ensures full { OnError result (IsFull tokenizer.new) }
 {
     match tokenizer.current {
         None | Some(b'\n') => end_data(tokenizer),
@@ -434,11 +462,15 @@ pub fn continuation(tokenizer: &mut Tokenizer) -> State
 /// > | asd
 ///     ^
 /// ```
+#[tactic(auto, using(crate::proofs::HtmlMeaning::html_rule))]
 pub fn continuation_start(tokenizer: &mut Tokenizer) -> State
     requires { IsAt HtmlNeeds (StateName.HtmlFlow HtmlState.ContinuationStart) (world tokenizer.old) }
     ensures to { result ≢ State.Error → result ≡ (continuation_start_transition (world tokenizer.old)).to }
     ensures world { result ≢ State.Error →
         world tokenizer.new ≡ (continuation_start_transition (world tokenizer.old)).world }
+    ensures rule { result ≢ State.Error →
+        HtmlMeans HtmlState.ContinuationStart (world tokenizer.old) result (world tokenizer.new) }
+    ensures full { OnError result (IsFull tokenizer.new) }
 {
     or_error!(tokenizer.enter_link(Name::HtmlFlow, FURTHER));
     if ends_in_front(tokenizer.flags.leaf) {
@@ -449,6 +481,24 @@ pub fn continuation_start(tokenizer: &mut Tokenizer) -> State
     }
 }
 
+/// Before a further line of the first five kinds that is not lazy. The ending in front of it was taken by flow, so that
+/// nothing is left to do here, and the line continues with `continuation_before`.
+///
+/// ```markdown
+///   | <!--
+/// > | asd
+///     ^
+/// ```
+#[tactic(auto, using(crate::proofs::HtmlMeaning::html_rule))]
+pub fn continuation_start_non_lazy(_tokenizer: &mut Tokenizer) -> State
+    requires { IsAt HtmlNeeds (StateName.HtmlFlow HtmlState.ContinuationStartNonLazy) (world _tokenizer.old) }
+    ensures to { result ≡ (continuation_start_non_lazy_transition (world _tokenizer.old)).to }
+    ensures world { world _tokenizer.new ≡ (continuation_start_non_lazy_transition (world _tokenizer.old)).world }
+    ensures rule { HtmlMeans HtmlState.ContinuationStartNonLazy (world _tokenizer.old) result (world _tokenizer.new) }
+{
+    State::Retry(StateName::HtmlFlow(HtmlState::ContinuationBefore))
+}
+
 /// Before a further line of the first five kinds; an empty one has no data.
 ///
 /// ```markdown
@@ -456,11 +506,15 @@ pub fn continuation_start(tokenizer: &mut Tokenizer) -> State
 /// > | asd
 ///     ^
 /// ```
+#[tactic(auto, using(crate::proofs::HtmlMeaning::html_rule))]
 pub fn continuation_before(tokenizer: &mut Tokenizer) -> State
     requires { IsAt HtmlNeeds (StateName.HtmlFlow HtmlState.ContinuationBefore) (world tokenizer.old) }
     ensures to { result ≢ State.Error → result ≡ (continuation_before_transition (world tokenizer.old)).to }
     ensures world { result ≢ State.Error →
         world tokenizer.new ≡ (continuation_before_transition (world tokenizer.old)).world }
+    ensures rule { result ≢ State.Error →
+        HtmlMeans HtmlState.ContinuationBefore (world tokenizer.old) result (world tokenizer.new) }
+    ensures full { OnError result (IsFull tokenizer.new) }
 {
     match tokenizer.current {
         None | Some(b'\n') => State::Retry(StateName::HtmlFlow(HtmlState::ContinuationAfter)),
@@ -478,10 +532,12 @@ pub fn continuation_before(tokenizer: &mut Tokenizer) -> State
 /// > | <!--xxx-->
 ///             ^
 /// ```
+#[tactic(auto, using(crate::proofs::HtmlMeaning::html_rule))]
 pub fn continuation_comment_inside(tokenizer: &mut Tokenizer) -> State
     requires { IsAt HtmlNeeds (StateName.HtmlFlow HtmlState.ContinuationCommentInside) (world tokenizer.old) }
     ensures to { result ≡ (continuation_comment_inside_transition (world tokenizer.old)).to }
     ensures world { world tokenizer.new ≡ (continuation_comment_inside_transition (world tokenizer.old)).world }
+    ensures rule { HtmlMeans HtmlState.ContinuationCommentInside (world tokenizer.old) result (world tokenizer.new) }
 {
     if tokenizer.current == Some(b'-') {
         tokenizer.consume();
@@ -497,10 +553,12 @@ pub fn continuation_comment_inside(tokenizer: &mut Tokenizer) -> State
 /// > | <script>x</script>
 ///               ^
 /// ```
+#[tactic(auto, using(crate::proofs::HtmlMeaning::html_rule))]
 pub fn continuation_raw_tag_open(tokenizer: &mut Tokenizer) -> State
     requires { IsAt HtmlNeeds (StateName.HtmlFlow HtmlState.ContinuationRawTagOpen) (world tokenizer.old) }
     ensures to { result ≡ (continuation_raw_tag_open_transition (world tokenizer.old)).to }
     ensures world { world tokenizer.new ≡ (continuation_raw_tag_open_transition (world tokenizer.old)).world }
+    ensures rule { HtmlMeans HtmlState.ContinuationRawTagOpen (world tokenizer.old) result (world tokenizer.new) }
 {
     if tokenizer.current == Some(b'/') {
         tokenizer.consume();
@@ -517,10 +575,12 @@ pub fn continuation_raw_tag_open(tokenizer: &mut Tokenizer) -> State
 /// > | <script>x</script>
 ///                ^^^^^^
 /// ```
+#[tactic(auto, using(crate::proofs::HtmlMeaning::html_rule))]
 pub fn continuation_raw_end_tag(tokenizer: &mut Tokenizer) -> State
     requires { IsAt HtmlNeeds (StateName.HtmlFlow HtmlState.ContinuationRawEndTag) (world tokenizer.old) }
     ensures to { result ≡ (continuation_raw_end_tag_transition (world tokenizer.old)).to }
     ensures world { world tokenizer.new ≡ (continuation_raw_end_tag_transition (world tokenizer.old)).world }
+    ensures rule { HtmlMeans HtmlState.ContinuationRawEndTag (world tokenizer.old) result (world tokenizer.new) }
 {
     if sees_letter(tokenizer.current) {
         tokenizer.consume();
@@ -539,10 +599,12 @@ pub fn continuation_raw_end_tag(tokenizer: &mut Tokenizer) -> State
 /// > | <![CDATA[x]]>
 ///                ^
 /// ```
+#[tactic(auto, using(crate::proofs::HtmlMeaning::html_rule))]
 pub fn continuation_cdata_inside(tokenizer: &mut Tokenizer) -> State
     requires { IsAt HtmlNeeds (StateName.HtmlFlow HtmlState.ContinuationCdataInside) (world tokenizer.old) }
     ensures to { result ≡ (continuation_cdata_inside_transition (world tokenizer.old)).to }
     ensures world { world tokenizer.new ≡ (continuation_cdata_inside_transition (world tokenizer.old)).world }
+    ensures rule { HtmlMeans HtmlState.ContinuationCdataInside (world tokenizer.old) result (world tokenizer.new) }
 {
     if tokenizer.current == Some(b']') {
         tokenizer.consume();
@@ -560,10 +622,12 @@ pub fn continuation_cdata_inside(tokenizer: &mut Tokenizer) -> State
 /// > | <?x?>
 ///         ^
 /// ```
+#[tactic(auto, using(crate::proofs::HtmlMeaning::html_rule))]
 pub fn continuation_declaration_inside(tokenizer: &mut Tokenizer) -> State
     requires { IsAt HtmlNeeds (StateName.HtmlFlow HtmlState.ContinuationDeclarationInside) (world tokenizer.old) }
     ensures to { result ≡ (continuation_declaration_inside_transition (world tokenizer.old)).to }
     ensures world { world tokenizer.new ≡ (continuation_declaration_inside_transition (world tokenizer.old)).world }
+    ensures rule { HtmlMeans HtmlState.ContinuationDeclarationInside (world tokenizer.old) result (world tokenizer.new) }
 {
     if tokenizer.current == Some(b'>') {
         shut(tokenizer)
@@ -581,12 +645,16 @@ pub fn continuation_declaration_inside(tokenizer: &mut Tokenizer) -> State
 /// > | <!doctype> x
 ///               ^^
 /// ```
+#[tactic(auto, using(crate::proofs::HtmlMeaning::html_rule))]
 pub fn continuation_close(tokenizer: &mut Tokenizer) -> State
     requires { IsAt HtmlNeeds (StateName.HtmlFlow HtmlState.ContinuationClose) (world tokenizer.old) }
     ensures to { result ≢ State.Error → result ≡ (continuation_close_transition (world tokenizer.old)).to }
     ensures world { result ≢ State.Error →
         world tokenizer.new ≡ (continuation_close_transition (world tokenizer.old)).world }
     ensures in_line { ends_line (world tokenizer.old).current ≡ false → result ≢ State.Error }
+    ensures rule { result ≢ State.Error →
+        HtmlMeans HtmlState.ContinuationClose (world tokenizer.old) result (world tokenizer.new) }
+    ensures full { OnError result (IsFull tokenizer.new) }
 {
     match tokenizer.current {
         None | Some(b'\n') => end_data(tokenizer),
@@ -603,11 +671,15 @@ pub fn continuation_close(tokenizer: &mut Tokenizer) -> State
 /// > | <!doctype>
 ///               ^
 /// ```
+#[tactic(auto, using(crate::proofs::HtmlMeaning::html_rule))]
 pub fn continuation_after(tokenizer: &mut Tokenizer) -> State
     requires { IsAt HtmlNeeds (StateName.HtmlFlow HtmlState.ContinuationAfter) (world tokenizer.old) }
     ensures to { result ≢ State.Error → result ≡ (continuation_after_transition (world tokenizer.old)).to }
     ensures world { result ≢ State.Error →
         world tokenizer.new ≡ (continuation_after_transition (world tokenizer.old)).world }
+    ensures rule { result ≢ State.Error →
+        HtmlMeans HtmlState.ContinuationAfter (world tokenizer.old) result (world tokenizer.new) }
+    ensures full { OnError result (IsFull tokenizer.new) }
 {
     or_error!(tokenizer.exit(Name::HtmlFlow));
     tokenizer.scratch = cleared(tokenizer.scratch);
@@ -621,10 +693,12 @@ pub fn continuation_after(tokenizer: &mut Tokenizer) -> State
 /// > |  asd
 ///     ^
 /// ```
+#[tactic(auto, using(crate::proofs::HtmlMeaning::html_rule))]
 pub fn blank_line_before(tokenizer: &mut Tokenizer) -> State
     requires { IsAt HtmlNeeds (StateName.HtmlFlow HtmlState.BlankLineBefore) (world tokenizer.old) }
     ensures to { result ≡ (blank_line_before_transition (world tokenizer.old)).to }
     ensures world { world tokenizer.new ≡ (blank_line_before_transition (world tokenizer.old)).world }
+    ensures rule { HtmlMeans HtmlState.BlankLineBefore (world tokenizer.old) result (world tokenizer.new) }
 {
     match tokenizer.current {
         None | Some(b'\n') => refuse(tokenizer),
@@ -648,10 +722,13 @@ pub fn takes_at_once(state: HtmlState) -> Option<Stay>
 }
 
 /// Calls a state of HTML.
+#[tactic(auto, using(crate::proofs::HtmlMeaning::html_rule))]
 pub fn call(tokenizer: &mut Tokenizer, state: HtmlState) -> State
     requires { IsAt HtmlNeeds (StateName.HtmlFlow state) (world tokenizer.old) }
     ensures to { result ≢ State.Error → result ≡ (html_transition state (world tokenizer.old)).to }
     ensures world { result ≢ State.Error → world tokenizer.new ≡ (html_transition state (world tokenizer.old)).world }
+    ensures rule { result ≢ State.Error → HtmlMeans state (world tokenizer.old) result (world tokenizer.new) }
+    ensures full { OnError result (IsFull tokenizer.new) }
 {
     match state {
         HtmlState::Start => start(tokenizer),
@@ -678,6 +755,7 @@ pub fn call(tokenizer: &mut Tokenizer, state: HtmlState) -> State
         HtmlState::CompleteAfter => complete_after(tokenizer),
         HtmlState::Continuation => continuation(tokenizer),
         HtmlState::ContinuationStart => continuation_start(tokenizer),
+        HtmlState::ContinuationStartNonLazy => continuation_start_non_lazy(tokenizer),
         HtmlState::ContinuationBefore => continuation_before(tokenizer),
         HtmlState::ContinuationCommentInside => continuation_comment_inside(tokenizer),
         HtmlState::ContinuationRawTagOpen => continuation_raw_tag_open(tokenizer),
@@ -687,7 +765,5 @@ pub fn call(tokenizer: &mut Tokenizer, state: HtmlState) -> State
         HtmlState::ContinuationClose => continuation_close(tokenizer),
         HtmlState::ContinuationAfter => continuation_after(tokenizer),
         HtmlState::BlankLineBefore => blank_line_before(tokenizer),
-        // HTML is read line by line, and no state takes a line ending.
-        HtmlState::ContinuationStartNonLazy => State::Nok,
     }
 }

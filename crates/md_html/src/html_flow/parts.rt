@@ -2,6 +2,7 @@
 
 ghost use Rattle.std.specs.Prelude.{◌≡◌, ◌≢◌, ◌<◌, length};
 ghost use Rattle.md_meaning.specs.Leaves as definition;
+ghost use Rattle.md_engine.specs.Full.{IsFull, OnError};
 ghost use Rattle.md_engine.specs.World.{world};
 ghost use Rattle.md_engine.specs.declared.state.Name.{Name as StateName};
 ghost use Rattle.md_engine.specs.declared.state.State.{State};
@@ -233,6 +234,7 @@ pub fn take_clear_to(tokenizer: &mut Tokenizer, state: HtmlState) -> State
 pub fn end_data(tokenizer: &mut Tokenizer) -> State
     ensures to { result ≢ State.Error → result ≡ (data_ended (world tokenizer.old)).to }
     ensures world { result ≢ State.Error → world tokenizer.new ≡ (data_ended (world tokenizer.old)).world }
+    ensures full { OnError result (IsFull tokenizer.new) }
 {
     or_error!(tokenizer.exit(Name::HtmlFlowData));
     State::Retry(StateName::HtmlFlow(HtmlState::ContinuationAfter))

@@ -1,6 +1,7 @@
 // The rest of a complete tag (CommonMark 6.6), behind its name: its attributes, its end, and nothing but whitespace.
 
 ghost use Rattle.std.specs.Prelude.{◌≡◌};
+ghost use Rattle.md_html.specs.HtmlRule.{HtmlMeans};
 ghost use Rattle.md_engine.specs.World.{world};
 ghost use Rattle.md_engine.specs.declared.state.Name.{Name as StateName};
 ghost use Rattle.md_engine.specs.declared.state.html_flow.State.{State as HtmlState};
@@ -28,10 +29,12 @@ use md_seam::space_or_tab::is_space_or_tab;
 /// > | </x >
 ///        ^
 /// ```
+#[tactic(auto, using(crate::proofs::HtmlMeaning::html_rule))]
 pub fn complete_closing_tag_after(tokenizer: &mut Tokenizer) -> State
     requires { IsAt HtmlNeeds (StateName.HtmlFlow HtmlState.CompleteClosingTagAfter) (world tokenizer.old) }
     ensures to { result ≡ (complete_closing_tag_after_transition (world tokenizer.old)).to }
     ensures world { world tokenizer.new ≡ (complete_closing_tag_after_transition (world tokenizer.old)).world }
+    ensures rule { HtmlMeans HtmlState.CompleteClosingTagAfter (world tokenizer.old) result (world tokenizer.new) }
 {
     if is_space_or_tab(tokenizer.current) {
         tokenizer.consume();
@@ -49,10 +52,12 @@ pub fn complete_closing_tag_after(tokenizer: &mut Tokenizer) -> State
 /// > | <a />
 ///       ^^
 /// ```
+#[tactic(auto, using(crate::proofs::HtmlMeaning::html_rule))]
 pub fn complete_attribute_name_before(tokenizer: &mut Tokenizer) -> State
     requires { IsAt HtmlNeeds (StateName.HtmlFlow HtmlState.CompleteAttributeNameBefore) (world tokenizer.old) }
     ensures to { result ≡ (complete_attribute_name_before_transition (world tokenizer.old)).to }
     ensures world { world tokenizer.new ≡ (complete_attribute_name_before_transition (world tokenizer.old)).world }
+    ensures rule { HtmlMeans HtmlState.CompleteAttributeNameBefore (world tokenizer.old) result (world tokenizer.new) }
 {
     match tokenizer.current {
         Some(b'\t' | b' ') => {
@@ -74,10 +79,12 @@ pub fn complete_attribute_name_before(tokenizer: &mut Tokenizer) -> State
 /// > | <a bc>
 ///         ^
 /// ```
+#[tactic(auto, using(crate::proofs::HtmlMeaning::html_rule))]
 pub fn complete_attribute_name(tokenizer: &mut Tokenizer) -> State
     requires { IsAt HtmlNeeds (StateName.HtmlFlow HtmlState.CompleteAttributeName) (world tokenizer.old) }
     ensures to { result ≡ (complete_attribute_name_transition (world tokenizer.old)).to }
     ensures world { world tokenizer.new ≡ (complete_attribute_name_transition (world tokenizer.old)).world }
+    ensures rule { HtmlMeans HtmlState.CompleteAttributeName (world tokenizer.old) result (world tokenizer.new) }
 {
     match tokenizer.current {
         Some(byte) if is_attribute_byte(byte) => {
@@ -94,10 +101,12 @@ pub fn complete_attribute_name(tokenizer: &mut Tokenizer) -> State
 /// > | <a b=c>
 ///         ^
 /// ```
+#[tactic(auto, using(crate::proofs::HtmlMeaning::html_rule))]
 pub fn complete_attribute_name_after(tokenizer: &mut Tokenizer) -> State
     requires { IsAt HtmlNeeds (StateName.HtmlFlow HtmlState.CompleteAttributeNameAfter) (world tokenizer.old) }
     ensures to { result ≡ (complete_attribute_name_after_transition (world tokenizer.old)).to }
     ensures world { world tokenizer.new ≡ (complete_attribute_name_after_transition (world tokenizer.old)).world }
+    ensures rule { HtmlMeans HtmlState.CompleteAttributeNameAfter (world tokenizer.old) result (world tokenizer.new) }
 {
     match tokenizer.current {
         Some(b'\t' | b' ') => {
@@ -118,10 +127,12 @@ pub fn complete_attribute_name_after(tokenizer: &mut Tokenizer) -> State
 /// > | <a b="c">
 ///          ^
 /// ```
+#[tactic(auto, using(crate::proofs::HtmlMeaning::html_rule))]
 pub fn complete_attribute_value_before(tokenizer: &mut Tokenizer) -> State
     requires { IsAt HtmlNeeds (StateName.HtmlFlow HtmlState.CompleteAttributeValueBefore) (world tokenizer.old) }
     ensures to { result ≡ (complete_attribute_value_before_transition (world tokenizer.old)).to }
     ensures world { world tokenizer.new ≡ (complete_attribute_value_before_transition (world tokenizer.old)).world }
+    ensures rule { HtmlMeans HtmlState.CompleteAttributeValueBefore (world tokenizer.old) result (world tokenizer.new) }
 {
     match tokenizer.current {
         None | Some(b'\n') => refuse(tokenizer),
@@ -150,10 +161,12 @@ pub fn complete_attribute_value_before(tokenizer: &mut Tokenizer) -> State
 /// > | <a b="c">
 ///           ^
 /// ```
+#[tactic(auto, using(crate::proofs::HtmlMeaning::html_rule))]
 pub fn complete_attribute_value_quoted(tokenizer: &mut Tokenizer) -> State
     requires { IsAt HtmlNeeds (StateName.HtmlFlow HtmlState.CompleteAttributeValueQuoted) (world tokenizer.old) }
     ensures to { result ≡ (complete_attribute_value_quoted_transition (world tokenizer.old)).to }
     ensures world { world tokenizer.new ≡ (complete_attribute_value_quoted_transition (world tokenizer.old)).world }
+    ensures rule { HtmlMeans HtmlState.CompleteAttributeValueQuoted (world tokenizer.old) result (world tokenizer.new) }
 {
     match tokenizer.current {
         None | Some(b'\n') => refuse(tokenizer),
@@ -174,10 +187,12 @@ pub fn complete_attribute_value_quoted(tokenizer: &mut Tokenizer) -> State
 /// > | <a b=c>
 ///          ^
 /// ```
+#[tactic(auto, using(crate::proofs::HtmlMeaning::html_rule))]
 pub fn complete_attribute_value_unquoted(tokenizer: &mut Tokenizer) -> State
     requires { IsAt HtmlNeeds (StateName.HtmlFlow HtmlState.CompleteAttributeValueUnquoted) (world tokenizer.old) }
     ensures to { result ≡ (complete_attribute_value_unquoted_transition (world tokenizer.old)).to }
     ensures world { world tokenizer.new ≡ (complete_attribute_value_unquoted_transition (world tokenizer.old)).world }
+    ensures rule { HtmlMeans HtmlState.CompleteAttributeValueUnquoted (world tokenizer.old) result (world tokenizer.new) }
 {
     match tokenizer.current {
         Some(byte) if byte != b'\n' && is_value_byte(byte) => {
@@ -194,11 +209,13 @@ pub fn complete_attribute_value_unquoted(tokenizer: &mut Tokenizer) -> State
 /// > | <a b="c">
 ///             ^
 /// ```
+#[tactic(auto, using(crate::proofs::HtmlMeaning::html_rule))]
 pub fn complete_attribute_value_quoted_after(tokenizer: &mut Tokenizer) -> State
     requires { IsAt HtmlNeeds (StateName.HtmlFlow HtmlState.CompleteAttributeValueQuotedAfter) (world tokenizer.old) }
     ensures to { result ≡ (complete_attribute_value_quoted_after_transition (world tokenizer.old)).to }
     ensures world { world tokenizer.new ≡
         (complete_attribute_value_quoted_after_transition (world tokenizer.old)).world }
+    ensures rule { HtmlMeans HtmlState.CompleteAttributeValueQuotedAfter (world tokenizer.old) result (world tokenizer.new) }
 {
     clear_to(tokenizer, HtmlState::CompleteAttributeNameBefore)
 }
@@ -209,10 +226,12 @@ pub fn complete_attribute_value_quoted_after(tokenizer: &mut Tokenizer) -> State
 /// > | <a b="c">
 ///             ^
 /// ```
+#[tactic(auto, using(crate::proofs::HtmlMeaning::html_rule))]
 pub fn complete_end(tokenizer: &mut Tokenizer) -> State
     requires { IsAt HtmlNeeds (StateName.HtmlFlow HtmlState.CompleteEnd) (world tokenizer.old) }
     ensures to { result ≡ (complete_end_transition (world tokenizer.old)).to }
     ensures world { world tokenizer.new ≡ (complete_end_transition (world tokenizer.old)).world }
+    ensures rule { HtmlMeans HtmlState.CompleteEnd (world tokenizer.old) result (world tokenizer.new) }
 {
     if tokenizer.current == Some(b'>') {
         tokenizer.consume();
@@ -228,10 +247,12 @@ pub fn complete_end(tokenizer: &mut Tokenizer) -> State
 /// > | <x>
 ///        ^
 /// ```
+#[tactic(auto, using(crate::proofs::HtmlMeaning::html_rule))]
 pub fn complete_after(tokenizer: &mut Tokenizer) -> State
     requires { IsAt HtmlNeeds (StateName.HtmlFlow HtmlState.CompleteAfter) (world tokenizer.old) }
     ensures to { result ≡ (complete_after_transition (world tokenizer.old)).to }
     ensures world { world tokenizer.new ≡ (complete_after_transition (world tokenizer.old)).world }
+    ensures rule { HtmlMeans HtmlState.CompleteAfter (world tokenizer.old) result (world tokenizer.new) }
 {
     match tokenizer.current {
         None | Some(b'\n') => begin_here(

@@ -1,7 +1,11 @@
 use Rattle.std.proofs.Common.{rules, ◌≡◌, ℕ, Some, false, refl, ap, sym, ◌∙◌, nat_eq}
 use Rattle.std.proofs.lemmas.Bool.{eq-eqb}
+use Rattle.md_engine.specs.declared.state.State.{State}
+use Rattle.md_engine.specs.declared.state.html_flow.State.TheVariants as its
 use Rattle.md_engine.specs.World.{World, world}
 use Rattle.md_html.specs.Html.{continuation_transition, moved, stop_move}
+use Rattle.md_html.specs.HtmlRule.{HtmlMeans}
+use Rattle.md_html.proofs.HtmlMeaning.{html_rule}
 use Rattle.md_html.proofs.html_flow.continuation.Goals as goal
 use Rattle.md_seam.specs.Transition.{Transition}
 
@@ -9,6 +13,15 @@ use Rattle.md_seam.specs.Transition.{Transition}
 at-stop : (w : World) (b : ℕ) → w.current ≡ Some b → nat_eq b 10 ≡ false → b ≡ w.scratch.marker →
     continuation_transition w ≡ moved w (stop_move w.scratch)
 at-stop w b e k m = rw (e, k, eq-eqb b w.scratch.marker m) refl
+
+-- and what is done there is a step of the rule
+stop-rule : (w new : World) (to : State) (b : ℕ) → w.current ≡ Some b → nat_eq b 10 ≡ false → b ≡ w.scratch.marker →
+    to ≡ (moved w (stop_move w.scratch)).to → new ≡ (moved w (stop_move w.scratch)).world →
+    HtmlMeans its.Continuation w to new
+stop-rule w new to b e k m is done =
+    let same = at-stop w b e k m in
+    html_rule its.Continuation w new to (is ∙ sym (ap (λ (t : Transition). t.to) same))
+    (done ∙ sym (ap (λ (t : Transition). t.world) same))
 
 pub returns-then-byte-tokenizer-clause-to : goal.returns-then-byte-tokenizer-clause-to
 returns-then-byte-tokenizer-clause-to c fine =
@@ -25,3 +38,13 @@ returns-then-byte-tokenizer-clause-world c fine =
     ∙ sym
     (ap (λ (t : Transition). t.world)
     (at-stop (world c.args.tokenizer.now) c.in-Some.byte c.in-Some.is line c.if-byte-tokenizer.true))
+
+pub returns-then-byte-tokenizer-clause-rule : goal.returns-then-byte-tokenizer-clause-rule
+returns-then-byte-tokenizer-clause-rule c fine =
+    let line : nat_eq c.in-Some.byte 10 ≡ false = search rules in
+    stop-rule (world c.args.tokenizer.now) _ _ c.in-Some.byte c.in-Some.is line c.if-byte-tokenizer.true
+    c.at_stop.ensures.to c.at_stop.ensures.world
+
+pub returns-else-byte-tokenizer-clause-rule : goal.returns-else-byte-tokenizer-clause-rule
+returns-else-byte-tokenizer-clause-rule c fine =
+    html_rule its.Continuation _ _ _ (search rules) (search rules)

@@ -1,0 +1,11 @@
+use Rattle.std.proofs.Common.{arith, rules}
+use Rattle.std.proofs.lemmas.Grind.{common_steps}
+use Rattle.md_engine.specs.declared.state.html_flow.State.TheVariants as its
+use Rattle.md_html.proofs.HtmlMeaning.{html_rule}
+use Rattle.md_html.proofs.html_flow.tag.complete_attribute_value_quoted.Goals as goal
+
+pub returns-then-byte-tokenizer-clause-rule : goal.returns-then-byte-tokenizer-clause-rule
+returns-then-byte-tokenizer-clause-rule c = html_rule its.CompleteAttributeValueQuoted _ _ _ (grind (arith, common_steps)) (grind (arith, common_steps))
+
+pub returns-else-byte-tokenizer-clause-rule : goal.returns-else-byte-tokenizer-clause-rule
+returns-else-byte-tokenizer-clause-rule c = html_rule its.CompleteAttributeValueQuoted _ _ _ (search rules) (search rules)
