@@ -17,7 +17,7 @@ ghost use Rattle.md_engine.specs.declared.stay.Stay.{Stay};
 ghost use Rattle.md_meaning.specs.Ascii.{pipe};
 ghost use Rattle.md_seam.specs.Spaces.{sees_white};
 ghost use Rattle.md_seam.specs.Transition.{IsAt, NeedsNothing};
-ghost use Rattle.md_tables.specs.Row.{begun, behind_part, is_escaped, is_text, name_at, piece};
+ghost use Rattle.md_tables.specs.Row.{behind_part, is_escaped, is_text, name_at, piece};
 ghost use Rattle.md_tables.specs.RowWords.{Goes, GoesTo, IsGap, RowStep, TakesTo, divided, is_backslash};
 
 use crate::row::{Place, Row, TEXT_LINK, at_break, begin_row, behind_part, name_at};
