@@ -22,15 +22,14 @@ ghost use Rattle.md_tables.specs.Row.{row_transition};
 ghost use Rattle.md_tables.specs.declared.row.Place.{Place};
 ghost use Rattle.md_tables.specs.declared.row.Row.{Row};
 
+use crate::delimiter;
 pub use crate::delimiter::{
     head_delimiter_before, head_delimiter_cell_after, head_delimiter_cell_before,
     head_delimiter_filler, head_delimiter_left_alignment_after, head_delimiter_nok,
     head_delimiter_right_alignment_after, head_delimiter_start, head_delimiter_value_before,
 };
-pub use crate::tables::resolve;
-
-use crate::delimiter;
 use crate::row::{self, Place, Row};
+pub use crate::tables::resolve;
 use md_engine::configuration::ParseOptions;
 use md_engine::state::gfm_table::State as TableState;
 use md_engine::state::{Name as StateName, State};
@@ -340,9 +339,13 @@ pub fn call(tokenizer: &mut Tokenizer, state: TableState) -> State
         TableState::HeadDelimiterBefore => head_delimiter_before(tokenizer),
         TableState::HeadDelimiterCellBefore => head_delimiter_cell_before(tokenizer),
         TableState::HeadDelimiterValueBefore => head_delimiter_value_before(tokenizer),
-        TableState::HeadDelimiterLeftAlignmentAfter => head_delimiter_left_alignment_after(tokenizer),
+        TableState::HeadDelimiterLeftAlignmentAfter => head_delimiter_left_alignment_after(
+            tokenizer,
+        ),
         TableState::HeadDelimiterFiller => head_delimiter_filler(tokenizer),
-        TableState::HeadDelimiterRightAlignmentAfter => head_delimiter_right_alignment_after(tokenizer),
+        TableState::HeadDelimiterRightAlignmentAfter => head_delimiter_right_alignment_after(
+            tokenizer,
+        ),
         TableState::HeadDelimiterCellAfter => head_delimiter_cell_after(tokenizer),
         TableState::HeadDelimiterNok => head_delimiter_nok(tokenizer),
         TableState::BodyRowStart => body_row_start(tokenizer),

@@ -9,7 +9,7 @@
 // `Data` for each word; a resolver makes cells of them. A row of the body is a `GfmTable` of its own, linked to the line
 // before, as each further line of a leaf of several lines is.
 
-ghost use Rattle.std.specs.Prelude.{◌≡◌, ◌≢◌, IfSome};
+ghost use Rattle.std.specs.Prelude.{◌≡◌, ◌≢◌, IfSome, OnOk, is_err, true};
 ghost use Rattle.md_engine.specs.Full.{IsFull, OnError};
 ghost use Rattle.md_engine.specs.World.{world};
 ghost use Rattle.md_engine.specs.declared.state.Name.{Name as StateName};
@@ -17,11 +17,12 @@ ghost use Rattle.md_engine.specs.declared.state.State.{State};
 ghost use Rattle.md_seam.specs.Spaces.{sees_white};
 ghost use Rattle.md_seam.specs.Stays.{TakesEach};
 ghost use Rattle.md_seam.specs.Transition.{IsAt, NeedsNothing};
-ghost use Rattle.md_tables.specs.Row.{at_break_transition, behind_part, cell_before_transition, data_transition};
+ghost use Rattle.md_tables.specs.Row.{at_break_transition, begun, behind_part, cell_before_transition, data_transition};
 ghost use Rattle.md_tables.specs.Row.{escape_transition, place_of, row_transition, start_transition, state_at};
 ghost use Rattle.md_tables.specs.RowRule.{RowMeans};
 
 use md_engine::event::{Content, Link, Name};
+use md_engine::message::Message;
 use md_engine::or_error;
 use md_engine::state::gfm_table::State as TableState;
 use md_engine::state::{Name as StateName, State};
@@ -124,6 +125,18 @@ pub(crate) fn behind_part(tokenizer: &mut Tokenizer, row: Row) -> State
     }
 }
 
+/// Begins the row.
+#[inline(always)]
+pub(crate) fn begin_row(tokenizer: &mut Tokenizer, row: Row) -> Result<(), Message>
+    ensures world { OnOk result (world tokenizer.new ≡ begun row (world tokenizer.old)) }
+    ensures full { is_err result ≡ true → IsFull tokenizer.new }
+{
+    if matches!(row, Row::Body) {
+        tokenizer.enter_link(Name::GfmTable, FURTHER)?;
+    }
+    tokenizer.enter(Name::GfmTableRow)
+}
+
 /// Before a row.
 ///
 /// ```markdown
@@ -140,10 +153,7 @@ pub fn start(tokenizer: &mut Tokenizer, row: Row) -> State
     ensures rule { result ≢ State.Error → RowMeans row Place.Start (world tokenizer.old) result (world tokenizer.new) }
     ensures full { OnError result (IsFull tokenizer.new) }
 {
-    if matches!(row, Row::Body) {
-        or_error!(tokenizer.enter_link(Name::GfmTable, FURTHER));
-    }
-    or_error!(tokenizer.enter(Name::GfmTableRow));
+    or_error!(begin_row(tokenizer, row));
     behind_part(tokenizer, row)
 }
 

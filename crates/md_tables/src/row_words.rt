@@ -17,16 +17,15 @@ ghost use Rattle.md_engine.specs.declared.stay.Stay.{Stay};
 ghost use Rattle.md_meaning.specs.Ascii.{pipe};
 ghost use Rattle.md_seam.specs.Spaces.{sees_white};
 ghost use Rattle.md_seam.specs.Transition.{IsAt, NeedsNothing};
-ghost use Rattle.md_tables.specs.Row.{begun, behind_part, is_escaped, is_text, name_at, piece};
+ghost use Rattle.md_tables.specs.Row.{behind_part, is_escaped, is_text, name_at, piece};
 ghost use Rattle.md_tables.specs.RowWords.{Goes, GoesTo, IsGap, RowStep, TakesTo, divided, is_backslash};
 
-use crate::row::{Place, Row, TEXT_LINK, at_break, behind_part, name_at};
+use crate::row::{Place, Row, TEXT_LINK, at_break, begin_row, behind_part, name_at};
 use md_engine::class::Class;
 use md_engine::event::Name;
 use md_engine::message::Message;
 use md_engine::state::State;
 use md_engine::tokenizer::Tokenizer;
-use md_leaves::further::FURTHER;
 use md_seam::space_or_tab::{is_one_space, is_space_or_tab, take_one_space};
 
 /// Whether a pipe stands here.
@@ -62,18 +61,6 @@ fn is_escaped(current: Option<u8>) -> bool
     ensures { result ≡ is_escaped current }
 {
     matches!(current, Some(b'\\' | b'|'))
-}
-
-/// Begins the row.
-#[inline(always)]
-fn begin_row(tokenizer: &mut Tokenizer, row: Row) -> Result<(), Message>
-    ensures world { OnOk result (world tokenizer.new ≡ begun row (world tokenizer.old)) }
-    ensures full { is_err result ≡ true → IsFull tokenizer.new }
-{
-    if matches!(row, Row::Body) {
-        tokenizer.enter_link(Name::GfmTable, FURTHER)?;
-    }
-    tokenizer.enter(Name::GfmTableRow)
 }
 
 /// Takes the pipe that stands here.
