@@ -21,7 +21,7 @@ use markdown_blocks::message::Message;
 use markdown_blocks::outline::outline;
 use markdown_blocks::parser::{ParseState, parse, parse_with};
 use markdown_blocks::wrap::{item, quote};
-use md_program::body::{Body, Outlined};
+use md_program::body::{Body, MOST, Outlined};
 use md_program::print::print;
 use md_program::system::arguments;
 use references::References;
@@ -57,32 +57,35 @@ fn printed<'a>(alloc: Global, events: &[Event], state: ParseState<'a>) -> Result
 }
 
 /// Parses the text and prints its outline; only the parse is between the marks.
-fn parsed(alloc: Global, options: &ParseOptions) -> Result<String, Message>
-    requires { IsWithoutMdx options.now }
+fn parsed(alloc: Global, text: &str, options: &ParseOptions) -> Result<String, Message>
+    requires size { IsSmall text.now }
+    requires built { IsWithoutMdx options.now }
 {
     let _before = mark(alloc, BEFORE)?;
-    let parsed = parse(alloc, TEXT, options);
+    let parsed = parse(alloc, text, options);
     let _after = mark(alloc, AFTER)?;
     let (events, state) = parsed?;
     printed(alloc, &events, state)
 }
 
 /// The same with an inline layer.
-fn parsed_with(alloc: Global, options: &ParseOptions) -> Result<String, Message>
-    requires { IsWithoutMdx options.now }
+fn parsed_with(alloc: Global, text: &str, options: &ParseOptions) -> Result<String, Message>
+    requires size { IsSmall text.now }
+    requires built { IsWithoutMdx options.now }
 {
     let _before = mark(alloc, BEFORE)?;
-    let parsed = parse_with(alloc, &References, TEXT, options);
+    let parsed = parse_with(alloc, &References, text, options);
     let _after = mark(alloc, AFTER)?;
     let (events, state) = parsed?;
     printed(alloc, &events, state)
 }
 
 /// The same, with only the outline between the marks.
-fn outlined(alloc: Global, options: &ParseOptions) -> Result<String, Message>
-    requires { IsWithoutMdx options.now }
+fn outlined(alloc: Global, text: &str, options: &ParseOptions) -> Result<String, Message>
+    requires size { IsSmall text.now }
+    requires built { IsWithoutMdx options.now }
 {
-    let (events, state) = parse(alloc, TEXT, options)?;
+    let (events, state) = parse(alloc, text, options)?;
     let _before = mark(alloc, BEFORE)?;
     let lines = outline(alloc, &events, &state);
     let _after = mark(alloc, AFTER)?;
@@ -96,30 +99,38 @@ fn outlined(alloc: Global, options: &ParseOptions) -> Result<String, Message>
 }
 
 /// The text in a quote.
-fn in_quote(alloc: Global, options: &ParseOptions) -> Result<String, Message> {
+fn in_quote(alloc: Global, text: &str, options: &ParseOptions) -> Result<String, Message>
+    requires { IsSmall text.now }
+{
     let _before = mark(alloc, BEFORE)?;
-    let text = quote(alloc, TEXT, options);
+    let wrapped = quote(alloc, text, options);
     let _after = mark(alloc, AFTER)?;
-    text
+    wrapped
 }
 
 /// The text in an item.
-fn in_item(alloc: Global, options: &ParseOptions) -> Result<String, Message> {
+fn in_item(alloc: Global, text: &str, options: &ParseOptions) -> Result<String, Message>
+    requires { IsSmall text.now }
+{
     let _before = mark(alloc, BEFORE)?;
-    let text = item(alloc, TEXT, options);
+    let wrapped = item(alloc, text, options);
     let _after = mark(alloc, AFTER)?;
-    text
+    wrapped
 }
 
 /// What is printed of a call, or nothing of a word that is none.
 fn answer(alloc: Global, word: &str) -> Result<String, Message> {
+    let text = TEXT;
+    if text.len() > MOST {
+        return Err(Message);
+    }
     let options = Blocks::built(ParseOptions::GFM);
     match word {
-        "parse" => parsed(alloc, &options),
-        "parse_with" => parsed_with(alloc, &options),
-        "outline" => outlined(alloc, &options),
-        "quote" => in_quote(alloc, &options),
-        "item" => in_item(alloc, &options),
+        "parse" => parsed(alloc, text, &options),
+        "parse_with" => parsed_with(alloc, text, &options),
+        "outline" => outlined(alloc, text, &options),
+        "quote" => in_quote(alloc, text, &options),
+        "item" => in_item(alloc, text, &options),
         "states" => states(alloc, &options),
         _ => Ok(String::new(alloc)),
     }
