@@ -763,7 +763,8 @@ fence_steps B feed its.CloseStart w has s at = close_start_means B feed w _ has 
 fence_steps B feed its.BeforeSequenceClose w has s at = before_close_means B feed w _ has s refl
 fence_steps B feed its.SequenceClose w has s at = close_means B feed w _ _ _ has s refl refl refl
 fence_steps B feed its.SequenceCloseAfter w has s at = close_after_means B feed w _ has s refl
-fence_steps B feed its.ContentBefore w has s at = absurd at
+fence_steps B feed its.ContentBefore w has s at =
+    passes B feed _ _ w w refl refl (has.each its.ContentBefore _ _ ∙ sym (has.each its.ContentStart _ _))
 fence_steps B feed its.ContentStart w has s at = content_start_means B feed w _ has s refl
 fence_steps B feed its.BeforeContentChunk w has s at = before_chunk_means B feed w _ has s refl
 fence_steps B feed its.ContentChunk w has s at = chunk_means B feed w _ has s refl

@@ -413,7 +413,11 @@ fence_terminates T its.CloseStart w has c r = close_start_ends T w _ has r
 fence_terminates T its.BeforeSequenceClose w has c r = before_close_ends T w _ has r
 fence_terminates T its.SequenceClose w has c r = fence_close_ends T w _ _ _ has r (ap (is_current w.scratch.marker) (sym c))
 fence_terminates T its.SequenceCloseAfter w has c r = close_after_ends T w _ r
-fence_terminates T its.ContentBefore w has c r = absurd r.0
+fence_terminates T its.ContentBefore w has c r = (
+  turns T fence_scheme _ (n.RawFlow its.ContentStart) w w.events w.scratch (has.each its.ContentBefore)
+      (has.each its.ContentStart) r (omega arith) (omega arith),
+  refl,
+)
 fence_terminates T its.ContentStart w has c r = content_start_ends T w _ has r
 fence_terminates T its.BeforeContentChunk w has c r = before_chunk_ends T w _ has r (ap ends_line (sym c))
 fence_terminates T its.ContentChunk w has c r = fence_chunk_ends T w _ has r (ap ends_line (sym c))

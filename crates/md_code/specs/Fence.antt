@@ -288,6 +288,10 @@ sequence_close_transition w =
 abbrev pub sequence_close_after_transition : World → Transition
 sequence_close_after_transition w = close_after_code w (ends_line w.current)
 
+-- in front of a line that is no closing fence, where its ending before it is taken already
+abbrev pub content_before_transition : World → Transition
+content_before_transition w = record { to = Retry (n.RawFlow its.ContentStart); world = w }
+
 abbrev pub content_start_transition : World → Transition
 content_start_transition w = content_start_code w (nat_lt 0 (held_indent w.flags.leaf) && sees_white w.current)
 
@@ -306,7 +310,7 @@ after_transition w =
       };
     }
 
--- all of them; that in front of a line ending is none
+-- all of them
 abbrev pub fence_transition : RawState → World → Transition
 fence_transition its.Start w = start_transition w
 fence_transition its.BeforeSequenceOpen w = before_sequence_open_transition w
@@ -320,7 +324,7 @@ fence_transition its.CloseStart w = close_start_transition w
 fence_transition its.BeforeSequenceClose w = before_sequence_close_transition w
 fence_transition its.SequenceClose w = sequence_close_transition w
 fence_transition its.SequenceCloseAfter w = sequence_close_after_transition w
-fence_transition its.ContentBefore w = record { to = Nok; world = w }
+fence_transition its.ContentBefore w = content_before_transition w
 fence_transition its.ContentStart w = content_start_transition w
 fence_transition its.BeforeContentChunk w = before_content_chunk_transition w
 fence_transition its.ContentChunk w = content_chunk_transition w
@@ -337,7 +341,7 @@ pub record IsFence (x : Position) : Type 0 where
   pub size : x.scratch.size ≤ cells_before x.point
   pub rest : IsRest (cleared x.scratch)
 
--- what holds at each state of a fence; no tokenizer is in front of a line ending
+-- what holds at each state of a fence
 abbrev pub FenceInvariant : StateName → Position → Type 0
 FenceInvariant (n.RawFlow its.BeforeSequenceOpen) x = IsFence x
 FenceInvariant (n.RawFlow its.SequenceOpen) x = IsFence x
@@ -348,7 +352,6 @@ FenceInvariant (n.RawFlow its.Meta) x = IsFence x
 FenceInvariant (n.RawFlow its.CloseStart) x = IsFence x
 FenceInvariant (n.RawFlow its.BeforeSequenceClose) x = IsFence x
 FenceInvariant (n.RawFlow its.SequenceClose) x = IsFence x
-FenceInvariant (n.RawFlow its.ContentBefore) x = ⊥
 FenceInvariant _ x = IsRest x.scratch
 
 abbrev pub in_fence : Position → After → Type 0
@@ -378,6 +381,7 @@ fence_rank (n.RawFlow its.CloseStart) x = ranked 8 refl
 fence_rank (n.RawFlow its.BeforeSequenceClose) x = ranked 6 refl
 fence_rank (n.RawFlow its.SequenceClose) x = marker_rank x
 fence_rank (n.RawFlow its.SequenceCloseAfter) x = ranked 1 refl
+fence_rank (n.RawFlow its.ContentBefore) x = ranked 7 refl
 fence_rank (n.RawFlow its.ContentStart) x = ranked 6 refl
 fence_rank (n.RawFlow its.BeforeContentChunk) x = if ends_line (seen x) then ranked 0 refl else ranked 4 refl
 fence_rank (n.RawFlow its.ContentChunk) x = ranked 3 refl

@@ -28,7 +28,8 @@ ghost use Rattle.md_engine.specs.declared.state.raw_flow.State.{State as RawStat
 ghost use Rattle.md_code.specs.Fence.{FenceNeeds, after_transition, at_non_lazy_break_transition, behind_part};
 ghost use Rattle.md_code.specs.Fence.{before_content_chunk_transition, before_sequence_close_transition};
 ghost use Rattle.md_code.specs.Fence.{before_sequence_open_transition, close_start_transition};
-ghost use Rattle.md_code.specs.Fence.{content_chunk_transition, content_start_transition, fence_transition};
+ghost use Rattle.md_code.specs.Fence.{content_before_transition, content_chunk_transition, content_start_transition};
+ghost use Rattle.md_code.specs.Fence.{fence_transition};
 ghost use Rattle.md_code.specs.Fence.{info_before_transition, info_transition, is_open, may_begin};
 ghost use Rattle.md_code.specs.Fence.{meta_before_transition, meta_transition, sequence_close_after_transition};
 ghost use Rattle.md_code.specs.Fence.{sequence_close_transition, sequence_open_transition, start_transition};
@@ -507,6 +508,25 @@ pub fn sequence_close_after(tokenizer: &mut Tokenizer) -> State
     }
 }
 
+/// Before a line that is no closing fence. The ending in front of it was taken by flow, so that nothing is left to do
+/// here, and the line continues with `content_start`.
+///
+/// ```markdown
+///   | ~~~js
+/// > | a
+///     ^
+///   | ~~~
+/// ```
+#[tactic(auto, using(crate::proofs::FenceMeaning::fence_rule))]
+pub fn content_before(_tokenizer: &mut Tokenizer) -> State
+    requires { IsAt FenceNeeds (StateName.RawFlow RawState.ContentBefore) (world _tokenizer.old) }
+    ensures to { result ≡ (content_before_transition (world _tokenizer.old)).to }
+    ensures world { world _tokenizer.new ≡ (content_before_transition (world _tokenizer.old)).world }
+    ensures rule { FenceMeans RawState.ContentBefore (world _tokenizer.old) result (world _tokenizer.new) }
+{
+    State::Retry(StateName::RawFlow(RawState::ContentStart))
+}
+
 /// Before a line that is no closing fence: as many columns of whitespace as stood in front of the opening sequence do
 /// not belong to it.
 ///
@@ -658,11 +678,10 @@ pub fn call(tokenizer: &mut Tokenizer, state: RawState) -> State
         RawState::BeforeSequenceClose => before_sequence_close(tokenizer),
         RawState::SequenceClose => sequence_close(tokenizer),
         RawState::SequenceCloseAfter => sequence_close_after(tokenizer),
+        RawState::ContentBefore => content_before(tokenizer),
         RawState::ContentStart => content_start(tokenizer),
         RawState::BeforeContentChunk => before_content_chunk(tokenizer),
         RawState::ContentChunk => content_chunk(tokenizer),
         RawState::After => after(tokenizer),
-        // A fence is read line by line, and no state takes a line ending.
-        RawState::ContentBefore => State::Nok,
     }
 }
