@@ -236,7 +236,7 @@ fn a_failed_write_leaves_a_beginning(rt: HostRuntime) {
     let mut given = Given::of(b"a");
     given.takes = 1;
     assert!(rt; LETTER.len() == 43 && LETTER.starts_with(b"paragraph\n  | a\n"));
-    for (writes, _) in LETTER.iter().enumerate() {
+    for writes in 0..LETTER.len() {
         given.writes = writes;
         let want = Ended(4, &LETTER[..writes], b"blocks: write failed\n");
         check(&rt, alloc, given, want);
