@@ -103,16 +103,15 @@ struct First {
     is_used: bool,
 }
 
-/// Appends what is wrong with these definitions and these references to them.
-fn check(
+/// The first definition of each label. A further one is a finding.
+fn firsts<'a>(
     alloc: Global,
     found: &mut Vec<Finding>,
     names: &Names,
     positions: &[Position],
-    labels: &[String],
-    references: &[Reference],
-) -> Result<(), AllocError> {
-    let mut firsts: BTreeMap<&str, First> = BTreeMap::new(alloc);
+    labels: &'a [String],
+) -> Result<BTreeMap<&'a str, First>, AllocError> {
+    let mut firsts: BTreeMap<&'a str, First> = BTreeMap::new(alloc);
     for (position, label) in positions.iter().zip(labels.iter()) {
         match firsts.get(label.as_str()) {
             Some(first) => found.push(Finding {
@@ -130,6 +129,19 @@ fn check(
             }
         }
     }
+    Ok(firsts)
+}
+
+/// Appends what is wrong with these definitions and with the references to them.
+fn check(
+    alloc: Global,
+    found: &mut Vec<Finding>,
+    names: &Names,
+    positions: &[Position],
+    labels: &[String],
+    references: &[Reference],
+) -> Result<(), AllocError> {
+    let mut firsts = firsts(alloc, found, names, positions, labels)?;
     for reference in references {
         if reference.is_footnote != names.is_footnote {
             continue;

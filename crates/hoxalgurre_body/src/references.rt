@@ -10,6 +10,14 @@ use markdown_blocks::event::{Event, Kind, Name, Point};
 use markdown_blocks::message::Message;
 use std::alloc::{AllocError, Global};
 
+/// Where a text begins.
+const FIRST: Point = Point {
+    line: 1,
+    column: 1,
+    index: 0,
+    vs: 0,
+};
+
 /// A reference, whether or not a definition answers it.
 #[derive(Drop)]
 pub(crate) struct Reference {
@@ -44,6 +52,15 @@ pub(crate) struct Part {
 }
 
 impl Part {
+    fn new(alloc: Global, has_footnotes: bool) -> Part {
+        Part {
+            text: Vec::new(alloc),
+            brackets: Vec::new(alloc),
+            has_footnotes,
+            may_mark: false,
+        }
+    }
+
     fn push_space(&mut self) -> Result<(), AllocError> {
         self.text.push(b' ')?;
         Ok(())
@@ -82,20 +99,10 @@ pub(crate) fn references(
     options: &ParseOptions,
 ) -> Result<Vec<Reference>, Message> {
     let mut found = Vec::new(alloc);
-    let mut part = Part {
-        text: Vec::new(alloc),
-        brackets: Vec::new(alloc),
-        has_footnotes: options.constructs.gfm_footnote_definition,
-        may_mark: false,
-    };
+    let mut part = Part::new(alloc, options.constructs.gfm_footnote_definition);
     let has_marks = options.constructs.gfm_table;
     let mut is_text = false;
-    let mut start = Point {
-        line: 1,
-        column: 1,
-        index: 0,
-        vs: 0,
-    };
+    let mut start = FIRST;
     for event in events {
         match (event.kind, event.name) {
             (Kind::Enter, Name::ListItem | Name::BlockQuote) => part.may_mark = has_marks,
