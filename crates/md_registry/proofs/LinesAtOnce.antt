@@ -90,6 +90,7 @@ at-opener document.ContainerNewAfter k w e = cc
 at-opener document.ContainersAfter k w e = cc
 at-opener document.FlowInside k w e = cc
 at-opener document.FlowEnd k w e = cc
+at-opener document.ContainerNewBeforeNotFootnoteDefinition k w e = cc
 at-opener _ k w e = ap (λ (o : Option ContainerKind). opener_transition o w) e
 
 -- none of these opens, so that one comes to those behind them

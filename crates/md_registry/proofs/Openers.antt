@@ -54,6 +54,7 @@ left-tried options next document.ContainerNewAfter k cells h e = cc
 left-tried options next document.ContainersAfter k cells h e = cc
 left-tried options next document.FlowInside k cells h e = cc
 left-tried options next document.FlowEnd k cells h e = cc
+left-tried options next document.ContainerNewBeforeNotFootnoteDefinition k cells h e = cc
 left-tried options next _ k cells h e = ap (λ (o : Option ContainerKind). opener_behaves options next o cells h) e
 
 -- What is left in front of a container, and in front of the next.

@@ -77,6 +77,7 @@ containers_do document.FlowInside w c at =
 containers_do document.FlowEnd w c at = goods.flow_end_ends flow_table_scheme w w.current flow_fits at (sym c)
 containers_do document.Start w c at = absurd at
 containers_do document.BeforeFrontmatter w c at = absurd at
+containers_do document.ContainerNewBeforeNotFootnoteDefinition w c at = absurd at
 containers_do state w c at = opener_terminates state (opener_at state) refl w at
 
 -- the states in front of a leaf,

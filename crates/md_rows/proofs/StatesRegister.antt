@@ -117,6 +117,7 @@ containers-register document.Start w h = h
 containers-register document.BeforeFrontmatter w h = h
 containers-register document.ContainerExistingAfter w h = h
 containers-register document.ContainersAfter w h = h
+containers-register document.ContainerNewBeforeNotFootnoteDefinition w h = h
 containers-register document.FlowInside w h = inside-registers (asked_first w.flags.leaf) w h
 containers-register state w h = opener-registers (opener_at state) w h
 
