@@ -16,7 +16,7 @@ trap 'rm -rf "$work"' EXIT
 kit=$(dirname "$(rt doc)")
 "$kit/toolchain/bin/clang" --target=x86_64-unknown-linux-gnu --sysroot="$kit/toolchain" -O2 -shared -fPIC -nostdlib -fuse-ld=lld \
     -o "$work/refuse.so" scripts/refuse.c
-python3 - "$work/refuse.so" blocks 2000 events 2000 references_example 150 hoxalgurre 1000 <<'PYTHON'
+python3 - "$work/refuse.so" blocks 2000 events 2000 references_example 150 hoxalgurre 150 <<'PYTHON'
 import os, subprocess, sys
 
 library, *programs = sys.argv[1:]
