@@ -9,14 +9,27 @@
 set -euo pipefail
 cd "$(dirname "$0")/.."
 scripts/c_header.py --check
-library=${LIBRARY:-crates/hoxalgurre_c/out/libhoxalgurre_c.a}
 events=${PROGRAMS:-crates/events/out}/events
-heap=$(dirname "$(rt doc)")/c/liblibc_c.a
-if [ ! -f "$library" ]; then
-    (cd crates/hoxalgurre_c && rt lib >/dev/null)
-fi
+kit=$(dirname "$(rt doc)")
+heap=$kit/c/liblibc_c.a
 work=$(mktemp -d)
 trap 'rm -rf "$work"' EXIT
+
+# `rt ci` proves the static library and keeps none. It is built over the libraries that it has left, as `rt lib` builds it.
+library=${LIBRARY:-$work/libhoxalgurre_c.a}
+if [ ! -f "$library" ]; then
+    libraries=(-L "dependency=$kit/rlibs")
+    for folder in crates/*/out/rlib; do
+        libraries+=(-L "dependency=$folder")
+    done
+    "$kit/bin/rattle" build --crate-name hoxalgurre_c crates/hoxalgurre_c/src/lib.rt --crate-type staticlib \
+        --extern "std=$kit/rlibs/std.rlib" --extern markdown_blocks=crates/markdown_blocks/out/rlib/markdown_blocks.rlib \
+        "${libraries[@]}" --antt-project "$kit/rattle/logic/antt-project.json" --logic-built "$kit/logic_built" \
+        --toolchain "$kit/toolchain" -o "$library" >"$work/built" 2>&1 || {
+        cat "$work/built"
+        exit 1
+    }
+fi
 gcc -std=c11 -O2 -Wall -Wextra -Werror -Iinclude examples/c/events.c "$library" "$heap" -o "$work/events"
 gcc -shared -o "$work/libhoxalgurre.so" -Wl,--whole-archive "$library" -Wl,--no-whole-archive "$heap"
 passed=0
@@ -32,9 +45,9 @@ compare() {
 for text in examples/texts/*.md docs/events.md; do
     for set in commonmark gfm all; do
         "$events" "$set" <"$text" >"$work/wanted"
-        "$work/events" "$set" <"$text" >"$work/told"
+        "$work/events" "$set" <"$text" >"$work/told" || true
         compare "examples/c $set $text"
-        python3 examples/python/hoxalgurre.py "$work/libhoxalgurre.so" "$set" <"$text" >"$work/told"
+        python3 examples/python/hoxalgurre.py "$work/libhoxalgurre.so" "$set" <"$text" >"$work/told" || true
         compare "examples/python $set $text"
     done
 done
