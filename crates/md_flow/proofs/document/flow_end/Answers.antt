@@ -1,10 +1,12 @@
-use Rattle.std.proofs.Common.{◌≡◌, ◌∙◌, Some, ap, arith, is_ok, length, sym, true, ℕ}
+use Rattle.std.proofs.Common.{◌≡◌, ◌∙◌, Some, ap, arith, is_ok, length, rules, sym, true, ℕ}
 use Rattle.md_engine.specs.declared.event.Name.{Name}
+use Rattle.md_engine.specs.declared.state.document.State.TheVariants as document
 use Rattle.md_engine.specs.World.{World, closed, world}
 use Rattle.md_seam.specs.Transition.{entered, exited, taken}
 use Rattle.md_registry.specs.Flow.{flow_end_code}
 use Rattle.md_frame.specs.EndingName.{ending_name}
 use Rattle.md_registry.specs.LineFlags.{next_line}
+use Rattle.md_registry.proofs.FlowSteps.{document_rule}
 use Rattle.md_flow.proofs.document.flow_end.Goals as goal
 
 pub returns-in-Some-eq10-3-clause-to : goal.returns-in-Some-eq10-3-clause-to
@@ -40,3 +42,27 @@ returns-in-Some-eq10-3-clause-world c = λ _.
     ∙ ap (λ o. (flow_end_code v o).world) (sym (here ∙ ap Some ten))
     ∙ ap (λ (x : World). (flow_end_code x x.current).world)
     ((rw has_closed at c.close.ensures.world) ∙ ap (λ n. closed w n w.flags.line_end) c.kept_containers-keep.ensures)
+
+pub returns-in-None-2-clause-to : goal.returns-in-None-2-clause-to
+returns-in-None-2-clause-to c = search rules
+
+pub returns-in-None-2-clause-world : goal.returns-in-None-2-clause-world
+returns-in-None-2-clause-world c = search rules
+
+pub returns-in_default-clause-to : goal.returns-in_default-clause-to
+returns-in_default-clause-to c = search rules
+
+pub returns-in_default-clause-world : goal.returns-in_default-clause-world
+returns-in_default-clause-world c = search rules
+
+pub returns-in-None-2-clause-rule : goal.returns-in-None-2-clause-rule
+returns-in-None-2-clause-rule c = λ ok.
+    document_rule document.FlowEnd (world c.args.tokenizer.now) _ _ (returns-in-None-2-clause-to c ok) (returns-in-None-2-clause-world c ok)
+
+pub returns-in_default-clause-rule : goal.returns-in_default-clause-rule
+returns-in_default-clause-rule c = λ ok.
+    document_rule document.FlowEnd (world c.args.tokenizer.now) _ _ (returns-in_default-clause-to c ok) (returns-in_default-clause-world c ok)
+
+pub returns-in-Some-eq10-3-clause-rule : goal.returns-in-Some-eq10-3-clause-rule
+returns-in-Some-eq10-3-clause-rule c = λ ok.
+    document_rule document.FlowEnd (world c.args.tokenizer.now) _ _ (returns-in-Some-eq10-3-clause-to c ok) (returns-in-Some-eq10-3-clause-world c ok)
