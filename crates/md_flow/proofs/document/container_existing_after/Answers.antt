@@ -1,4 +1,5 @@
-use Rattle.std.proofs.Common.{rules}
+use Rattle.std.proofs.Common.{arith, rules}
+use Rattle.std.proofs.lemmas.Grind.{common_steps}
 use Rattle.md_engine.specs.declared.state.document.State.TheVariants as document
 use Rattle.md_engine.specs.World.{world}
 use Rattle.md_registry.proofs.FlowSteps.{document_rule}
@@ -8,7 +9,7 @@ pub returns-else-continued-len-clause-to : goal.returns-else-continued-len-claus
 returns-else-continued-len-clause-to c = search rules
 
 pub returns-else-continued-len-clause-world : goal.returns-else-continued-len-clause-world
-returns-else-continued-len-clause-world c = search rules
+returns-else-continued-len-clause-world c = grind (arith, common_steps)
 
 pub returns-else-continued-len-clause-rule : goal.returns-else-continued-len-clause-rule
 returns-else-continued-len-clause-rule c =
