@@ -53,6 +53,9 @@ fn lines_of_quotes(alloc: Global, levels: usize) -> Result<usize, Message> {
             return Err(Message);
         }
     }
+    if text.len() > usize::MAX / 8 {
+        return Err(Message);
+    }
     let tree = tree(alloc, text.as_str(), &ParseOptions::COMMONMARK)?;
     Ok(outline(alloc, &tree)?.len())
 }

@@ -1,4 +1,4 @@
-use Rattle.md_frame.proofs.MarkLemmas.{placed-first}
+use Rattle.md_front_rooms.proofs.MarkLemmas.{placed-first}
 use Rattle.memory_calls.proofs.states.seeing.Goals as goal
 
 pub new-tokenizer-requires : goal.new-tokenizer-requires
