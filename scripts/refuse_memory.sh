@@ -232,5 +232,5 @@ if ended != (0, STATES, b"") or count == 0:
     sys.exit(f"states, each request refused: status, output and complaint {ended}, {count} refused")
 for name, (least, allowed) in PROGRAMS.items():
     check(name, *refuse_program(name), least, allowed)
-check("hoxalgurre", *refuse_reports(), 150, 0)
+check("hoxalgurre", *refuse_reports(), 150, 5)
 PYTHON
