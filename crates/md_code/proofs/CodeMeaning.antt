@@ -19,14 +19,16 @@ use Rattle.md_engine.specs.declared.tokenizer.Scratch.{Scratch}
 use Rattle.md_engine.specs.Meaning.{Accepts, Behaviour, Cell, Fails, Feed, Here, Outcome, Refuses, Steps, goes, here}
 use Rattle.md_engine.specs.Meaning.{restored}
 use Rattle.md_engine.specs.Meaning.{resume}
+use Rattle.md_engine.specs.Scheme.{position}
 use Rattle.md_engine.specs.World.{World, after}
 use Rattle.md_engine.specs.Sees.{Sees, ahead, cell_here}
 use Rattle.md_engine.proofs.StepOf.{begins, begins_only, moves, passes, steps-as}
-use Rattle.md_code.specs.Code.{begun_code, blank_noted, code_transition, further_after_code, further_begin_code}
-use Rattle.md_code.specs.Code.{further_inside_code, inside_blank_code, inside_code}
-use Rattle.md_code.specs.CodeRule.{CodeMeans, HasCode, at_break, behind_columns, blank_ends, code_ends, further_after}
-use Rattle.md_code.specs.CodeRule.{further_begin, further_inside, further_line, in_blank, in_text, is_indented}
-use Rattle.md_code.specs.CodeRule.{line_at, or_blank, then_here}
+use Rattle.md_code.specs.Code.{CodeInvariant, at_break_code, begun_code, blank_noted, chunk_begun, chunk_noted}
+use Rattle.md_code.specs.Code.{code_transition, further_after_code, further_begin_code, further_inside_code}
+use Rattle.md_code.specs.Code.{inside_blank_code, inside_code}
+use Rattle.md_code.specs.CodeRule.{CodeMeans, HasCode, at_break, behind_columns, blank_ends, chunk_at, code_ends}
+use Rattle.md_code.specs.CodeRule.{further_after, further_begin, further_inside, further_line, in_blank, in_text}
+use Rattle.md_code.specs.CodeRule.{is_indented, line_at, or_blank, then_here}
 use Rattle.md_leaves.specs.Further.{further_link}
 use Rattle.md_leaves.proofs.LeafSteps.{Ended, end-seen, ends-seen, sees-one, white_frame}
 use Rattle.md_seam.specs.Ahead.{HasWhite, after_white, begins_white, inside_white, line_bytes, white_at}
@@ -122,6 +124,10 @@ line-some : (may : Bool) (begin : Event) (cells : List Cell) (h : Here) → may 
 unfolding line_at
 line-some may begin cells h e = rw e refl
 
+-- where nothing is noted, the chunk of a line of code begins
+chunk-bare : (cells : List Cell) (h : Here) → h.scratch.seen ≡ false → chunk_at cells h ≡ at_break cells h
+chunk-bare cells h e = rw e refl
+
 -- at a state in front of a line of code, which begins with this event
 begun_means : (B : Behaviour) (options : ParseOptions) (feed : Feed) (state : CodeState) (begin : Event) (w : World)
     (may x : Bool) →
@@ -134,7 +140,11 @@ begun_means B options feed state begin w may true has s r own e =
     let frame : Frame = white_frame (Next (n.CodeIndented its.AtBreak)) w h.events in
     begins B feed _ _ w (begun_code w begin true).world (begin ∷ []) frame refl refl
     (own ∙ line-some may begin (feed w.point) (here w) (and_parts may (sees_white w.current) e).0
-    ∙ ap₂ (λ (a b : Outcome). cond (is_indented (feed w.point)) a b) (sym (has.each its.AtBreak _ _))
+    ∙ ap₂ (λ (a b : Outcome). cond (is_indented (feed w.point)) a b)
+    (sym
+    (has.each its.AtBreak _ _
+    ∙ chunk-bare (white_rest 4 (feed w.point)) (behind_columns 4 (feed w.point) h)
+    (ap (λ (t : Scratch). t.seen) r)))
     (ap (λ (t : Scratch). Refuses t w.flags) (sym (calm w.scratch r)))
     ∙ white-asked B feed frame h.events (feed w.point) h 4 has.white (omega arith) refl)
 begun_means B options feed state begin w may false has s r own e =
@@ -263,17 +273,6 @@ after-is : (cells : List Cell) (h : Here) (x : Bool) → is_end (line_bytes cell
 unfolding further_after
 after-is cells h x e = rw e refl
 
-further_after_means : (B : Behaviour) (options : ParseOptions) (feed : Feed) (w : World) (x : Bool) →
-    HasCode B options → Sees feed w → ends_line w.current ≡ x →
-    Steps B feed (Next (n.CodeIndented its.FurtherAfter)) w (further_after_code w x).to (further_after_code w x).world
-further_after_means B options feed w true has s e =
-    passes B feed _ _ w (blank_noted w) refl refl
-    (has.each its.FurtherAfter _ _ ∙ after-is (feed w.point) (here w) true (end-seen feed w s ∙ e))
-further_after_means B options feed w false has s e =
-    moves B feed _ _ w (further_after_code w false).world (enter CodeFlowChunk w.point ∷ []) refl refl
-    (has.each its.FurtherAfter _ _ ∙ after-is (feed w.point) (here w) false (end-seen feed w s ∙ e)
-    ∙ sym (has.each its.FurtherInside _ _))
-
 further-ends : (cells : List Cell) (h : Here) → Ended cells → further_inside cells h ≡ blank_ends cells (chunk_ends h)
 unfolding further_inside
 further-ends cells h e = rw (e.line, e.ending) refl
@@ -288,6 +287,40 @@ further-text : (feed : Feed) (w : World) (h : Here) (o : Option ℕ) → ends_li
 unfolding further_inside
 further-text feed w h None e f = cc
 further-text feed w h (Some b) e f = rw (e, f) refl
+
+-- the note of a blank line's chunk is taken back where that begins
+further_after_means : (B : Behaviour) (options : ParseOptions) (feed : Feed) (w : World) (x y : Bool) →
+    HasCode B options → Sees feed w → IsRest w.scratch → ends_line w.current ≡ x → sees_white w.current ≡ y →
+    Steps B feed (Next (n.CodeIndented its.FurtherAfter)) w (further_after_code w x y).to
+    (further_after_code w x y).world
+further_after_means B options feed w true y has s r e f =
+    passes B feed _ _ w (blank_noted w) refl refl
+    (has.each its.FurtherAfter _ _ ∙ after-is (feed w.point) (here w) true (end-seen feed w s ∙ e))
+further_after_means B options feed w false true has s r e f =
+    let same : w.scratch ≡ chunk_begun (chunk_noted w.scratch) =
+    r ∙ sym (ap (λ (t : Scratch). chunk_begun (chunk_noted t)) r) in
+    passes B feed _ _ w (further_after_code w false true).world refl refl
+    (has.each its.FurtherAfter _ _ ∙ after-is (feed w.point) (here w) false (end-seen feed w s ∙ e)
+    ∙ ap
+    (λ (t : Scratch).
+    further_inside (feed w.point) (then_here (enter CodeFlowChunk w.point) (record (here w) { scratch = t }))) same
+    ∙ sym (has.each its.AtBreak _ _))
+further_after_means B options feed w false false has s r e f =
+    let chunk : Here = then_here (enter CodeFlowChunk w.point) (here w) in
+    passes B feed _ _ w w refl refl
+    (has.each its.FurtherAfter _ _ ∙ after-is (feed w.point) (here w) false (end-seen feed w s ∙ e)
+    ∙ rw s.next (further-text feed w chunk w.current e f))
+
+-- where a chunk begins, by whether that of a blank line is noted
+at_break_means : (B : Behaviour) (options : ParseOptions) (feed : Feed) (w : World) (x : Bool) → HasCode B options →
+    w.scratch.seen ≡ x →
+    Steps B feed (Next (n.CodeIndented its.AtBreak)) w (at_break_code w x).to (at_break_code w x).world
+at_break_means B options feed w true has e =
+    moves B feed _ _ w (at_break_code w true).world (enter CodeFlowChunk w.point ∷ []) refl refl
+    (has.each its.AtBreak _ _ ∙ rw e refl ∙ sym (has.each its.FurtherInside _ _))
+at_break_means B options feed w false has e =
+    moves B feed _ _ w (at_break_code w false).world (enter CodeFlowChunk w.point ∷ []) refl refl
+    (has.each its.AtBreak _ _ ∙ chunk-bare (feed w.point) (here w) e ∙ sym (has.each its.InsideBlank _ _))
 
 further_inside_means : (B : Behaviour) (options : ParseOptions) (feed : Feed) (w : World) (x y : Bool) →
     HasCode B options → Sees feed w → ends_line w.current ≡ x → sees_white w.current ≡ y →
@@ -308,13 +341,11 @@ further_inside_means B options feed w false false has s e f =
 
 -- each state of code takes one step of what it means
 pub code_means : (B : Behaviour) (feed : Feed) (state : CodeState) (w : World) → HasCode B w.setting.options →
-    Sees feed w → IsRest w.scratch →
+    Sees feed w → CodeInvariant (n.CodeIndented state) (position w) →
     Steps B feed (Next (n.CodeIndented state)) w (code_transition state w).to (code_transition state w).world
 code_means B feed its.Start w has s r =
     begun_means B _ feed its.Start (enter CodeIndented w.point) w _ _ has s r (has.each its.Start _ _) refl
-code_means B feed its.AtBreak w has s r =
-    moves B feed _ _ w (code_transition its.AtBreak w).world (enter CodeFlowChunk w.point ∷ []) refl refl
-    (has.each its.AtBreak _ _ ∙ sym (has.each its.InsideBlank _ _))
+code_means B feed its.AtBreak w has s r = at_break_means B _ feed w _ has refl
 code_means B feed its.InsideBlank w has s r = inside_blank_means B _ feed w _ _ has s refl refl
 code_means B feed its.Inside w has s r = inside_means B _ feed w _ has s refl
 code_means B feed its.After w has s r =
@@ -325,7 +356,7 @@ code_means B feed its.FurtherLine w has s r =
     begun_means B _ feed its.FurtherLine (enter_link CodeIndented w.point further_link) w true _ has s r
     (has.each its.FurtherLine _ _) refl
 code_means B feed its.FurtherBegin w has s r = further_begin_means B _ feed w _ has s refl
-code_means B feed its.FurtherAfter w has s r = further_after_means B _ feed w _ has s refl
+code_means B feed its.FurtherAfter w has s r = further_after_means B _ feed w _ _ has s r refl refl
 code_means B feed its.FurtherInside w has s r = further_inside_means B _ feed w _ _ has s refl refl
 
 -- what answers as the transition of a state does means what the state means

@@ -7,6 +7,7 @@ use Rattle.md_engine.specs.declared.state.Name.TheVariants as n
 use Rattle.md_engine.specs.declared.state.code_indented.State.{State as CodeState}
 use Rattle.md_engine.specs.declared.state.code_indented.State.TheVariants as its
 use Rattle.md_engine.specs.declared.state.State.TheVariants.{Ok, Nok, Next, Retry}
+use Rattle.md_engine.specs.declared.tokenizer.Scratch.{Scratch}
 use Rattle.md_engine.specs.declared.tokenizer.held_leaf.HeldLeaf.{HeldLeaf}
 use Rattle.md_engine.specs.declared.tokenizer.held_leaf.HeldLeaf.TheVariants as held_leaf
 use Rattle.md_engine.specs.Scheme.{After, Ends, Rank, Scheme, Position, ranked}
@@ -28,6 +29,21 @@ begun_code w begin true =
     white_then (record w { events = w.events ++ begin ∷ [] }) 4 4 (Next (n.CodeIndented its.AtBreak)) Nok
 begun_code w begin false = record { to = Nok; world = w }
 
+-- a blank line notes that it has a chunk, until that begins
+abbrev pub chunk_noted : Scratch → Scratch
+chunk_noted s = record s { seen = true }
+
+abbrev pub chunk_begun : Scratch → Scratch
+chunk_begun s = record s { seen = false }
+
+-- by whether that is noted
+abbrev pub at_break_code : World → Bool → Transition
+at_break_code w true = record {
+  to = Retry (n.CodeIndented its.FurtherInside);
+  world = record (entered w CodeFlowChunk) { scratch = chunk_begun w.scratch };
+}
+at_break_code w false = record { to = Retry (n.CodeIndented its.InsideBlank); world = entered w CodeFlowChunk }
+
 -- by whether the line ends here, or whitespace stands
 abbrev pub inside_blank_code : World → Bool → Bool → Transition
 inside_blank_code w true white = record { to = Nok; world = w }
@@ -48,10 +64,12 @@ further_begin_code w false = record { to = Retry (n.CodeIndented its.FurtherAfte
 abbrev pub blank_noted : World → World
 blank_noted w = record w { flags = record w.flags { blank = true } }
 
--- by whether the line ends here
-abbrev pub further_after_code : World → Bool → Transition
-further_after_code w true = record { to = Ok; world = blank_noted w }
-further_after_code w false = record { to = Retry (n.CodeIndented its.FurtherInside); world = entered w CodeFlowChunk }
+-- by whether the line ends here, or whitespace stands
+abbrev pub further_after_code : World → Bool → Bool → Transition
+further_after_code w true white = record { to = Ok; world = blank_noted w }
+further_after_code w false true =
+    record { to = Retry (n.CodeIndented its.AtBreak); world = record w { scratch = chunk_noted w.scratch } }
+further_after_code w false false = record { to = Nok; world = w }
 
 -- by whether the line ends here, or whitespace stands
 abbrev pub further_inside_code : World → Bool → Bool → Transition
@@ -66,7 +84,7 @@ start_transition w =
     (w.setting.options.constructs.code_indented && may_open w.flags.leaf && sees_white w.current)
 
 abbrev pub at_break_transition : World → Transition
-at_break_transition w = record { to = Retry (n.CodeIndented its.InsideBlank); world = entered w CodeFlowChunk }
+at_break_transition w = at_break_code w w.scratch.seen
 
 abbrev pub inside_blank_transition : World → Transition
 inside_blank_transition w = inside_blank_code w (ends_line w.current) (sees_white w.current)
@@ -93,7 +111,7 @@ abbrev pub further_begin_transition : World → Transition
 further_begin_transition w = further_begin_code w (sees_white w.current)
 
 abbrev pub further_after_transition : World → Transition
-further_after_transition w = further_after_code w (ends_line w.current)
+further_after_transition w = further_after_code w (ends_line w.current) (sees_white w.current)
 
 abbrev pub further_inside_transition : World → Transition
 further_inside_transition w = further_inside_code w (ends_line w.current) (sees_white w.current)
@@ -111,9 +129,10 @@ code_transition its.FurtherBegin w = further_begin_transition w
 code_transition its.FurtherAfter w = further_after_transition w
 code_transition its.FurtherInside w = further_inside_transition w
 
--- each state of code is at rest
+-- each state of code is at rest, but for what is noted where a chunk begins
 abbrev pub CodeInvariant : StateName → Position → Type 0
-CodeInvariant name x = IsRest x.scratch
+CodeInvariant (n.CodeIndented its.AtBreak) x = IsRest (chunk_begun x.scratch)
+CodeInvariant _ x = IsRest x.scratch
 
 abbrev pub code_ready : StateName → Position → After → Type 0
 code_ready name x K = CodeInvariant name x × Ends IsRest IsRest x K
@@ -129,14 +148,15 @@ code_rank (n.CodeIndented its.AtBreak) x = ranked 4 refl
 code_rank (n.CodeIndented its.InsideBlank) x = ranked 3 refl
 code_rank (n.CodeIndented its.Inside) x = ranked 2 refl
 code_rank (n.CodeIndented its.After) x = ranked 1 refl
-code_rank (n.CodeIndented its.FurtherStart) x = ranked 6 refl
+code_rank (n.CodeIndented its.FurtherStart) x = ranked 9 refl
 code_rank (n.CodeIndented its.FurtherLine) x = ranked 6 refl
-code_rank (n.CodeIndented its.FurtherBegin) x = ranked 3 refl
-code_rank (n.CodeIndented its.FurtherAfter) x = ranked 1 refl
+code_rank (n.CodeIndented its.FurtherBegin) x = ranked 7 refl
+code_rank (n.CodeIndented its.FurtherAfter) x = ranked 5 refl
 code_rank _ x = ranked 0 refl
 
 abbrev pub code_tries : StateName → Rank
-code_tries (n.CodeIndented its.FurtherAfter) = ranked 2 refl
+code_tries (n.CodeIndented its.FurtherBegin) = ranked 8 refl
+code_tries (n.CodeIndented its.FurtherAfter) = ranked 6 refl
 code_tries _ = ranked 5 refl
 
 abbrev pub code_scheme : Scheme

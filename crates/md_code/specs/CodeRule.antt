@@ -15,7 +15,7 @@ use Rattle.md_engine.specs.Meaning.{Accepts, Behaviour, Cell, Here, Outcome, Ref
 use Rattle.md_engine.specs.Scheme.{position}
 use Rattle.md_engine.specs.Sees.{IsStep}
 use Rattle.md_engine.specs.World.{World}
-use Rattle.md_code.specs.Code.{CodeInvariant, may_open}
+use Rattle.md_code.specs.Code.{CodeInvariant, chunk_begun, may_open}
 use Rattle.md_leaves.specs.Further.{further_link}
 use Rattle.md_seam.specs.Ahead.{HasWhite, begins_white, from_ending, line_bytes, line_end, white_end, white_rest}
 use Rattle.md_seam.specs.Ahead.{white_size}
@@ -94,6 +94,15 @@ further_after cells h =
     if is_end (line_bytes cells) then blank_ends cells h
     else further_inside cells (then_here (enter CodeFlowChunk h.point) h)
 
+-- where it is noted that the chunk of a blank line begins
+abbrev pub noted_chunk : List Cell → Here → Outcome
+noted_chunk cells h =
+    further_inside cells (then_here (enter CodeFlowChunk h.point) (record h { scratch = chunk_begun h.scratch }))
+
+-- where a chunk begins: of a blank line if that is noted, and else of a line of code
+abbrev pub chunk_at : List Cell → Here → Outcome
+chunk_at cells h = if h.scratch.seen then noted_chunk cells h else at_break cells h
+
 -- a line that is no line of code goes on open code if it is blank
 unfoldable pub further_begin : List Cell → Here → Outcome
 further_begin cells h =
@@ -110,7 +119,7 @@ code_further cells h = or_blank cells h (further_line cells h)
 -- what is left at each state
 abbrev pub code_behaves : ParseOptions → CodeState → List Cell → Here → Outcome
 code_behaves options its.Start cells h = code_at options cells h
-code_behaves options its.AtBreak cells h = at_break cells h
+code_behaves options its.AtBreak cells h = chunk_at cells h
 code_behaves options its.InsideBlank cells h = in_blank cells h
 code_behaves options its.Inside cells h = in_text cells h
 code_behaves options its.After cells h = code_ends cells h

@@ -7,7 +7,7 @@
 // Each line of code is a `CodeIndented` of its own, around the `SpaceOrTab` of its four columns and a `CodeFlowChunk`
 // over the rest. A further one goes on the code of a line before, and says so in its link: a resolver makes one block of
 // them. A blank line stands bare, as it is not known yet whether code goes on behind it: a `SpaceOrTab` of at most four
-// columns, and a chunk over what whitespace is left.
+// columns, and a chunk over what whitespace is left, which `scratch.seen` notes until it begins.
 
 ghost use Rattle.std.specs.Prelude.{◌≡◌, ◌≢◌, IfSome};
 ghost use Rattle.md_code.specs.CodeRule.{CodeMeans};
@@ -75,7 +75,7 @@ pub fn start(tokenizer: &mut Tokenizer) -> State
     }
 }
 
-/// Behind its four columns.
+/// Where a chunk begins: behind the four columns of a line of code, or where it is noted that a blank line has one.
 ///
 /// ```markdown
 /// > |     aaa
@@ -91,7 +91,12 @@ pub fn at_break(tokenizer: &mut Tokenizer) -> State
     ensures full { OnError result (IsFull tokenizer.new) }
 {
     or_error!(tokenizer.enter(Name::CodeFlowChunk));
-    State::Retry(StateName::CodeIndented(CodeState::InsideBlank))
+    if tokenizer.scratch.seen {
+        tokenizer.scratch.seen = false;
+        State::Retry(StateName::CodeIndented(CodeState::FurtherInside))
+    } else {
+        State::Retry(StateName::CodeIndented(CodeState::InsideBlank))
+    }
 }
 
 /// In a chunk of which nothing but whitespace was read yet: a blank line is no line of code.
@@ -248,7 +253,8 @@ pub fn further_begin(tokenizer: &mut Tokenizer) -> State
     }
 }
 
-/// Behind its first columns: it goes on the code if it is blank, and is a blank line still.
+/// Behind its first columns: it goes on the code if it is blank, and is a blank line still. This state takes no memory:
+/// it notes that a chunk begins over what whitespace is left, and that begins at the break.
 ///
 /// ```markdown
 ///   |     aaa
@@ -258,22 +264,20 @@ pub fn further_begin(tokenizer: &mut Tokenizer) -> State
 #[tactic(auto, using(crate::proofs::CodeMeaning::code_rule))]
 pub fn further_after(tokenizer: &mut Tokenizer) -> State
     requires { IsAt NeedsNothing (StateName.CodeIndented CodeState.FurtherAfter) (world tokenizer.old) }
-    ensures to { result ≢ State.Error → result ≡ (further_after_transition (world tokenizer.old)).to }
-    ensures world { result ≢ State.Error →
-        world tokenizer.new ≡ (further_after_transition (world tokenizer.old)).world }
-    ensures rule { result ≢ State.Error →
-        CodeMeans CodeState.FurtherAfter (world tokenizer.old) result (world tokenizer.new) }
-    ensures full { OnError result (IsFull tokenizer.new) }
+    ensures to { result ≡ (further_after_transition (world tokenizer.old)).to }
+    ensures world { world tokenizer.new ≡ (further_after_transition (world tokenizer.old)).world }
+    ensures rule { CodeMeans CodeState.FurtherAfter (world tokenizer.old) result (world tokenizer.new) }
 {
     match tokenizer.current {
         None | Some(b'\n') => {
             tokenizer.flags.blank = true;
             State::Ok
         }
-        Some(_) => {
-            or_error!(tokenizer.enter(Name::CodeFlowChunk));
-            State::Retry(StateName::CodeIndented(CodeState::FurtherInside))
+        Some(b'\t' | b' ') => {
+            tokenizer.scratch.seen = true;
+            State::Retry(StateName::CodeIndented(CodeState::AtBreak))
         }
+        Some(_) => State::Nok,
     }
 }
 

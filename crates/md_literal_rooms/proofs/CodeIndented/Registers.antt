@@ -6,7 +6,7 @@ use Rattle.md_engine.specs.declared.state.code_indented.State.{State as CodeStat
 use Rattle.md_engine.specs.declared.state.code_indented.State.TheVariants as its
 use Rattle.md_engine.specs.World.{World}
 use Rattle.md_content.specs.Joined.{is_content}
-use Rattle.md_code.specs.Code.{begun_code, code_transition, further_after_code, further_begin_code}
+use Rattle.md_code.specs.Code.{at_break_code, begun_code, code_transition, further_after_code, further_begin_code}
 use Rattle.md_code.specs.Code.{further_inside_code, inside_blank_code, inside_code, may_open}
 use Rattle.md_leaves.specs.Further.{further_link}
 use Rattle.md_seam.specs.Events.Nested.{enter, enter_link, exit}
@@ -21,6 +21,10 @@ at-line : (w : World) (begin : Event) (b : Bool) → IsNoEnd is_content begin �
 at-line w begin true content own h = adds w.events begin w.resolvers content own h
 at-line w begin false content own h = h
 
+at-break : (w : World) (b : Bool) → Registers w → Registers (at_break_code w b).world
+at-break w true h = adds w.events (enter n.CodeFlowChunk w.point) w.resolvers refl refl h
+at-break w false h = adds w.events (enter n.CodeFlowChunk w.point) w.resolvers refl refl h
+
 in-blank : (w : World) (a b : Bool) → Registers w → Registers (inside_blank_code w a b).world
 in-blank w true b h = h
 in-blank w false true h = h
@@ -34,9 +38,10 @@ further-begin : (w : World) (b : Bool) → Registers w → Registers (further_be
 further-begin w true h = h
 further-begin w false h = h
 
-further-after : (w : World) (b : Bool) → Registers w → Registers (further_after_code w b).world
-further-after w true h = h
-further-after w false h = adds w.events (enter n.CodeFlowChunk w.point) w.resolvers refl refl h
+further-after : (w : World) (a b : Bool) → Registers w → Registers (further_after_code w a b).world
+further-after w true b h = h
+further-after w false true h = h
+further-after w false false h = h
 
 further-inside : (w : World) (a b : Bool) → Registers w → Registers (further_inside_code w a b).world
 further-inside w true b h = adds w.events (exit n.CodeFlowChunk w.point) w.resolvers refl refl h
@@ -48,7 +53,7 @@ pub code-registers : (state : CodeState) (w : World) → Registers w → Registe
 code-registers its.Start w h =
     at-line w (enter n.CodeIndented w.point)
     (w.setting.options.constructs.code_indented && may_open w.flags.leaf && sees_white w.current) refl refl h
-code-registers its.AtBreak w h = adds w.events (enter n.CodeFlowChunk w.point) w.resolvers refl refl h
+code-registers its.AtBreak w h = at-break w w.scratch.seen h
 code-registers its.InsideBlank w h = in-blank w (ends_line w.current) (sees_white w.current) h
 code-registers its.Inside w h = in-chunk w (ends_line w.current) h
 code-registers its.After w h = adds w.events (exit n.CodeIndented w.point) w.resolvers refl refl h
@@ -56,5 +61,5 @@ code-registers its.FurtherStart w h = h
 code-registers its.FurtherLine w h =
     at-line w (enter_link n.CodeIndented w.point further_link) (sees_white w.current) refl refl h
 code-registers its.FurtherBegin w h = further-begin w (sees_white w.current) h
-code-registers its.FurtherAfter w h = further-after w (ends_line w.current) h
+code-registers its.FurtherAfter w h = further-after w (ends_line w.current) (sees_white w.current) h
 code-registers its.FurtherInside w h = further-inside w (ends_line w.current) (sees_white w.current) h
