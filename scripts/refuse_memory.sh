@@ -74,7 +74,7 @@ CALLS = {
 }
 
 # What the states answer that take no memory, and that an event finds no place.
-STATES = b"ok\nok\nnext\nnext\nno event\n"
+STATES = b"ok\nok\nnext\nnext\nretry\nok\nno event\n"
 
 WHOLE = b"\xef\xbb\xbf+++\nt\n+++\n# # a #\nb\n> > c\n> d\ne\n### ##\n***\n- f\n\n  1. g\n     > h\n- i\n> ~~~ j k\n>  l\n>\nm\n<p\nn\n\no\n=\n\n> [P\n> Q]: r 's'\n\n[P]: u\nv\n=\nw|x\n-|-\n|y\n\n[^Z]: z\n"
 OUTLINE = b"""frontmatter +

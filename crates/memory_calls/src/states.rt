@@ -6,7 +6,9 @@ ghost use Rattle.md_engine.specs.World.{looks, world};
 
 use crate::{AFTER, BEFORE, mark};
 use markdown_blocks::configuration::ParseOptions;
-use markdown_blocks::construct::{blank_line, html_flow, partial_non_lazy_continuation};
+use markdown_blocks::construct::{
+    blank_line, code_indented, html_flow, partial_non_lazy_continuation,
+};
 use markdown_blocks::event::{Name, Point};
 use markdown_blocks::message::Message;
 use markdown_blocks::state::State;
@@ -43,13 +45,16 @@ fn seeing<'a>(alloc: Global, text: &'static [u8], options: &'a ParseOptions) -> 
     tokenizer
 }
 
-/// What four states answer, and then whether an event was added: a blank line ends here; the line is not lazy; at the `>` of a tag;
-/// in a line of HTML. The event finds no memory where none is given.
+/// What five states answer, and then whether an event was added: a blank line ends here; the line is not lazy; at the `>` of a tag;
+/// in a line of HTML; in a blank line of code, where a chunk begins and where the line ends. The event finds no memory where none is
+/// given.
 pub fn states(alloc: Global, options: &ParseOptions) -> Result<String, Message> {
     let mut blank = seeing(alloc, b"", options);
     let mut lazy = seeing(alloc, b"a", options);
     let mut tag = seeing(alloc, b">", options);
     let mut line = seeing(alloc, b"a", options);
+    let mut chunk = seeing(alloc, b" ", options);
+    let mut ending = seeing(alloc, b"\n", options);
     let mut event = seeing(alloc, b"a", options);
     let _before = mark(alloc, BEFORE)?;
     let answers = [
@@ -57,6 +62,8 @@ pub fn states(alloc: Global, options: &ParseOptions) -> Result<String, Message> 
         partial_non_lazy_continuation::after(&mut lazy),
         html_flow::complete_end(&mut tag),
         html_flow::continuation_close(&mut line),
+        code_indented::further_after(&mut chunk),
+        code_indented::further_after(&mut ending),
     ];
     let added = event.enter(Name::Data);
     let _after = mark(alloc, AFTER)?;
