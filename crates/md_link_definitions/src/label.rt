@@ -35,16 +35,14 @@ use md_seam::space_or_tab::is_space_or_tab;
 /// A label has at most so many bytes.
 const MOST: usize = 999;
 
-/// Without what a label keeps.
-fn unlabelled(scratch: Scratch) -> Scratch
+/// Without what a label keeps. Fields are set one by one, which takes fewer instructions than `..scratch`.
+fn unlabelled(mut scratch: Scratch) -> Scratch
     ensures { result ≡ unlabelled scratch }
 {
-    Scratch {
-        size: 0,
-        seen: false,
-        connect: false,
-        ..scratch
-    }
+    scratch.size = 0;
+    scratch.seen = false;
+    scratch.connect = false;
+    scratch
 }
 
 /// Refuses, at rest.
@@ -69,16 +67,12 @@ fn counted(tokenizer: &Tokenizer, byte: u8) -> Scratch
     requires { is_full (world tokenizer.now) ≡ false }
     ensures { result ≡ counted (world tokenizer.now) byte }
 {
-    let scratch = tokenizer.scratch;
-    Scratch {
-        size: if tokenizer.point.vs == 0 {
-            scratch.size + 1
-        } else {
-            scratch.size
-        },
-        seen: scratch.seen || !is_white(byte),
-        ..scratch
+    let mut scratch = tokenizer.scratch;
+    if tokenizer.point.vs == 0 {
+        scratch.size += 1;
     }
+    scratch.seen = scratch.seen || !is_white(byte);
+    scratch
 }
 
 /// Takes what stands here, counts it, and goes on; or refuses where there is no room for it.
