@@ -130,27 +130,24 @@ pub fn sees_letter(current: Option<u8>) -> bool
     }
 }
 
-/// Without what a part keeps,
-pub fn cleared(scratch: Scratch) -> Scratch
+/// Without what a part keeps. Fields are set one by one, which takes fewer instructions than `..scratch`.
+pub fn cleared(mut scratch: Scratch) -> Scratch
     ensures { result ≡ cleared scratch }
 {
-    Scratch {
-        marker: 0,
-        size: 0,
-        start: 0,
-        seen: false,
-        ..scratch
-    }
+    scratch.marker = 0;
+    scratch.size = 0;
+    scratch.start = 0;
+    scratch.seen = false;
+    scratch
 }
 
-/// and with a marker alone.
+/// With a marker alone.
 pub fn marked(marker: u8, scratch: Scratch) -> Scratch
     ensures { result ≡ marked marker scratch }
 {
-    Scratch {
-        marker,
-        ..cleared(scratch)
-    }
+    let mut scratch = cleared(scratch);
+    scratch.marker = marker;
+    scratch
 }
 
 /// What was read of a name.
