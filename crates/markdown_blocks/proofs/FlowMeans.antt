@@ -54,7 +54,7 @@ flow_has bytes options next = record {
 
 -- where the table stands at a state, the state has what it needs
 flow-needs : (state : FlowState) (w : World) → stands flow_table_scheme w (Next (n.Flow state)) → FlowInvariant state w
-flow-needs flow.Start w at = tt
+flow-needs flow.Start w at = at.0.0
 flow-needs flow.BlankLineBefore w at = tt
 flow-needs flow.BeforeContent w at = tt
 flow-needs flow.BlankLineAfter w at = tt

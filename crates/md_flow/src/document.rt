@@ -13,8 +13,6 @@
 
 ghost use Rattle.std.specs.Prelude.{◌≡◌, ◌≢◌, ◌⊎◌, true};
 ghost use Rattle.md_engine.specs.Full.{IsFull, OnError};
-ghost use Rattle.md_engine.specs.Going.{SeesOn};
-ghost use Rattle.md_engine.specs.Run.{RunsHere};
 ghost use Rattle.md_engine.specs.Scheme.{stands};
 ghost use Rattle.md_engine.specs.World.{looks, world};
 ghost use Rattle.md_engine.specs.declared.state.Name.{Name as StateName};
@@ -26,10 +24,7 @@ ghost use Rattle.md_registry.specs.Flow.{inside_transition, new_after_transition
 ghost use Rattle.md_registry.specs.Flow.{new_before_transition};
 ghost use Rattle.md_frame.specs.EndingName.{ending_name};
 ghost use Rattle.md_registry.specs.LineFlags.{asking, begun_line, ended_on, next_container, kept_containers};
-ghost use Rattle.md_registry.specs.AtOnce.{GoesAtOnce, asking_next, openers_passed};
-ghost use Rattle.md_containers.specs.PlainBullet.{IsPlainBullet};
-ghost use Rattle.md_registry.specs.Registry.{opener_front, openers, bars_containers};
-ghost use Rattle.md_registry.specs.States.{FlowStep};
+ghost use Rattle.md_registry.specs.Registry.{bars_containers};
 ghost use Rattle.md_engine.specs.declared.resolve.name.Name.{Name as ResolveName};
 ghost use Rattle.md_frame.specs.HeldLeaf.{lazy_of, takes_lazy};
 ghost use Rattle.md_registry.specs.Document.{before_frontmatter_transition, document_own_transition};
@@ -105,14 +100,14 @@ pub fn before_frontmatter(tokenizer: &mut Tokenizer) -> State
 }
 
 /// The outermost container that was not asked yet whether it goes on.
-fn next_container(tokenizer: &Tokenizer) -> Option<Container>
+pub(crate) fn next_container(tokenizer: &Tokenizer) -> Option<Container>
     ensures { result ≡ next_container (world tokenizer.now).flags }
 {
     tokenizer.containers.get(tokenizer.flags.continued).copied()
 }
 
 /// A container is asked whether it goes on, or tried, where the tokenizer stands.
-fn ask(tokenizer: &mut Tokenizer, container: Container)
+pub(crate) fn ask(tokenizer: &mut Tokenizer, container: Container)
     ensures { world tokenizer.new ≡ asking container (world tokenizer.old) }
 {
     tokenizer.flags.asked = container;
@@ -177,44 +172,6 @@ pub fn container_existing_before(tokenizer: &mut Tokenizer) -> State
             State::Retry(choices::goes_on_with(container.kind))
         }
     }
-}
-
-/// Whether the next container goes on, with a prefix that can be taken at once.
-fn goes_on_at_once(tokenizer: &mut Tokenizer) -> bool
-    ensures goes { result ≡ true → GoesAtOnce (world tokenizer.old) }
-    ensures same { world tokenizer.new ≡ world tokenizer.old }
-{
-    match next_container(tokenizer) {
-        None => false,
-        Some(container) => choices::has_plain_prefix(container, tokenizer),
-    }
-}
-
-/// The next container is asked, if there is one.
-fn ask_next(tokenizer: &mut Tokenizer)
-    ensures { world tokenizer.new ≡ asking_next (world tokenizer.old) }
-{
-    match next_container(tokenizer) {
-        None => {}
-        Some(container) => ask(tokenizer, container),
-    }
-}
-
-/// At the same place: goes at once over prefixes of containers that go on, as the states do one after another.
-#[inline(always)]
-pub fn containers_existing(tokenizer: &mut Tokenizer) -> State
-    requires { IsAt NeedsNothing (StateName.Document DocumentState.ContainerExistingBefore) (world tokenizer.old) }
-    ensures runs { result ≢ State.Error →
-        RunsHere FlowStep
-        (StateName.Document DocumentState.ContainerExistingBefore) (world tokenizer.old) result (world tokenizer.new) }
-    ensures sees { result ≢ State.Error → SeesOn result (world tokenizer.old) (world tokenizer.new) }
-{
-    while goes_on_at_once(tokenizer) {
-        ask_next(tokenizer);
-        or_error!(choices::take_plain_prefix(tokenizer));
-        container_existing_after(tokenizer);
-    }
-    container_existing_before(tokenizer)
 }
 
 /// Behind the prefix of a container that went on.
@@ -364,30 +321,6 @@ pub(crate) fn try_new(tokenizer: &mut Tokenizer, kind: ContainerKind) -> State
     State::Retry(choices::opens_with(kind))
 }
 
-/// Passes all containers that may open, where none does by what stands here, as the states do one after another.
-#[inline(always)]
-pub fn pass_openers(tokenizer: &mut Tokenizer)
-    ensures { world tokenizer.new ≡ openers_passed (world tokenizer.old) }
-{
-    ask(tokenizer, Container::new(choices::last_opener()));
-    begin_line(tokenizer);
-}
-
-/// Before the first container that may open, where one opens with a prefix that can be taken at once: it opens, as by
-/// the states that try one kind after another.
-pub fn opens_at_once(tokenizer: &mut Tokenizer) -> State
-    requires at { IsAt NeedsNothing (StateName.Document (opener_front openers)) (world tokenizer.old) }
-    requires plain { IsPlainBullet (world tokenizer.old) }
-    ensures runs { result ≢ State.Error →
-        RunsHere FlowStep
-        (StateName.Document (opener_front openers)) (world tokenizer.old) result (world tokenizer.new) }
-    ensures sees { result ≢ State.Error → SeesOn result (world tokenizer.old) (world tokenizer.new) }
-{
-    ask(tokenizer, Container::new(choices::plain_opener()));
-    or_error!(choices::take_plain_opening(tokenizer));
-    container_new_after(tokenizer)
-}
-
 /// Behind the first prefix of a container that opens: those that did not go on end before it.
 ///
 /// ```markdown
@@ -470,7 +403,7 @@ pub fn flow_inside(tokenizer: &mut Tokenizer) -> State
 
 /// Keeps the leaf that is open behind the containers of a line, and what the line meets of it.
 #[inline(always)]
-fn begin_line(tokenizer: &mut Tokenizer)
+pub(crate) fn begin_line(tokenizer: &mut Tokenizer)
     ensures { world tokenizer.new ≡ record (world tokenizer.old) { flags = begun_line (world tokenizer.old).flags } }
 {
     let all = !(tokenizer.flags.continued < tokenizer.containers.len());

@@ -1,6 +1,7 @@
 // The document and flow: the states that read the lines of a text, and the tables of all states.
 #![tactic(auto)]
 
+mod at_once;
 mod constructs;
 pub mod document;
 pub mod flow;

@@ -2,7 +2,7 @@
 use Rattle.md_registry.proofs.DocumentMeans.{IsFront, own_means}
 use Rattle.md_front_rooms.specs.DocumentRule.{document_behaves}
 use Rattle.std.proofs.Common.{◌≢◌}
-use Rattle.std.proofs.Common.{◌≡◌, inl, inr, ℕ, Bool, true, false, cond, nat_eq, List, [], ◌∷◌, ◌++◌, length, take}
+use Rattle.std.proofs.Common.{◌≡◌, inl, inr, ℕ, Bool, true, false, ◌||◌, cond, nat_eq, List, [], ◌∷◌, ◌++◌, length, take}
 use Rattle.md_registry.specs.FlowRule.{leaf_of}
 use Rattle.md_registry.specs.FlowRule.{all_on, inside_by, inside_of}
 use Rattle.md_registry.specs.Flow.{behind_all, inside_code, leaf_front}
@@ -40,7 +40,7 @@ use Rattle.md_seam.specs.Events.Nested.{enter, exit, pair}
 use Rattle.md_seam.specs.Look.{looks_behind, may_with}
 use Rattle.md_seam.specs.Spaces.{IsRest, ends_line, sees_white}
 use Rattle.md_seam.specs.Transition.{entered, exited, taken}
-use Rattle.md_seam.proofs.LookLemmas.{first-seen, refused-first}
+use Rattle.md_seam.proofs.LookLemmas.{first-seen, refused-first, seen-first}
 use Rattle.md_seam.proofs.WhiteMeaning.{begins-seen}
 use Rattle.md_registry.specs.Document.{document_own_transition}
 use Rattle.md_registry.specs.FlowRule.{ContainersInvariant, ContainersMean, DocumentMeans, FlowInvariant, FlowMeans}
@@ -50,7 +50,7 @@ use Rattle.md_registry.specs.Flow.{blank_line_after_transition, blank_line_code,
 use Rattle.md_registry.specs.Flow.{existing_after_transition, existing_before_code, flow_end_code}
 use Rattle.md_registry.specs.Flow.{flow_end_transition, flow_own_transition, leaf_after_transition}
 use Rattle.md_registry.specs.Flow.{new_after_transition}
-use Rattle.md_registry.specs.Flow.{new_before_transition, start_transition, trial_code}
+use Rattle.md_registry.specs.Flow.{new_before_transition, row_transition, start_by, start_code, trial_code}
 use Rattle.md_frame.specs.Rule.{Rule}
 use Rattle.md_registry.specs.FlowRule.{HasFlow, blank_ended, ended, ended_to, existing_at, existing_by}
 use Rattle.md_registry.specs.FlowRule.{leaves_of, line_ended, line_then, new_of, nonblank_of}
@@ -63,11 +63,15 @@ use Rattle.md_registry.specs.LineFlags.{went_on}
 use Rattle.md_frame.specs.LeafName.{LeafName}
 use Rattle.md_registry.specs.Registry.{behind, container_rules, front_of, leaf, may_go_on, may_open, next_of}
 use Rattle.md_registry.specs.Registry.{next_opener, opener_at, opener_front, openers, openers_behind, trials}
-use Rattle.md_registry.specs.Registry.{tried_at}
+use Rattle.md_registry.specs.Registry.{row, tried_at}
 use Rattle.md_registry.proofs.FlowLemmas.{line_by_container, new_by_container}
 use Rattle.md_registry.proofs.Openers as opening
 use Rattle.md_registry.proofs.Openers.{left-front}
-use Rattle.md_registry.proofs.Trials.{left-before, left-next}
+use Rattle.md_registry.proofs.Trials.{left-before, left-list, left-next}
+use Rattle.md_registry.proofs.Dispatch.{AreNext, row-left, row-next}
+use Rattle.md_registry.proofs.LinesAtOnce.{looks-dark}
+use Rattle.md_meaning.specs.Rest.{is_white}
+use Rattle.std.proofs.lemmas.Bool.{or_parts}
 use Rattle.md_registry.proofs.ConstructStates.{HasTrial, is-tried}
 use Rattle.md_registry.proofs.ConstructStates.{opener-before, tried-before}
 use Rattle.md_registry.proofs.Registry.{container-laws, laws, trial-asked}
@@ -269,12 +273,6 @@ inside_means B feed w options next (Some l) has s e =
 
 -- The leaf of a line.
 
-start_means : (B : Behaviour) (feed : Feed) (w : World) (options : ParseOptions) (next : Rule) →
-    HasFlow B options next →
-    Steps B feed (Next (n.Flow flow.Start)) w (start_transition w).to (start_transition w).world
-start_means B feed w options next has =
-    passes B feed _ _ w w refl refl (has.leaves flow.Start _ _ ∙ sym (has.leaves flow.BlankLineBefore _ _))
-
 blank_line_before_means : (B : Behaviour) (feed : Feed) (w : World) (options : ParseOptions) (next : Rule) (x : Bool) →
     HasFlow B options next → Sees feed w → ends_line w.current ≡ x →
     Steps B feed (Next (n.Flow flow.BlankLineBefore)) w
@@ -333,6 +331,46 @@ before_means l B feed w options next tried_is has s is asked =
           has.starts l _ _
           ∙ (laws l).refused options _ (here w) asked is ((laws l).looked options _ _ first.0 first.1 none);
     })
+
+-- where the rest of a line is what these leaves and content make of it, the first of them is tried
+row_means : (B : Behaviour) (feed : Feed) (w : World) (options : ParseOptions) (next : Rule) (ls : List LeafName) →
+    HasFlow B options next → AreNext ls →
+    B (n.Flow flow.Start) (feed w.point) (here w) ≡ leaves_of options next ls (feed w.point) (here w) →
+    Steps B feed (Next (n.Flow flow.Start)) w (row_transition ls w).to (row_transition ls w).world
+row_means B feed w options next [] has are e =
+    passes B feed _ _ w w refl refl (e ∙ sym (has.leaves flow.BeforeContent _ _))
+row_means B feed w options next (l ∷ ls) has are e =
+    let otherwise : Scratch → Flags → Outcome =
+    λ s g. leaves_of options next ls (feed w.point) (record (here w) { scratch = s; flags = g }) in
+    trial_means B feed w w.flags _ _ _ _ true (record {
+      onward = behind_leaf (leaf l).ends next;
+      otherwise = otherwise;
+      from_is = e ∙ ap (λ (o : Outcome). tried o (behind_leaf (leaf l).ends next) otherwise) (sym (has.starts l _ _));
+      ok_is = flow-ends B options next has (leaf l).ends;
+      nok_is = λ s g. has.leaves (front_of ls) _ _ ∙ left-list options next ls _ _ are.is;
+      looked = λ no. cc;
+    })
+
+-- by what stands here: a line is not blank where a byte does that is no whitespace and does not end it
+start_means : (B : Behaviour) (feed : Feed) (w : World) (options : ParseOptions) (next : Rule) (o : Option ℕ) →
+    HasFlow B options next → Sees feed w → IsRest w.scratch → w.current ≡ o →
+    Steps B feed (Next (n.Flow flow.Start)) w (start_code w o).to (start_code w o).world
+start_means B feed w options next None has s is e =
+    passes B feed _ _ w w refl refl (has.leaves flow.Start _ _ ∙ sym (has.leaves flow.BlankLineBefore _ _))
+start_means B feed w options next (Some b) has s is e = go (is_white b || nat_eq b 10) refl
+  where
+    go : (x : Bool) → (is_white b || nat_eq b 10) ≡ x →
+        Steps B feed (Next (n.Flow flow.Start)) w (start_by w b x).to (start_by w b x).world
+    go true k = passes B feed _ _ w w refl refl (has.leaves flow.Start _ _ ∙ sym (has.leaves flow.BlankLineBefore _ _))
+    go false k =
+        let dark = or_parts (is_white b) (nat_eq b 10) k in
+        let seen = seen-first feed w b s (looks-dark w b e dark.0) in
+        let otherwise : Scratch → Flags → Outcome =
+        λ s g. nonblank_of options next (feed w.point) (record (here w) { scratch = s; flags = g }) in
+        row_means B feed w options next (row b) has (row-next b)
+        (has.leaves flow.Start _ _
+        ∙ ap (λ (o : Outcome). tried o (blank_ended next) otherwise) (blank-refused _ (here w) b seen dark.1)
+        ∙ row-left options next b (feed w.point) (here w) seen (begins-seen feed w s ∙ ap sees_white e ∙ dark.0) is)
 
 before_content_means : (B : Behaviour) (feed : Feed) (w : World) (options : ParseOptions) (next : Rule) →
     HasFlow B options next →
@@ -470,7 +508,7 @@ leaf_means B feed next state l e w has s is =
 pub leaves_means : (B : Behaviour) (feed : Feed) (next : Rule) (state : FlowState) (w : World) →
     HasFlow B w.setting.options next → Sees feed w → FlowInvariant state w →
     Steps B feed (Next (n.Flow state)) w (flow_own_transition state w).to (flow_own_transition state w).world
-leaves_means B feed next flow.Start w has s at = start_means B feed w _ _ has
+leaves_means B feed next flow.Start w has s at = start_means B feed w _ _ _ has s at refl
 leaves_means B feed next flow.BlankLineBefore w has s at = blank_line_before_means B feed w _ _ _ has s refl
 leaves_means B feed next flow.BeforeCodeIndented w has s at =
     leaf_means B feed next flow.BeforeCodeIndented _ refl w has s at

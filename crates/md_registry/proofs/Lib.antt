@@ -26,3 +26,7 @@ pub mod FlowLemmas
 pub mod RegistryContainers
 pub mod DocumentMeans
 pub mod FlowSteps
+pub mod Dispatch
+pub mod Fence
+pub mod LeafRests
+pub mod OutsideRow

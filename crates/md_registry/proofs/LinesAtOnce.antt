@@ -5,10 +5,10 @@ use Rattle.md_registry.specs.Flow.{inside_code, inside_transition, leaf_front}
 use Rattle.md_registry.specs.Registry.{asked_first}
 use Rattle.std.specs.Option.{is_some}
 use Rattle.md_registry.specs.Flow.{leaf_end}
-use Rattle.std.proofs.Common.{◌<◌, ◌⊎◌, inl, length, refl, sym, ◌∙◌, ap, ap₂, subst}
+use Rattle.std.proofs.Common.{◌<◌, ◌⊎◌, inl, length, refl, sym, ◌∙◌, ap, subst}
 use Rattle.std.specs.List.{list_any}
 use Rattle.std.specs.Prelude.{slice_range}
-use Rattle.std.proofs.lemmas.Bool.{not-true, or_parts}
+use Rattle.std.proofs.lemmas.Bool.{and_parts, not-true, or_parts}
 use Rattle.md_meaning.specs.Rest.{is_white}
 use Rattle.md_engine.specs.declared.state.Name.{Name as StateName}
 use Rattle.md_engine.specs.declared.state.Name.TheVariants as n
@@ -25,7 +25,7 @@ use Rattle.md_engine.specs.Run.{Remains, RunsHere}
 use Rattle.md_engine.specs.World.{World, closed, container_of, looks}
 use Rattle.md_engine.proofs.Keeps.{runs-setting}
 use Rattle.md_engine.proofs.Loops.{CameHere, CameTo, call-sees, came-calls, came-first, came-runs}
-use Rattle.md_engine.proofs.Loops.{came-stays, reading-same}
+use Rattle.md_engine.proofs.Loops.{came-stays, not_error, reading-same}
 use Rattle.md_engine.proofs.Walks.{Within, then-stays}
 use Rattle.md_content.specs.Chunks.{chunk_inside_code}
 use Rattle.md_leaves.specs.Blank as blank
@@ -33,24 +33,37 @@ use Rattle.md_leaves.proofs.HeadingWords.{remains-of, sees-from}
 use Rattle.md_seam.specs.Look.{behind_code, first_behind, looks_behind, may_with}
 use Rattle.md_seam.specs.Spaces.{ends_line, sees_white}
 use Rattle.md_seam.specs.Transition.{Transition, entered, exited, taken}
-use Rattle.md_registry.specs.AtOnce.{all_asked, begins_at, left_to_try, opens_none, openers_passed}
+use Rattle.md_registry.specs.AtOnce.{all_asked, content_alone, is_common, opens_none, openers_passed}
 use Rattle.md_registry.specs.Document.{document_own_transition}
 use Rattle.md_registry.specs.Flow.{before_transition, blank_line_before_transition, blank_line_code}
 use Rattle.md_registry.specs.Flow.{flow_end_code, flow_end_transition}
 use Rattle.md_registry.specs.Flow.{flow_own_transition, leaf_transition, new_before_transition, opener_transition}
-use Rattle.md_registry.specs.Flow.{trial_code}
+use Rattle.md_registry.specs.Flow.{row_transition, start_by, start_code, start_transition, trial_code}
 use Rattle.md_frame.specs.EndingName.{ending_name}
 use Rattle.md_registry.specs.LineFlags.{asking, begun_line, blank_here, blanked, next_line}
 use Rattle.md_registry.specs.LineFlags.{nothing_stands, kept_containers}
-use Rattle.md_frame.specs.LeafName.{LeafName}
+use Rattle.md_frame.specs.LeafName.{GfmTable, LeafName}
 use Rattle.md_registry.specs.Registry.{container_rules, front_of, leaf, may_open, next_of}
 use Rattle.md_registry.specs.Registry.{next_opener, opener_at, opener_front, openers, opens_with}
-use Rattle.md_registry.specs.Registry.{trials, tried_at}
+use Rattle.md_registry.specs.Registry.{row, trials, tried_at}
 use Rattle.md_registry.specs.States.{FlowStep, flow_transition}
-use Rattle.md_registry.proofs.ConstructStates.{NextIs, NextOpener, container-states, leaf-next}
+use Rattle.md_registry.proofs.ConstructStates.{NextOpener, container-states}
+use Rattle.md_registry.proofs.Dispatch.{common-row}
+use Rattle.md_tables.specs.GfmTable.{begins_code as table_begins, may_begin as may_table, start_transition as table_start}
+use Rattle.std.proofs.Math.Bool.{or-true}
+use Rattle.std.proofs.Common.{◌≤◌, ◌&&◌, not, take, arith}
+use Rattle.std.specs.List.{All}
+use Rattle.std.proofs.lemmas.List.{take_all}
+use Rattle.md_engine.specs.Run.{Step, reading}
+use Rattle.md_engine.specs.Run.Runs.{ThenLeaves}
+use Rattle.md_engine.specs.declared.event.Event.{Event}
+use Rattle.md_engine.specs.declared.tokenizer.Frame.{Frame}
+use Rattle.md_engine.specs.declared.tokenizer.held_leaf.HeldLeaf.{HeldLeaf}
+use Rattle.md_engine.proofs.Walks.{then-run, within-one}
+use Rattle.md_seam.specs.Transition.{tried}
 
 -- a byte that is no whitespace stands first behind whitespace
-looks-dark : (w : World) (b : ℕ) → w.current ≡ Some b → is_white b ≡ false → looks_behind w ≡ Some b
+pub looks-dark : (w : World) (b : ℕ) → w.current ≡ Some b → is_white b ≡ false → looks_behind w ≡ Some b
 unfolding looks_behind
 looks-dark w b e dark =
     let found : Option ℕ = first_behind (slice_range w.setting.bytes w.point.index w.setting.limit) in
@@ -138,36 +151,6 @@ tried-calls x w some = go (tried_at x) refl some
     go None is e = cc
     go (Some l) is e = at-leaf x l w is ∙ sym (ap (λ (o : Option LeafName). leaf_transition o w) is)
 
--- those in front of the first that may begin with what stands here refuse
-leaves-refuse : (is_end : Bool) (s : State) (v : World) (b : ℕ)
-    (ls : List LeafName) (w : World) →
-    NextIs ls → sees_white w.current ≡ false → looks_behind w ≡ Some b → w.current ≡ looks w → Within w →
-    CameTo FlowStep is_end s v (n.Flow (front_of ls)) w →
-    CameTo FlowStep is_end s v (n.Flow (front_of (left_to_try w.flags.leaf b ls))) w
-leaves-refuse is_end s v b [] w next dark here seen within came = came
-leaves-refuse is_end s v b (l ∷ ls) w next dark here seen within came =
-    go ((leaf l).may_begin w.flags.leaf false b) refl
-    (leaves-refuse is_end s v b ls w (subst NextIs next.1 (leaf-next l next.0)) dark here seen within)
-  where
-    At : FlowState → Type 0
-    At x = CameTo FlowStep is_end s v (n.Flow x) w
-
-    go : (x : Bool) → (leaf l).may_begin w.flags.leaf false b ≡ x →
-        (At (front_of ls) → At (front_of (left_to_try w.flags.leaf b ls))) →
-        At (front_of (cond x (l ∷ ls) (left_to_try w.flags.leaf b ls)))
-    go true may others = came
-    go false may others =
-        let x : FlowState = (leaf l).before in
-        let is : flow_own_transition x w ≡ record { to = Retry (n.Flow (front_of ls)); world = w } =
-        at-leaf x l w next.0
-        ∙ ap (trial_code (leaf l).start (n.Flow (leaf_end (leaf l).ends)) (n.Flow (next_of l)) w)
-        (ap₂ (λ (white : Bool) (o : Option ℕ). may_with ((leaf l).may_begin w.flags.leaf white) o) dark here ∙ may)
-        ∙ ap (λ (ms : List LeafName). record { to = Retry (n.Flow (front_of ms)); world = w }) next.1 in
-        others
-        (then-stays FlowStep is_end s v (n.Flow x) (n.Flow (front_of ls)) w w came
-        (record { to_is = sym (ap (λ (y : Transition). y.to) is); new_is = sym (ap (λ (y : Transition). y.world) is) })
-        refl within refl seen)
-
 -- What one look tells.
 
 -- what stands here opens no container, and does not end the line
@@ -202,18 +185,35 @@ line-front is_end s v w seen within came =
     (leaf_front (is_some (asked_first (begun_line w.flags).leaf))) w (record w { flags = begun_line w.flags }) came
     (record { to_is = refl; new_is = refl }) refl within refl seen
 
--- and else the line may be blank,
+-- and else its rest begins,
 pub line-begun : (is_end : Bool) (s : State) (v w : World) →
     is_some (asked_first (begun_line w.flags).leaf) ≡ false → w.current ≡ looks w → Within w →
     CameTo FlowStep is_end s v (n.Document document.ContainersAfter) w →
-    CameTo FlowStep is_end s v (n.Flow flow.BlankLineBefore) (record w { flags = begun_line w.flags })
+    CameTo FlowStep is_end s v (n.Flow flow.Start) (record w { flags = begun_line w.flags })
 line-begun is_end s v w none seen within came =
-    let T = FlowStep in
     let u : World = record w { flags = begun_line w.flags } in
-    let begun = subst (λ (x : Bool). CameTo T is_end s v (leaf_front x) u) none
-    (line-front is_end s v w seen within came) in
-    then-stays T is_end s v (n.Flow flow.Start) (n.Flow flow.BlankLineBefore) u u begun
-    (record { to_is = refl; new_is = refl }) refl within refl seen
+    subst (λ (x : Bool). CameTo FlowStep is_end s v (leaf_front x) u) none (line-front is_end s v w seen within came)
+
+-- which may be blank where whitespace stands here, or nothing,
+pub line-blank : (is_end : Bool) (s : State) (v w : World) →
+    start_transition w ≡ record { to = Retry (n.Flow flow.BlankLineBefore); world = w } → w.current ≡ looks w →
+    Within w → CameTo FlowStep is_end s v (n.Flow flow.Start) w →
+    CameTo FlowStep is_end s v (n.Flow flow.BlankLineBefore) w
+line-blank is_end s v w is seen within came =
+    then-stays FlowStep is_end s v (n.Flow flow.Start) (n.Flow flow.BlankLineBefore) w w came
+    (record { to_is = sym (ap (λ (y : Transition). y.to) is); new_is = sym (ap (λ (y : Transition). y.world) is) }) refl
+    within refl seen
+
+-- as where the line ends
+pub starts-blank : (w : World) → ends_line w.current ≡ true →
+    start_transition w ≡ record { to = Retry (n.Flow flow.BlankLineBefore); world = w }
+starts-blank w e = go w.current e
+  where
+    go : (o : Option ℕ) → ends_line o ≡ true →
+        start_code w o ≡ record { to = Retry (n.Flow flow.BlankLineBefore); world = w }
+    go None e = refl
+    go (Some b) e =
+        ap (start_by w b) (ap (λ (x : Bool). is_white b || x) e ∙ or-true (is_white b))
 
 -- and it is, and ends, where nothing is left of it
 pub line-over : (is_end : Bool) (s : State) (v w : World) →
@@ -241,44 +241,88 @@ passes-front is_end s v w e seen within came =
     line-front is_end s v (all_asked openers w) seen within
     (openers-refuse is_end s v openers [] w refl is.refused seen within came)
 
--- to the leaf of the line,
+-- and to the rest of the line,
 pub passes-openers : (is_end : Bool) (s : State) (v w : World) →
     is_some (asked_first (openers_passed w).flags.leaf) ≡ false →
     opens_none w.current ≡ true → w.current ≡ looks w → Within w →
     CameTo FlowStep is_end s v (n.Document (opener_front openers)) w →
-    CameTo FlowStep is_end s v (n.Flow (front_of trials)) (openers_passed w)
-unfolding looks_behind
+    CameTo FlowStep is_end s v (n.Flow flow.Start) (openers_passed w)
 passes-openers is_end s v w none e seen within came =
-    let T = FlowStep in
-    let is = opens-none w e in
-    let u : World = openers_passed w in
-    let behind = openers-refuse is_end s v openers [] w refl is.refused seen within came in
-    let start = line-begun is_end s v (all_asked openers w) none seen within behind in
-    let no : blank_line_before_transition u ≡ record { to = Retry (n.Flow (front_of trials)); world = u } =
-    ap₂ (λ (x y : Bool). blank_line_code u x y) is.not_end is.not_blank in
-    then-stays T is_end s v (n.Flow flow.BlankLineBefore) (n.Flow (front_of trials)) u u start
-    (record { to_is = sym (ap (λ (y : Transition). y.to) no); new_is = sym (ap (λ (y : Transition). y.world) no) }) refl
-    within refl seen
+    subst (λ (x : Bool). CameTo FlowStep is_end s v (leaf_front x) (openers_passed w)) none
+    (passes-front is_end s v w e seen within came)
 
--- and to the first leaf that may begin, or to content
-pub passes-leaves : (is_end : Bool) (s : State) (v w : World) →
-    w.current ≡ looks w → Within w → CameTo FlowStep is_end s v (n.Flow (front_of trials)) w →
-    CameTo FlowStep is_end s v (n.Flow (begins_at w.flags.leaf w.current)) w
-passes-leaves is_end s v w seen within came = go w.current refl
+-- which is content where its row has the table alone, and a look refuses that.
+
+-- a state refuses, and the attempt around it is left
+then-fails : (T : Step) (is_end : Bool) (s : State) (v : World) (name next : StateName) (w u : World) (f : Frame)
+    (fs : List Frame) →
+    CameTo T is_end s v name w → T name w Nok u → u.setting ≡ w.setting → u.point ≡ w.point → Within w →
+    u.frames ≡ f ∷ fs → f.nok ≡ Next next → f.point ≡ w.point →
+    All (λ (g : Frame). g.events_len ≤ f.events_len) fs →
+    CameTo T is_end s v next (reading (record u { frames = fs; events = take f.events_len u.events; point = f.point }))
+then-fails T is_end s v name next w u f fs h step same there within e nok at below =
+    let fine : Nok ≢ Error = λ k. cc in
+    let back : World = record u { frames = fs; events = take f.events_len u.events; point = f.point } in
+    let from : back.point ≡ h.at.point = at ∙ sym (ap (λ (x : World). x.point) h.sees) in
+    let text : back.setting ≡ h.at.setting = same ∙ sym (ap (λ (x : World). x.setting) h.sees) in
+    record {
+      state = Next next;
+      at = back;
+      names = refl;
+      sees = refl;
+      may = rw (from, text) h.may;
+      runs =
+          ThenLeaves Nok u (Next next) back (then-run T is_end s v name w Nok u h step fine same within)
+          (record { outer = fs; frame = f; end = tt; frames = e; next = sym nok; new = refl; below = below });
+    }
+
+-- content follows at once
+pub content-follows : (is_end : Bool) (s : State) (v w : World) →
+    content_alone w.flags.leaf w.current ≡ true → w.current ≡ looks w → Within w →
+    CameTo FlowStep is_end s v (n.Flow flow.Start) w → CameTo FlowStep is_end s v (n.Flow flow.BeforeContent) w
+content-follows is_end s v w e seen within came = go w.current refl e
   where
-    At : FlowState → Type 0
-    At x = CameTo FlowStep is_end s v (n.Flow x) w
+    T : Step
+    T = FlowStep
 
-    white : (b : ℕ) → w.current ≡ Some b → (x : Bool) → is_white b ≡ x →
-        At (front_of (cond x trials (left_to_try w.flags.leaf b trials)))
-    white b here true is = came
-    white b here false is =
-        leaves-refuse is_end s v b trials w (refl, refl) (ap sees_white here ∙ is) (looks-dark w b here is) seen
-        within came
+    f : Frame
+    f = record {
+      ok = Next (n.Flow flow.After);
+      nok = Next (n.Flow flow.BeforeContent);
+      is_check = false;
+      events_len = length w.events;
+      point = w.point;
+    }
 
-    go : (o : Option ℕ) → w.current ≡ o → At (begins_at w.flags.leaf o)
-    go None here = came
-    go (Some b) here = white b here (is_white b) refl
+    begun : World
+    begun = tried w (Next (n.Flow flow.After)) (Next (n.Flow flow.BeforeContent))
+
+    go : (o : Option ℕ) → w.current ≡ o → content_alone w.flags.leaf o ≡ true →
+        CameTo T is_end s v (n.Flow flow.BeforeContent) w
+    go None here e = cc
+    go (Some b) here e =
+        let on : HeldLeaf = w.flags.leaf in
+        let may : Bool = (leaf GfmTable).may_begin on false b in
+        let parts = and_parts (not (is_white b || nat_eq b 10) && is_common b) (not may) e in
+        let more = and_parts (not (is_white b || nat_eq b 10)) (is_common b) parts.0 in
+        let plain : (is_white b || nat_eq b 10) ≡ false = not-true (is_white b || nat_eq b 10) more.0 in
+        let none : (leaf GfmTable).may_begin on false b ≡ false = not-true may parts.1 in
+        let dark = or_parts (is_white b) (nat_eq b 10) plain in
+        let is : start_transition w ≡ record { to = Retry (leaf GfmTable).start; world = begun } =
+        ap (start_code w) here ∙ ap (start_by w b) plain
+        ∙ ap (λ (ls : List LeafName). row_transition ls w) (common-row b more.1) in
+        let trial = then-stays T is_end s v (n.Flow flow.Start) (leaf GfmTable).start w begun came
+        (record { to_is = sym (ap (λ (y : Transition). y.to) is); new_is = sym (ap (λ (y : Transition). y.world) is) })
+        refl within refl seen in
+        let first : looks_behind begun ≡ Some b = looks-dark begun b here dark.0 in
+        let refuses : table_start begun ≡ record { to = Nok; world = begun } =
+        ap (table_begins begun) (ap (may_with (may_table on)) first ∙ none) in
+        let back = then-fails T is_end s v (leaf GfmTable).start (n.Flow flow.BeforeContent) begun begun f w.frames trial
+        (record { to_is = sym (ap (λ (y : Transition). y.to) refuses); new_is = sym (ap (λ (y : Transition). y.world) refuses) })
+        refl refl (within-one f w.frames (length w.events) (omega arith) within) refl refl refl within in
+        subst (λ (x : World). CameTo T is_end s v (n.Flow flow.BeforeContent) x)
+        (reading-same w seen) (subst (λ (es : List Event). CameTo T is_end s v (n.Flow flow.BeforeContent) (reading (record w { events = es })))
+        (take_all (length w.events) w.events (omega arith)) back)
 
 -- What a call leaves: where it kept_containers, it has gone nowhere, and the text is the same.
 abbrev pub Leaves : Transition → World → Type 0
@@ -307,6 +351,22 @@ blank-leaves w = go (ends_line w.current)
     go false =
         trial-leaves (n.BlankLine blank_line.Start) (n.Flow flow.BlankLineAfter) (n.Flow (front_of trials)) w w
         (may_with blank.may_begin (looks_behind w)) refl refl refl
+
+pub start-leaves : (w : World) → Leaves (start_transition w) w
+start-leaves w = at w.current
+  where
+    of-row : (ls : List LeafName) → Leaves (row_transition ls w) w
+    of-row [] = ((refl, refl), refl)
+    of-row (l ∷ ls) =
+        trial-leaves (leaf l).start (n.Flow (leaf_end (leaf l).ends)) (n.Flow (front_of ls)) w w true refl refl refl
+
+    by : (b : ℕ) (x : Bool) → Leaves (start_by w b x) w
+    by b true = ((refl, refl), refl)
+    by b false = of-row (row b)
+
+    at : (o : Option ℕ) → Leaves (start_code w o) w
+    at None = ((refl, refl), refl)
+    at (Some b) = by b (is_white b || nat_eq b 10)
 
 pub inside-leaves : (w : World) → Leaves (inside_transition w) w
 inside-leaves w = go (asked_first w.flags.leaf)
@@ -417,3 +477,15 @@ stays-runs first next old w s to new seen is before saw runs sees =
     (come true (Next first) old refl (reading-same old seen) (inl refl)) in
     runs-on first next old w to new
     (came-stays T first first next old old w (came-first T first old) come here same) runs sees here.0 here.1
+
+-- A run from a state to an answer, and what it leaves;
+abbrev pub Goes : StateName → World → State → World → Type 0
+Goes name w to new = RunsHere FlowStep name w to new × SeesOn to w new
+
+-- where it answers another state that stays, more may run from there.
+pub goes-through : (first next : StateName) (w u : World) (s to : State) (new : World) → w.current ≡ looks w →
+    s ≡ Retry next → (s ≢ Error → Goes first w s u) → (u.current ≡ looks u → Goes next u to new) → Goes first w to new
+goes-through first next w u s to new seen is come go =
+    let before = come (λ e. not_error (Retry next) next refl (sym is ∙ e)) in
+    let after = go (subst (λ (x : State). SeesOn x w u) is before.1).0 in
+    stays-runs first next w u s to new seen is before.0 before.1 after.0 after.1

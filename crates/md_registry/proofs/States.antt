@@ -1,5 +1,5 @@
 -- Each state of flow keeps what its table needs.
-use Rattle.std.proofs.Common.{◌≡◌, Option, Some, None, refl, ap, sym, subst}
+use Rattle.std.proofs.Common.{◌≡◌, List, [], ◌∷◌, Option, Some, None, refl, ap, sym, subst}
 use Rattle.md_registry.specs.Registry.{asked_first}
 use Rattle.md_engine.specs.declared.state.Name.{Name as StateName}
 use Rattle.md_engine.specs.declared.state.Name.TheVariants as n
@@ -22,10 +22,11 @@ use Rattle.md_registry.specs.Document.{document_own_transition}
 use Rattle.md_registry.specs.Flow.{before_transition, flow_own_transition, leaf_transition, new_before_transition}
 use Rattle.md_registry.specs.Flow.{opener_transition}
 use Rattle.md_frame.specs.LeafName.{LeafName}
-use Rattle.md_registry.specs.Registry.{front_of, opener_at, opener_front, openers, trials, tried_at}
+use Rattle.md_registry.specs.Registry.{front_of, opener_at, opener_front, openers, row, trials, tried_at}
 use Rattle.md_registry.specs.States.{flow_owner, flow_table_scheme, flow_transition, leaf_owner, opener_owner}
 use Rattle.md_registry.proofs.Termination as goods
 use Rattle.md_registry.proofs.Termination.{FlowFits}
+use Rattle.md_registry.proofs.Dispatch.{AreNext, row-next}
 use Rattle.md_registry.proofs.Openers.{opener-fits}
 use Rattle.md_registry.proofs.Trials.{inside_fits, leaf-fits}
 use Rattle.md_registry.proofs.ConstructStates.{blank_fits, construct-does, container-states, opener-before}
@@ -89,10 +90,21 @@ leaf_terminates state (Some l) e w at =
     let P : FlowState → Type 0 = λ x. Does flow_table_scheme (n.Flow x) w (before_transition l w) in
     subst P (tried-before state l e) (goods.before_ends flow_table_scheme l w flow_fits (leaf-fits l (is-tried state l e)) at)
 
+-- those of a row
+rows-fit : (ls : List LeafName) → AreNext ls → goods.AreFit flow_table_scheme ls
+rows-fit [] next = tt
+rows-fit (l ∷ ls) next = record {
+  first = inside_fits l;
+  next = next.fits;
+  falls = next.falls;
+  next_low = next.next_low;
+  behind_low = next.behind_low;
+}
+
 -- and those in front of none, or behind it
 leaves_do : (state : FlowState) (w : World) → stands flow_table_scheme w (Next (n.Flow state)) →
     Does flow_table_scheme (n.Flow state) w (flow_own_transition state w)
-leaves_do flow.Start w at = goods.start_ends flow_table_scheme w flow_fits at
+leaves_do flow.Start w at = goods.start_ends flow_table_scheme w w.current flow_fits (λ b. rows-fit (row b) (row-next b)) at
 leaves_do flow.BlankLineBefore w at =
     goods.blank_line_before_ends flow_table_scheme w _ flow_fits (fits flow_owner (n.BlankLine blank_line.Start)) at
 leaves_do flow.BeforeContent w at =

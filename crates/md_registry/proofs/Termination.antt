@@ -1,5 +1,6 @@
 -- Flow stands and ends in any table that has it.
-use Rattle.std.proofs.Common.{◌≡◌, ℕ, ◌<◌, Bool, true, false, nat_eq, Option, Some, None, length, refl, arith}
+use Rattle.std.proofs.Common.{◌≡◌, ℕ, ◌<◌, Bool, true, false, ◌||◌, nat_eq, List, [], ◌∷◌, Option, Some, None, length, refl}
+use Rattle.std.proofs.Common.{arith}
 use Rattle.md_engine.specs.declared.state.State.TheVariants.{Retry}
 use Rattle.md_registry.specs.LineFlags.{begun_line}
 use Rattle.md_registry.specs.Flow.{behind_all, inside_code, leaf_front}
@@ -31,12 +32,13 @@ use Rattle.md_registry.specs.Flow.{blank_line_after_transition, blank_line_code,
 use Rattle.md_registry.specs.Flow.{existing_after_transition, existing_before_code, flow_end_code, flow_rank}
 use Rattle.md_registry.specs.Flow.{flow_ready, flow_scheme, leaf_after_transition, new_after_transition}
 use Rattle.md_registry.specs.Flow.{new_before_transition}
-use Rattle.md_registry.specs.Flow.{start_transition, trial_code}
+use Rattle.md_registry.specs.Flow.{row_transition, start_by, start_code, trial_code}
 use Rattle.md_registry.specs.LineFlags as flags
 use Rattle.md_registry.specs.LineFlags.{asking}
 use Rattle.md_frame.specs.LeafName.{LeafName}
 use Rattle.md_registry.specs.Registry.{container_rules, front_of, goes_on_with, leaf, may_go_on, may_open}
-use Rattle.md_registry.specs.Registry.{next_of, next_opener, opener_front, openers, opens_with, trials}
+use Rattle.md_registry.specs.Registry.{next_of, next_opener, opener_front, openers, opens_with, row, trials}
+use Rattle.md_meaning.specs.Rest.{is_white}
 
 -- what a table has of a leaf on one line: the states in front of it and of the next are those of flow, and fall; its
 -- first state is of a lower level, and ready at rest
@@ -201,11 +203,6 @@ containers_after_ends T w has r = go (is_some (asked_first (begun_line w.flags).
 
 -- The leaf of a line.
 
-pub start_ends : (T : Scheme) (w : World) → FlowFits T → flow_ready (position w) (after_all T w.frames) →
-    Does T (n.Flow flow.Start) w (start_transition w)
-start_ends T w has r =
-    (turns T flow_scheme _ _ w w.events w.scratch has.start has.blank_line_before r (omega arith) (omega arith), refl)
-
 -- what flow goes on with, after a construct that ends at rest
 flow_tries : (ok nok : StateName) (w : World) (K : After) → flow_ready (position w) K →
     (flow_scheme.rank ok (position w)).number < (flow_scheme.tries nok).number →
@@ -230,6 +227,18 @@ pub record InsideFits (T : Scheme) (l : LeafName) : Type 1 where
   pub starts : Fits T own (leaf l).start
   pub level : own.level (leaf l).start < 3
   pub ready : (x : Position) (K : After) → rest_ready x K → own.ready (leaf l).start x K
+
+-- and of the leaves of a row: the first may begin, and the state in front of the next falls
+pub record RowFits (T : Scheme) (l : LeafName) (ls : List LeafName) : Type 1 where
+  pub first : InsideFits T l
+  pub next : Fits T flow_scheme (n.Flow (front_of ls))
+  pub falls : (flow_scheme.tries (n.Flow (front_of ls))).number < (flow_rank (n.Flow flow.Start)).number
+  pub next_low : (flow_rank (n.Flow (front_of ls))).number < (flow_scheme.tries (n.Flow (front_of ls))).number
+  pub behind_low : 1 < (flow_scheme.tries (n.Flow (front_of ls))).number
+
+abbrev pub AreFit : Scheme → List LeafName → Type 1
+AreFit T [] = Unit {1}
+AreFit T (l ∷ ls) = RowFits T l ls
 
 pub inside_ends : (T : Scheme) (w : World) (o : Option LeafName) → FlowFits T → ((l : LeafName) → InsideFits T l) →
     flow_ready (position w) (after_all T w.frames) →
@@ -288,6 +297,32 @@ before_ends T l w has inner r =
           (λ K e. inner.ready _ K (r.0.0, e)) inner.level (omega arith) inner.falls,
       refl,
     )
+
+-- by the row of the byte that stands here
+row_ends : (T : Scheme) (w : World) (ls : List LeafName) → FlowFits T → AreFit T ls →
+    flow_ready (position w) (after_all T w.frames) → Does T (n.Flow flow.Start) w (row_transition ls w)
+row_ends T w [] has fit r =
+    (turns T flow_scheme _ _ w w.events w.scratch has.start has.before_content r (omega arith) (omega arith), refl)
+row_ends T w (l ∷ ls) has fit r =
+    let inner : InsideFits T l = fit.first in (
+      begins_try T flow_scheme inner.own (n.Flow flow.Start) (leaf l).start w IsRest IsRest
+          w.events w.scratch _ has.start inner.starts (ends-fit T has (leaf l).ends) fit.next refl
+          (flow_tries (n.Flow (leaf_end (leaf l).ends)) (n.Flow (front_of ls)) w
+          (after_all T w.frames) r (ends-low (leaf l).ends fit.behind_low) fit.next_low (λ x. refl) (λ x. refl))
+          (λ K e. inner.ready _ K (r.0.0, e)) inner.level (omega arith) fit.falls,
+      refl,
+    )
+
+pub start_ends : (T : Scheme) (w : World) (o : Option ℕ) → FlowFits T → ((b : ℕ) → AreFit T (row b)) →
+    flow_ready (position w) (after_all T w.frames) → Does T (n.Flow flow.Start) w (start_code w o)
+start_ends T w None has rows r =
+    (turns T flow_scheme _ _ w w.events w.scratch has.start has.blank_line_before r (omega arith) (omega arith), refl)
+start_ends T w (Some b) has rows r = go (is_white b || nat_eq b 10)
+  where
+    go : (x : Bool) → Does T (n.Flow flow.Start) w (start_by w b x)
+    go true =
+        (turns T flow_scheme _ _ w w.events w.scratch has.start has.blank_line_before r (omega arith) (omega arith), refl)
+    go false = row_ends T w (row b) has (rows b) r
 
 pub before_content_ends : (T : Scheme) (w : World) → FlowFits T → Fits T chunk_scheme (n.Content content.ChunkStart) →
     flow_ready (position w) (after_all T w.frames) → Does T (n.Flow flow.BeforeContent) w (before_content_transition w)

@@ -58,15 +58,15 @@ pub left-before : (options : ParseOptions) (next : Rule) (l : LeafName) (cells :
     leaves_behave options next (leaf l).before cells h ≡ leaves_of options next (l ∷ behind l) cells h
 left-before options next l cells h is = left-tried options next (leaf l).before l cells h is
 
-left-front : (options : ParseOptions) (next : Rule) (ls : List LeafName) (cells : List Cell) (h : Here) → NextIs ls →
+pub left-list : (options : ParseOptions) (next : Rule) (ls : List LeafName) (cells : List Cell) (h : Here) → NextIs ls →
     leaves_behave options next (front_of ls) cells h ≡ leaves_of options next ls cells h
-left-front options next [] cells h is = refl
-left-front options next (m ∷ ms) cells h is =
+left-list options next [] cells h is = refl
+left-list options next (m ∷ ms) cells h is =
     left-before options next m cells h is.0 ∙ ap (λ (ks : List LeafName). leaves_of options next (m ∷ ks) cells h) is.1
 
 pub left-next : (options : ParseOptions) (next : Rule) (l : LeafName) (cells : List Cell) (h : Here) → HasTrial l →
     leaves_behave options next (next_of l) cells h ≡ leaves_of options next (behind l) cells h
-left-next options next l cells h is = left-front options next (behind l) cells h (leaf-next l is)
+left-next options next l cells h is = left-list options next (behind l) cells h (leaf-next l is)
 
 -- Its place in the table.
 

@@ -1,5 +1,5 @@
 -- Containers whose prefixes are taken at once, and lines where one look tells that none opens, or that no leaf begins.
-use Rattle.std.specs.Prelude.{◌≡◌, ℕ, Bool, false, if◌then◌else◌, not, ◌||◌, ◌==◌, List, [], ◌∷◌, Option, None, Some}
+use Rattle.std.specs.Prelude.{◌≡◌, ℕ, Bool, false, not, ◌&&◌, ◌||◌, ◌==◌, List, [], ◌∷◌, Option, None, Some}
 use Rattle.std.specs.List.{list_any}
 use Rattle.md_meaning.specs.Rest.{is_white}
 use Rattle.md_engine.specs.declared.tokenizer.container.name.ContainerKind.{ContainerKind}
@@ -7,9 +7,9 @@ use Rattle.md_engine.specs.declared.tokenizer.container.Container.{Container}
 use Rattle.md_engine.specs.declared.tokenizer.held_leaf.HeldLeaf.{HeldLeaf}
 use Rattle.md_engine.specs.World.{World, container_of}
 use Rattle.md_registry.specs.LineFlags.{asking, begun_line, next_container}
-use Rattle.md_frame.specs.LeafName.{LeafName}
-use Rattle.md_registry.specs.Registry.{container_rules, front_of, leaf, may_open, openers, trials}
-use Rattle.md_engine.specs.declared.state.flow.State.{State as FlowState}
+use Rattle.md_frame.specs.LeafName.{GfmTable}
+use Rattle.md_registry.specs.Registry.{container_rules, leaf, may_open, openers}
+use Rattle.md_meaning.specs.Ascii.{asterisk, backtick, dollar, equals_sign, hash, hyphen, less_than, tilde, underscore}
 
 -- the prefix of a container on a further line stands here, by its kind, and can be taken at once
 abbrev pub HasPrefix : Container → ContainerKind → World → Type 0
@@ -40,16 +40,18 @@ abbrev pub opens_none : Option ℕ → Bool
 opens_none None = false
 opens_none (Some b) = not (is_white b || b == 10 || list_any (λ k. may_open k b) openers)
 
--- of leaves that are tried one after another where a line meets this one, those from the first on that may begin with a
--- byte, where no whitespace stands in front of it
-abbrev pub left_to_try : HeldLeaf → ℕ → List LeafName → List LeafName
-left_to_try on b [] = []
-left_to_try on b (l ∷ ls) = if (leaf l).may_begin on false b then l ∷ ls else left_to_try on b ls
+-- whether the row of a byte has no leaf but the table
+abbrev pub is_common : ℕ → Bool
+is_common b =
+    not
+    (b == hash || b == dollar || b == backtick || b == tilde || b == asterisk || b == underscore || b == hyphen
+    || b == equals_sign || b == less_than)
 
--- the state in front of these, where what stands here is no whitespace, and else of all
-abbrev pub begins_at : HeldLeaf → Option ℕ → FlowState
-begins_at on None = front_of trials
-begins_at on (Some b) = front_of (if is_white b then trials else left_to_try on b trials)
+-- whether one look tells that the rest of a line is content, where the line meets this leaf: what stands here is no
+-- whitespace and does not end the line, and only a table may begin with it, which does not
+abbrev pub content_alone : HeldLeaf → Option ℕ → Bool
+content_alone on None = false
+content_alone on (Some b) = not (is_white b || b == 10) && is_common b && not ((leaf GfmTable).may_begin on false b)
 
 -- containers of these kinds were asked one after another whether they open
 abbrev pub all_asked : List ContainerKind → World → World

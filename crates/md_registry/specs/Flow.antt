@@ -1,5 +1,6 @@
 -- The lines of a text: which containers go on and open on each, and which block starts on the rest of it.
-use Rattle.std.specs.Prelude.{refl, ℕ, Bool, true, false, ◌+◌, ◌*◌, ◌==◌, if◌then◌else◌, length, Option, Some, None}
+use Rattle.std.specs.Prelude.{refl, ℕ, Bool, true, false, ◌+◌, ◌*◌, ◌==◌, ◌||◌, if◌then◌else◌, length, List, [], ◌∷◌}
+use Rattle.std.specs.Prelude.{Option, Some, None}
 use Rattle.md_engine.specs.declared.state.document.State.{State as DocumentState}
 use Rattle.std.specs.Option.{is_some}
 use Rattle.md_engine.specs.declared.state.Name.{Name as StateName}
@@ -15,6 +16,7 @@ use Rattle.md_engine.specs.declared.tokenizer.container.name.ContainerKind.{Cont
 use Rattle.md_engine.specs.Scheme.{After, Rank, Scheme, Position, ranked}
 use Rattle.md_engine.specs.World.{World, closed, container_of}
 use Rattle.md_leaves.specs.Blank as blank
+use Rattle.md_meaning.specs.Rest.{is_white}
 use Rattle.md_seam.specs.Look.{looks_behind, may_with}
 use Rattle.md_seam.specs.Spaces.{ends_line, rest_ready, sees_white}
 use Rattle.md_seam.specs.Transition.{Transition, entered, exited, taken, tried}
@@ -24,7 +26,7 @@ use Rattle.md_registry.specs.LineFlags.{blank_here, ended_on, nothing_stands, sh
 use Rattle.md_frame.specs.LeafName.{LeafName}
 use Rattle.md_registry.specs.Registry.{front_of, goes_on_with, asked_first, leaf, may_go_on, may_open, next_of}
 use Rattle.md_registry.specs.Registry.{next_opener, opener_at, opener_front, opener_rank, opener_tries, openers}
-use Rattle.md_registry.specs.Registry.{opens_with, rank_of, bars_containers, trials, tried_at, tries_of}
+use Rattle.md_registry.specs.Registry.{opens_with, rank_of, row, bars_containers, trials, tried_at, tries_of}
 
 -- What is tried.
 
@@ -35,9 +37,6 @@ trial_code start ok nok w true = record { to = Retry start; world = tried w (Nex
 trial_code start ok nok w false = record { to = Retry nok; world = w }
 
 -- The leaf of a line.
-
-abbrev pub start_transition : World → Transition
-start_transition w = record { to = Retry (s.Flow flow.BlankLineBefore); world = w }
 
 -- by whether the line ends here, and is blank, and by whether it may be blank
 abbrev pub blank_line_code : World → Bool → Bool → Transition
@@ -59,6 +58,24 @@ abbrev pub before_transition : LeafName → World → Transition
 before_transition l w =
     trial_code (leaf l).start (s.Flow (leaf_end (leaf l).ends)) (s.Flow (next_of l)) w
     (may_with ((leaf l).may_begin w.flags.leaf (sees_white w.current)) (looks_behind w))
+
+-- The first of these leaves is tried, and the next where it refuses the line; where none is left, content follows.
+abbrev pub row_transition : List LeafName → World → Transition
+row_transition [] w = record { to = Retry (s.Flow flow.BeforeContent); world = w }
+row_transition (l ∷ ls) w = trial_code (leaf l).start (s.Flow (leaf_end (leaf l).ends)) (s.Flow (front_of ls)) w true
+
+-- by whether this byte is whitespace or ends the line: all leaves may follow it, and else those of its row
+abbrev pub start_by : World → ℕ → Bool → Transition
+start_by w b true = record { to = Retry (s.Flow flow.BlankLineBefore); world = w }
+start_by w b false = row_transition (row b) w
+
+-- by what stands here
+abbrev pub start_code : World → Option ℕ → Transition
+start_code w None = record { to = Retry (s.Flow flow.BlankLineBefore); world = w }
+start_code w (Some b) = start_by w b (is_white b || b == 10)
+
+abbrev pub start_transition : World → Transition
+start_transition w = start_code w w.current
 
 abbrev pub before_content_transition : World → Transition
 before_content_transition w =

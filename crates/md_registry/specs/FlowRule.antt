@@ -236,7 +236,6 @@ GoesOn B next size =
 
 -- what a state of flow needs: one that tries a leaf is called at rest
 abbrev pub FlowInvariant : FlowState → World → Type 0
-FlowInvariant flow.Start w = Unit {0}
 FlowInvariant flow.BlankLineBefore w = Unit {0}
 FlowInvariant flow.BeforeContent w = Unit {0}
 FlowInvariant flow.BlankLineAfter w = Unit {0}

@@ -5,3 +5,4 @@ pub mod FlowRule
 pub mod LineFlags
 pub mod Registry
 pub mod States
+pub mod Dispatch

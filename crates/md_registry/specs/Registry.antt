@@ -30,6 +30,7 @@ use Rattle.md_leaves.specs.Heading.{heading_scheme, heading_transition}
 use Rattle.md_leaves.specs.HeadingRule.{heading_behaves}
 use Rattle.md_leaves.specs.HeadingSetext.{setext_scheme, setext_transition}
 use Rattle.md_leaves.specs.HeadingSetextRule.{setext_behaves}
+use Rattle.md_meaning.specs.Ascii.{asterisk, backtick, dollar, equals_sign, hash, hyphen, less_than, tilde, underscore}
 use Rattle.md_meaning.specs.State.{Container}
 use Rattle.md_code.specs.Code.{code_scheme, code_transition}
 use Rattle.md_code.specs.CodeRule.{code_behaves}
@@ -79,6 +80,18 @@ leaf GfmTable = table_leaf
 -- the order in which they are tried, behind blank lines and in front of content
 abbrev pub trials : List LeafName
 trials = CodeIndented ∷ Fence ∷ HtmlFlow ∷ HeadingAtx ∷ HeadingSetext ∷ ThematicBreak ∷ GfmTable ∷ []
+
+-- The row of a byte that is neither whitespace nor an ending: the leaves that are tried, in order, where it comes first on
+-- the rest of a line, and behind them content. Where whitespace comes first all of them are tried.
+unfoldable pub row : ℕ → List LeafName
+row b =
+    if b == hash then HeadingAtx ∷ GfmTable ∷ []
+    else if b == dollar || b == backtick || b == tilde then Fence ∷ GfmTable ∷ []
+    else if b == asterisk || b == underscore then ThematicBreak ∷ GfmTable ∷ []
+    else if b == hyphen then HeadingSetext ∷ ThematicBreak ∷ GfmTable ∷ []
+    else if b == equals_sign then HeadingSetext ∷ GfmTable ∷ []
+    else if b == less_than then HtmlFlow ∷ GfmTable ∷ []
+    else GfmTable ∷ []
 
 -- The leaf that is asked, in front of blank lines and all others, whether a line goes on the one that it meets.
 unfoldable pub asked_first : HeldLeaf → Option LeafName

@@ -6,7 +6,7 @@
 //
 // What flow itself is made of (blank lines, content, whitespace) is in its own table.
 
-ghost use Rattle.std.specs.Prelude.{◌≡◌, [], IfOk, None, OnOk, false, true};
+ghost use Rattle.std.specs.Prelude.{◌≡◌, [], IfOk, None, OnOk, Some, false, true};
 ghost use Rattle.md_containers.specs.PlainBullet.{IsPlainBullet, bulleted};
 ghost use Rattle.md_engine.specs.declared.tokenizer.container.name.ContainerKind.{ContainerKind};
 ghost use Rattle.std.specs.Option.{is_some, option_map};
@@ -19,11 +19,12 @@ ghost use Rattle.md_registry.specs.LineFlags.{asking};
 ghost use Rattle.md_frame.specs.Resolving.{heads_read, joins_lines, stays_alone};
 ghost use Rattle.md_registry.specs.Registry.{bars_containers};
 ghost use Rattle.md_registry.specs.Registry.{goes_on_with, asked_first, leaf};
-ghost use Rattle.md_registry.specs.AtOnce.{HasPrefix, all_asked, begins_at, opens_none, prefix_taken};
+ghost use Rattle.md_registry.specs.AtOnce.{HasPrefix, all_asked, content_alone, is_common, opens_none, prefix_taken};
+ghost use Rattle.md_registry.specs.Flow.{leaf_end, row_transition, trial_code};
 ghost use Rattle.md_registry.specs.Registry.{may_go_on, may_open, next_opener, opener_front, openers};
 ghost use Rattle.md_frame.specs.LeafName.{LeafName};
 ghost use Rattle.md_frame.specs.Resolving.{resolved_by};
-ghost use Rattle.md_registry.specs.Registry.{front_of, opens_with, trials};
+ghost use Rattle.md_registry.specs.Registry.{front_of, next_of, opens_with, row, trials, tried_at};
 ghost use Rattle.md_meaning.specs.Rest.{is_white};
 ghost use Rattle.md_literal_rooms.specs.Leaf.CodeIndented.{is_code};
 ghost use Rattle.md_seam.specs.Look.{looks_behind, may_with};
@@ -42,9 +43,13 @@ use md_engine::state::code_indented::State as CodeState;
 use md_engine::state::document::State as DocumentState;
 use md_engine::state::flow::State as FlowState;
 use md_engine::state::gfm_footnote_definition::State as FootnoteState;
+use md_engine::state::gfm_table::State as TableState;
+use md_engine::state::heading_atx::State as HeadingState;
+use md_engine::state::heading_setext::State as SetextState;
 use md_engine::state::html_flow::State as HtmlState;
 use md_engine::state::list_item::State as ItemState;
 use md_engine::state::raw_flow::State as RawState;
+use md_engine::state::thematic_break::State as BreakState;
 use md_engine::subtokenize::Subresult;
 use md_engine::tokenizer::{Container, ContainerKind, HeldLeaf, Tokenizer};
 use md_html::html_flow;
@@ -98,32 +103,105 @@ pub fn opens_none(current: Option<u8>) -> bool
     }
 }
 
-/// The state in front of the first leaf that may begin where a line meets this leaf and this stands, which is no
-/// whitespace, and in front of content where none may; where whitespace stands, or nothing, all are tried.
+/// The first leaf of the row of a byte: its first state, the state of flow behind its line, and the one in front of the
+/// next leaf of the row.
+#[derive(Clone, Copy)]
+pub struct FirstLeaf {
+    pub start: StateName,
+    pub end: FlowState,
+    pub next: FlowState,
+}
+
+/// The row of a byte that is neither whitespace nor an ending, which comes first on the rest of a line.
+///
+/// | First byte          | Leaves, in order                                       |
+/// |---------------------|--------------------------------------------------------|
+/// | `#`                 | `heading_atx`, `gfm_table`, content                    |
+/// | `$`, backtick, `~`  | `raw_flow`, `gfm_table`, content                       |
+/// | `*`, `_`            | `thematic_break`, `gfm_table`, content                 |
+/// | `-`                 | `heading_setext`, `thematic_break`, `gfm_table`, content |
+/// | `=`                 | `heading_setext`, `gfm_table`, content                 |
+/// | `<`                 | `html_flow`, `gfm_table`, content                      |
+/// | any other           | `gfm_table`, content                                   |
 #[inline(always)]
-pub fn begins_at(leaf: HeldLeaf, current: Option<u8>) -> FlowState
-    ensures { result ≡ begins_at leaf current }
+#[tactic(auto, unfolding(crate::specs::Registry::row))]
+pub fn row(byte: u8) -> FirstLeaf
+    ensures { (w : World) →
+        row_transition (row byte) w ≡
+        trial_code result.start (StateName.Flow result.end) (StateName.Flow result.next) w true }
+{
+    if byte == b'#' {
+        FirstLeaf {
+            start: StateName::HeadingAtx(HeadingState::Start),
+            end: FlowState::LeafAfter,
+            next: FlowState::BeforeGfmTable,
+        }
+    } else if byte == b'$' || byte == b'`' || byte == b'~' {
+        FirstLeaf {
+            start: StateName::RawFlow(RawState::Start),
+            end: FlowState::After,
+            next: FlowState::BeforeGfmTable,
+        }
+    } else if byte == b'*' || byte == b'_' {
+        FirstLeaf {
+            start: StateName::ThematicBreak(BreakState::Start),
+            end: FlowState::LeafAfter,
+            next: FlowState::BeforeGfmTable,
+        }
+    } else if byte == b'-' {
+        FirstLeaf {
+            start: StateName::HeadingSetext(SetextState::Start),
+            end: FlowState::After,
+            next: FlowState::BeforeThematicBreak,
+        }
+    } else if byte == b'=' {
+        FirstLeaf {
+            start: StateName::HeadingSetext(SetextState::Start),
+            end: FlowState::After,
+            next: FlowState::BeforeGfmTable,
+        }
+    } else if byte == b'<' {
+        FirstLeaf {
+            start: StateName::HtmlFlow(HtmlState::Start),
+            end: FlowState::After,
+            next: FlowState::BeforeGfmTable,
+        }
+    } else {
+        FirstLeaf {
+            start: StateName::GfmTable(TableState::Start),
+            end: FlowState::After,
+            next: FlowState::BeforeContent,
+        }
+    }
+}
+
+/// Whether the row of a byte has no leaf but the table.
+#[inline(always)]
+fn is_common(byte: u8) -> bool
+    ensures { result ≡ is_common byte }
+{
+    !(byte == b'#'
+        || byte == b'$'
+        || byte == b'`'
+        || byte == b'~'
+        || byte == b'*'
+        || byte == b'_'
+        || byte == b'-'
+        || byte == b'='
+        || byte == b'<')
+}
+
+/// Whether one look tells that the rest of a line is content, where the line meets this leaf.
+#[inline(always)]
+pub fn content_alone(leaf: HeldLeaf, current: Option<u8>) -> bool
+    ensures { result ≡ content_alone leaf current }
 {
     match current {
-        None => first_trial(),
+        None => false,
         Some(byte) => {
-            if is_white(byte) {
-                first_trial()
-            } else if raw_flow::may_begin(current) {
-                FlowState::BeforeRaw
-            } else if html_flow::may_begin(current) {
-                FlowState::BeforeHtml
-            } else if heading_atx::may_begin(current) {
-                FlowState::BeforeHeadingAtx
-            } else if heading_setext::may_begin(current) {
-                FlowState::BeforeHeadingSetext
-            } else if thematic_break::may_begin(current) {
-                FlowState::BeforeThematicBreak
-            } else if gfm_table::may_begin(leaf, current) {
-                FlowState::BeforeGfmTable
-            } else {
-                FlowState::BeforeContent
-            }
+            !(is_white(byte) || byte == b'\n')
+                && is_common(byte)
+                && !gfm_table::may_begin(leaf, current)
         }
     }
 }
@@ -136,14 +214,72 @@ pub fn first_trial() -> FlowState
     FlowState::BeforeCodeIndented
 }
 
-/// Whether this is that state.
+/// The first state of the leaf that is tried at a state of flow, if one is.
 #[inline(always)]
-pub fn is_first_trial(state: FlowState) -> bool
-    ensures { result ≡ true → state ≡ front_of trials }
+pub fn leaf_start(state: FlowState) -> Option<StateName>
+    ensures { result ≡ option_map (λ l. (leaf l).start) (tried_at state) }
 {
     match state {
-        FlowState::BeforeCodeIndented => true,
-        _ => false,
+        FlowState::BeforeCodeIndented => Some(StateName::CodeIndented(CodeState::Start)),
+        FlowState::BeforeRaw => Some(StateName::RawFlow(RawState::Start)),
+        FlowState::BeforeHtml => Some(StateName::HtmlFlow(HtmlState::Start)),
+        FlowState::BeforeHeadingAtx => Some(StateName::HeadingAtx(HeadingState::Start)),
+        FlowState::BeforeHeadingSetext => Some(StateName::HeadingSetext(SetextState::Start)),
+        FlowState::BeforeThematicBreak => Some(StateName::ThematicBreak(BreakState::Start)),
+        FlowState::BeforeGfmTable => Some(StateName::GfmTable(TableState::Start)),
+        _ => None,
+    }
+}
+
+/// The state of flow behind the line of that leaf.
+#[inline(always)]
+pub fn leaf_end(state: FlowState) -> FlowState
+    ensures { (l : LeafName) → tried_at state ≡ Some l → result ≡ leaf_end (leaf l).ends }
+{
+    match state {
+        FlowState::BeforeHeadingAtx | FlowState::BeforeThematicBreak => FlowState::LeafAfter,
+        _ => FlowState::After,
+    }
+}
+
+/// The state in front of the next leaf, which is tried where that one refuses the line.
+#[inline(always)]
+pub fn next_leaf(state: FlowState) -> FlowState
+    ensures { (l : LeafName) → tried_at state ≡ Some l → result ≡ next_of l }
+{
+    match state {
+        FlowState::BeforeCodeIndented => FlowState::BeforeRaw,
+        FlowState::BeforeRaw => FlowState::BeforeHtml,
+        FlowState::BeforeHtml => FlowState::BeforeHeadingAtx,
+        FlowState::BeforeHeadingAtx => FlowState::BeforeHeadingSetext,
+        FlowState::BeforeHeadingSetext => FlowState::BeforeThematicBreak,
+        FlowState::BeforeThematicBreak => FlowState::BeforeGfmTable,
+        _ => FlowState::BeforeContent,
+    }
+}
+
+/// Whether that leaf may begin here, by what stands first behind whitespace, and by whether such stands in front.
+#[inline(always)]
+pub fn leaf_may_begin(tokenizer: &mut Tokenizer, state: FlowState) -> bool
+    ensures may { (l : LeafName) → tried_at state ≡ Some l →
+        result ≡
+        may_with
+        ((leaf l).may_begin (world tokenizer.old).flags.leaf (sees_white (world tokenizer.old).current))
+        (looks_behind (world tokenizer.old)) }
+    ensures same { world tokenizer.new ≡ world tokenizer.old }
+{
+    match state {
+        FlowState::BeforeCodeIndented => may_be_indented(tokenizer),
+        FlowState::BeforeRaw => raw_flow::may_begin(look_behind(tokenizer)),
+        FlowState::BeforeHtml => html_flow::may_begin(look_behind(tokenizer)),
+        FlowState::BeforeHeadingAtx => heading_atx::may_begin(look_behind(tokenizer)),
+        FlowState::BeforeHeadingSetext => heading_setext::may_begin(look_behind(tokenizer)),
+        FlowState::BeforeThematicBreak => thematic_break::may_begin(look_behind(tokenizer)),
+        FlowState::BeforeGfmTable => {
+            let leaf = tokenizer.flags.leaf;
+            gfm_table::may_begin(leaf, look_behind(tokenizer))
+        }
+        _ => true,
     }
 }
 

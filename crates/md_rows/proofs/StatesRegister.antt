@@ -9,7 +9,9 @@ use Rattle.md_engine.specs.declared.state.space_or_tab.State.{State as WhiteStat
 use Rattle.md_engine.specs.declared.state.space_or_tab.State.TheVariants as white
 use Rattle.md_engine.specs.declared.state.flow.State.{State as FlowState}
 use Rattle.md_engine.specs.declared.state.flow.State.TheVariants as its
-use Rattle.std.proofs.Common.{◌≡◌, ℕ, ◌&&◌, Bool, true, false, nat_eq, nat_lt, nat_le, Option, Some, None, length, refl}
+use Rattle.std.proofs.Common.{◌≡◌, ℕ, ◌&&◌, ◌||◌, Bool, true, false, nat_eq, nat_lt, nat_le, List, [], ◌∷◌, Option, Some, None}
+use Rattle.std.proofs.Common.{length, refl}
+use Rattle.md_meaning.specs.Rest.{is_white}
 use Rattle.md_registry.specs.Registry.{asked_first}
 use Rattle.md_engine.specs.declared.event.Name.TheVariants as n
 use Rattle.md_engine.specs.declared.state.Name.{Name as StateName}
@@ -28,7 +30,7 @@ use Rattle.md_registry.specs.Flow as flow
 use Rattle.md_frame.specs.EndingName.{ending_name}
 use Rattle.md_registry.specs.LineFlags.{asking, next_container, kept_containers}
 use Rattle.md_frame.specs.LeafName.{LeafName}
-use Rattle.md_registry.specs.Registry.{leaf, may_go_on, may_open, opener_at, tried_at}
+use Rattle.md_registry.specs.Registry.{leaf, may_go_on, may_open, opener_at, row, tried_at}
 use Rattle.md_registry.specs.States.{flow_transition}
 use Rattle.md_frame.proofs.Registers.{Registers, adds, adds-content, closed-registers}
 use Rattle.md_registry.proofs.ConstructStates.{construct-registers}
@@ -125,8 +127,21 @@ leaf-registers : (o : Option LeafName) (w : World) → Registers w → Registers
 leaf-registers None w h = h
 leaf-registers (Some l) w h = trial _ _ _ w (may_with ((leaf l).may_begin w.flags.leaf (sees_white w.current)) (looks_behind w)) h
 
+-- by the row of the byte that stands here
+row-registers : (ls : List LeafName) (w : World) → Registers w → Registers (flow.row_transition ls w).world
+row-registers [] w h = h
+row-registers (l ∷ ls) w h = h
+
+start-by : (w : World) (b : ℕ) (x : Bool) → Registers w → Registers (flow.start_by w b x).world
+start-by w b true h = h
+start-by w b false h = row-registers (row b) w h
+
+start-registers : (w : World) (o : Option ℕ) → Registers w → Registers (flow.start_code w o).world
+start-registers w None h = h
+start-registers w (Some b) h = start-by w b (is_white b || nat_eq b 10) h
+
 leaves-register : (state : FlowState) (w : World) → Registers w → Registers (flow.flow_own_transition state w).world
-leaves-register its.Start w h = h
+leaves-register its.Start w h = start-registers w w.current h
 leaves-register its.BlankLineBefore w h =
     blank-before w (ends_line w.current) (may_with blank.may_begin (looks_behind w)) h
 leaves-register its.BeforeContent w h = h

@@ -18,7 +18,8 @@ use Rattle.md_tables.specs.Delimiter.{IsOfDelimiter}
 use Rattle.md_tables.specs.Delimiter.IsOfDelimiter.{Before, CellAfter, CellBefore, Filler, LeftAfter, Refused, RightAfter}
 use Rattle.md_tables.specs.Delimiter.IsOfDelimiter.{Start, ValueBefore}
 use Rattle.md_tables.specs.DelimiterRule.{HasDelimiter, delimiter_behaves}
-use Rattle.md_tables.specs.GfmTable.{TableInvariant, head_code, may_head, start_code, table_scheme, table_transition}
+use Rattle.md_tables.specs.GfmTable.{TableInvariant, begins_code, head_code, may_begin, may_head, start_code}
+use Rattle.md_tables.specs.GfmTable.{table_scheme, table_transition}
 use Rattle.md_tables.specs.GfmTableRule.{HasTable, TableMeans, head_at, table_at, table_behaves, table_by}
 use Rattle.md_tables.specs.Row.{name_at}
 use Rattle.md_tables.specs.RowRule.{HasRow, row_behaves}
@@ -26,7 +27,12 @@ use Rattle.md_tables.specs.declared.row.Place.{Place}
 use Rattle.md_tables.specs.declared.row.Place.TheVariants as place
 use Rattle.md_tables.specs.declared.row.Row.{Row}
 use Rattle.md_tables.specs.declared.row.Row.TheVariants.{Head, Body}
+use Rattle.md_seam.specs.Look.{looks_behind, may_with}
+use Rattle.md_seam.specs.Spaces.{IsRest}
+use Rattle.md_seam.proofs.LookLemmas.{refused-first}
 use Rattle.md_tables.proofs.DelimiterMeaning.{delimiter_steps}
+use Rattle.md_tables.proofs.GfmTableLook.{table-looked}
+use Rattle.md_tables.proofs.GfmTableWhole.{table-refused}
 use Rattle.md_tables.proofs.RowMeaning.{row_means}
 
 -- a behaviour that has tables has their rows
@@ -84,16 +90,24 @@ start_means B feed w held_leaf.Table has e =
     passes B feed _ _ w w refl refl (e ∙ sym (has.each its.BodyRowStart _ _))
 start_means B feed w _ has e = passes B feed _ _ w w refl refl e
 
-begins_means : (B : Behaviour) (feed : Feed) (w : World) → HasTable B w.setting.options →
-    Steps B feed (Next (n.GfmTable its.Start)) w (start_code w w.flags.leaf).to (start_code w w.flags.leaf).world
+-- where none may begin by what stands first behind the indent, the rule refuses
+begins_means : (B : Behaviour) (feed : Feed) (w : World) (x : Bool) → HasTable B w.setting.options → Sees feed w →
+    IsRest w.scratch → may_with (may_begin w.flags.leaf) (looks_behind w) ≡ x →
+    Steps B feed (Next (n.GfmTable its.Start)) w (begins_code w x).to (begins_code w x).world
 unfolding table_at
-begins_means B feed w has = start_means B feed w w.flags.leaf has (has.each its.Start _ _)
+begins_means B feed w true has s is e = start_means B feed w w.flags.leaf has (has.each its.Start _ _)
+begins_means B feed w false has s is e =
+    let first = refused-first (may_begin w.flags.leaf) feed w s e in
+    passes B feed _ _ w w refl refl
+    (has.each its.Start _ _
+    ∙ table-refused w.setting.options (feed w.point) (here w) is
+    (table-looked w.setting.options w.flags.leaf (feed w.point) first.0 first.1 first.2))
 
 -- each state of a table takes one step of what it means
 table_steps : (B : Behaviour) (feed : Feed) (state : TableState) (w : World) → HasTable B w.setting.options →
     Sees feed w → TableInvariant (n.GfmTable state) (position w) →
     Steps B feed (Next (n.GfmTable state)) w (table_transition state w).to (table_transition state w).world
-table_steps B feed its.Start w has s at = begins_means B feed w has
+table_steps B feed its.Start w has s at = begins_means B feed w _ has s at refl
 table_steps B feed its.HeadRowBefore w has s at = row_means B feed Head place.Start w (has-row B _ Head has) s at
 table_steps B feed its.HeadRowStart w has s at =
     passes B feed _ _ w w refl refl (has.each its.HeadRowStart _ _ ∙ sym (has.each its.HeadRowBreak _ _))

@@ -18,7 +18,8 @@ use Rattle.md_seam.proofs.SpacesTermination.{Does, WhiteFits, rest-size}
 use Rattle.md_tables.specs.Delimiter.{IsOfDelimiter, delimiter_scheme, uncounted}
 use Rattle.md_tables.specs.Delimiter.IsOfDelimiter.{Before, CellAfter, CellBefore, Filler, LeftAfter, Refused, RightAfter}
 use Rattle.md_tables.specs.Delimiter.IsOfDelimiter.{Start, ValueBefore}
-use Rattle.md_tables.specs.GfmTable.{asking_columns, head_code, head_row_start_transition, may_head, start_code}
+use Rattle.md_tables.specs.GfmTable.{asking_columns, begins_code, head_code, head_row_start_transition, may_head}
+use Rattle.md_tables.specs.GfmTable.{start_code}
 use Rattle.md_tables.specs.GfmTable.{table_owner, table_scheme, table_transition}
 use Rattle.md_tables.specs.Row.{is_text, name_at, piece, row_scheme}
 use Rattle.md_tables.specs.declared.row.Place.{Place}
@@ -100,6 +101,11 @@ start_ends T w held_leaf.Table has r = (
 )
 start_ends T w _ has r = refused_ends T w r
 
+begins_ends : (T : Scheme) (w : World) (x : Bool) → TableFits T → rest_ready (position w) (after_all T w.frames) →
+    Does T (n.GfmTable its.Start) w (begins_code w x)
+begins_ends T w true has r = start_ends T w w.flags.leaf has r
+begins_ends T w false has r = refused_ends T w r
+
 -- behind the indent of a head
 row_start_ends : (T : Scheme) (w : World) → TableFits T → rest_ready (position w) (after_all T w.frames) →
     Does T (n.GfmTable its.HeadRowStart) w (head_row_start_transition w)
@@ -114,7 +120,7 @@ row_start_ends T w has r = (
 pub table_terminates : (T : Scheme) (state : TableState) (w : World) → TableFits T → w.current ≡ looks w →
     table_scheme.ready (n.GfmTable state) (position w) (after_all T w.frames) →
     Does T (n.GfmTable state) w (table_transition state w)
-table_terminates T its.Start w has c r = start_ends T w w.flags.leaf has r
+table_terminates T its.Start w has c r = begins_ends T w _ has r
 table_terminates T its.HeadRowBefore w has c r = row_terminates T Head place.Start w (row-fits T Head has) c r
 table_terminates T its.HeadRowStart w has c r = row_start_ends T w has r
 table_terminates T its.HeadRowBreak w has c r = row_terminates T Head place.Break w (row-fits T Head has) c r

@@ -8,6 +8,7 @@ pub mod DelimiterMeaning
 pub mod GfmTableTermination
 pub mod GfmTableMeaning
 pub mod GfmTableWhole
+pub mod GfmTableLook
 pub mod DelimiterBytes
 pub mod DelimiterSpread
 pub mod RowSpread

@@ -19,6 +19,7 @@ use Rattle.md_engine.specs.Scheme.{Position, Scheme, nowhere, of_owners, ranked}
 use Rattle.md_engine.specs.World.{World}
 use Rattle.md_meaning.specs.Ascii.{colon, hyphen, pipe}
 use Rattle.md_meaning.specs.Rest.{is_small}
+use Rattle.md_seam.specs.Look.{looks_behind, may_with}
 use Rattle.md_seam.specs.Spaces.{IsRest, rest_ready}
 use Rattle.md_seam.specs.Transition.{Transition}
 use Rattle.md_tables.specs.Delimiter.{DelimiterNeeds, IsCounting, delimiter_scheme, delimiter_transition}
@@ -54,8 +55,13 @@ start_code w (held_leaf.Text text) = head_code w text (may_head w.setting.option
 start_code w held_leaf.Table = record { to = Retry (n.GfmTable its.BodyRowStart); world = w }
 start_code w _ = record { to = Nok; world = w }
 
+-- by whether a line of a table may begin here: elsewhere none is looked for
+abbrev pub begins_code : World → Bool → Transition
+begins_code w true = start_code w w.flags.leaf
+begins_code w false = record { to = Nok; world = w }
+
 abbrev pub start_transition : World → Transition
-start_transition w = start_code w w.flags.leaf
+start_transition w = begins_code w (may_with (may_begin w.flags.leaf) (looks_behind w))
 
 -- behind the indent of a head its first part begins
 abbrev pub head_row_start_transition : World → Transition

@@ -36,6 +36,7 @@ use md_engine::state::{Name as StateName, State};
 use md_engine::stay::Stay;
 use md_engine::tokenizer::{HeldLeaf, OpenText, Tokenizer};
 use md_grammars::columns::is_small;
+use md_seam::space_or_tab::look_behind;
 
 /// Whether the last line of this text may be the head of a table.
 fn may_head(options: &ParseOptions, text: OpenText) -> bool
@@ -59,7 +60,7 @@ pub fn may_begin(leaf: HeldLeaf, first: Option<u8>) -> bool
     }
 }
 
-/// Before a line of a table, behind its head.
+/// Before a line of a table, behind its head: one look refuses what begins none.
 ///
 /// ```markdown
 ///   | | a |
@@ -75,6 +76,10 @@ pub fn start(tokenizer: &mut Tokenizer) -> State
     ensures world { world tokenizer.new ≡ (start_transition (world tokenizer.old)).world }
     ensures rule { TableMeans TableState.Start (world tokenizer.old) result (world tokenizer.new) }
 {
+    let first = look_behind(tokenizer);
+    if !may_begin(tokenizer.flags.leaf, first) {
+        return State::Nok;
+    }
     match tokenizer.flags.leaf {
         HeldLeaf::Text(text) => {
             if may_head(tokenizer.options, text) {

@@ -648,6 +648,146 @@ table 2
     cell | b
   delimiter | --|--
 
+GFM 4.10: a row where the first leaf of its byte refuses the line | gfm | gfm_table
+"a\n:-\n#b"
+table 1
+  row
+    cell | a
+  delimiter | :-
+  row
+    cell | #b
+
+GFM 4.10: a row where the first leaf of its byte refuses the line | gfm | gfm_table
+"a\n:-\n$$b$"
+table 1
+  row
+    cell | a
+  delimiter | :-
+  row
+    cell | $$b$
+
+GFM 4.10: a row where the first leaf of its byte refuses the line | gfm | gfm_table
+"a\n:-\n```b`"
+table 1
+  row
+    cell | a
+  delimiter | :-
+  row
+    cell | ```b`
+
+GFM 4.10: a row where the first leaf of its byte refuses the line | gfm | gfm_table
+"a\n:-\n~~b"
+table 1
+  row
+    cell | a
+  delimiter | :-
+  row
+    cell | ~~b
+
+GFM 4.10: a row where the first leaf of its byte refuses the line | gfm | gfm_table
+"a\n:-\n**b"
+table 1
+  row
+    cell | a
+  delimiter | :-
+  row
+    cell | **b
+
+GFM 4.10: a row where the first leaf of its byte refuses the line | gfm | gfm_table
+"a\n:-\n__b"
+table 1
+  row
+    cell | a
+  delimiter | :-
+  row
+    cell | __b
+
+GFM 4.10: a row where the first leaf of its byte refuses the line | gfm | gfm_table
+"a\n:-\n--b"
+table 1
+  row
+    cell | a
+  delimiter | :-
+  row
+    cell | --b
+
+GFM 4.10: a row where the first leaf of its byte refuses the line | gfm | gfm_table
+"a\n:-\n="
+table 1
+  row
+    cell | a
+  delimiter | :-
+  row
+    cell | =
+
+GFM 4.10: a row where the first leaf of its byte refuses the line | gfm | gfm_table
+"a\n:-\n==b"
+table 1
+  row
+    cell | a
+  delimiter | :-
+  row
+    cell | ==b
+
+GFM 4.10: a row where the first leaf of its byte refuses the line | gfm | gfm_table
+"a\n:-\n<"
+table 1
+  row
+    cell | a
+  delimiter | :-
+  row
+    cell | <
+
+GFM 4.10: a row where the first leaf of its byte refuses the line | gfm | gfm_table
+"a\n:-\n#bc"
+table 1
+  row
+    cell | a
+  delimiter | :-
+  row
+    cell | #bc
+
+CommonMark 4.1: no underline, but a break | gfm | thematic_break
+"a\n- - -"
+paragraph
+  | a
+break
+
+CommonMark 4.1: a break where no text is open | gfm | thematic_break
+"---"
+break
+
+GFM 4.10: no underline and no break, but a delimiter row | gfm | gfm_table
+"a\n-:"
+table 1
+  row
+    cell | a
+  delimiter | -:
+
+CommonMark 4.8: none of the leaves of the row of its byte, so text | gfm | nothing
+"#a\n$b\n``c\n~d\n**e\n_f\n-g\n=h\n<"
+paragraph
+  | #a
+  | $b
+  | ``c
+  | ~d
+  | **e
+  | _f
+  | -g
+  | =h
+  | <
+
+CommonMark 2.2: what is left of a cut tab is whitespace | gfm | block_quote heading_atx
+">\t# a"
+quote
+  heading 1
+    | a
+
+CommonMark 2.2: what is left of a cut tab is whitespace | gfm | block_quote thematic_break
+">\t***"
+quote
+  break
+
 own choice: a construct that is off accepts no line | commonmark | nothing
 "a | b\n-|-"
 paragraph

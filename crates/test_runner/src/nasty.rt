@@ -41,12 +41,13 @@ const LETTERS: [&str; 12] = [
     "\n", "\r",
 ];
 
-/// Forty fragments, of all constructs.
-const FRAGMENTS: [&str; 40] = [
+/// Fragments of all constructs; the last four begin lines with a byte whose first leaf refuses them.
+const FRAGMENTS: [&str; 44] = [
     "a", " ", "  ", "    ", "\t", "\n", "\r", "\n\n", "\u{feff}", "\\", "> ", ">", "- ", "-\n",
     "1. ", "10) ", "[^a]: ", "[^b]:\n", "# ", " #\n", "=\n", "---\n", "---", "+++\n", "***\n",
     "```\n", "~~~ a\n", "$$\n", "<div>\n", "<a>\n", "<!--", "-->\n", "[a]: ", "[b]: c\n",
     "\"t\"\n", "'", "|", "a|b\n", "-|-\n", ":-\n",
+    "#a|b\n", "$a\n", "_a|", "<a |",
 ];
 
 /// The most fragments of a random text.

@@ -5,13 +5,14 @@ use Rattle.md_table_rooms.specs.Leaf.GfmTable.{table_leaf}
 use Rattle.md_table_rooms.proofs.GfmTable.Cells.{table-adds, table-fits}
 use Rattle.md_table_rooms.proofs.GfmTable.Each.{table-no_content, table-outside, table-own, table-unturned}
 use Rattle.md_table_rooms.proofs.GfmTable.Found.{table-held, table-lines}
-use Rattle.md_table_rooms.proofs.GfmTable.Trial.{table-looked, table-refused, table-shrinks, table-took}
+use Rattle.md_table_rooms.proofs.GfmTable.Trial.{table-refused, table-shrinks, table-took}
+use Rattle.md_tables.proofs.GfmTableLook.{table-looked}
 use Rattle.md_frame.proofs.LeafLaws.{LeafLaws}
 
 -- All that the frame asks of it: it goes on the text or the table that it meets, and leaves a table open.
 pub table-laws : LeafLaws table_leaf
 table-laws = record {
-  looked = table-looked;
+  looked = λ options on cells. table-looked options on cells;
   meets = λ options on r starts further. table-lines on further;
   took = λ options cells h is few. table-took options cells h is;
   refused = λ options cells h asked. table-refused options cells h;

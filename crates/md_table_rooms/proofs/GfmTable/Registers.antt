@@ -13,7 +13,7 @@ use Rattle.md_seam.specs.Spaces.{any_size, sees_white, small_indent}
 use Rattle.md_seam.specs.Transition.{taken}
 use Rattle.md_tables.specs.Delimiter as delimiter
 use Rattle.md_tables.specs.Delimiter.{Mark, ends_code, is_counted, mark, row_entered, row_exited, white_on}
-use Rattle.md_tables.specs.GfmTable.{head_code, may_head, start_code, table_transition}
+use Rattle.md_tables.specs.GfmTable.{begins_code, head_code, may_head, start_code, table_transition}
 use Rattle.md_tables.specs.Row as row
 use Rattle.md_tables.specs.Row.{Piece, at_break_code, begun, behind_part, data_code, escape_code, is_escaped, piece}
 use Rattle.md_tables.specs.Row.{row_transition, shut, text_link}
@@ -33,6 +33,10 @@ starts : (w : World) (leaf : HeldLeaf) → Registers w → Registers (start_code
 starts w (held_leaf.Text text) h = heads w text (may_head w.setting.options text) h
 starts w held_leaf.Table h = h
 starts w _ h = h
+
+looks : (w : World) (x : Bool) → Registers w → Registers (begins_code w x).world
+looks w true h = starts w w.flags.leaf h
+looks w false h = h
 
 -- Rows.
 
@@ -152,7 +156,7 @@ cell-after w _ h = h
 
 -- each of them
 pub table-registers : (state : TableState) (w : World) → Registers w → Registers (table_transition state w).world
-table-registers its.Start w h = starts w w.flags.leaf h
+table-registers its.Start w h = looks w _ h
 table-registers its.HeadRowBefore w h = rows Head place.Start w h
 table-registers its.HeadRowStart w h = h
 table-registers its.HeadRowBreak w h = rows Head place.Break w h

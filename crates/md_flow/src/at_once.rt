@@ -1,0 +1,389 @@
+// Lines, prefixes and leaves that take several states in one call.
+//
+// The states of the document, of flow and of constructs are called one after another. Where one look tells what several
+// of them do (a prefix is taken as a whole, no container opens with a byte, a line is content), these functions do the
+// same in one call; each has in its contract that it is a run of those states (`RunsHere`). The pages of the states can be
+// read without them.
+
+ghost use Rattle.std.specs.Prelude.{false, true, ◌≡◌, ◌≢◌};
+ghost use Rattle.md_engine.specs.Going.{SeesOn};
+ghost use Rattle.md_engine.specs.Run.{RunsHere};
+ghost use Rattle.md_engine.specs.Scheme.{stands};
+ghost use Rattle.md_engine.specs.World.{looks, world};
+ghost use Rattle.md_engine.specs.declared.state.Name.{Name as StateName};
+ghost use Rattle.md_engine.specs.declared.state.State.{State};
+ghost use Rattle.md_engine.specs.declared.state.content.State.{State as ContentState};
+ghost use Rattle.md_engine.specs.declared.state.document.State.{State as DocumentState};
+ghost use Rattle.md_registry.specs.AtOnce.{GoesAtOnce, asking_next, openers_passed};
+ghost use Rattle.md_containers.specs.PlainBullet.{IsPlainBullet};
+ghost use Rattle.md_registry.specs.Registry.{opener_front, openers};
+ghost use Rattle.md_registry.specs.States.{FlowStep, flow_table_scheme, is_flow_own};
+ghost use Rattle.md_seam.specs.Transition.{IsAt, NeedsNothing};
+ghost use Rattle.md_engine.specs.declared.state.flow.State.{State as FlowState};
+ghost use Rattle.md_engine.specs.declared.state.heading_atx.State.{State as HeadingState};
+
+use crate::{constructs, document, flow};
+use md_content::content;
+use md_engine::or_error;
+use md_engine::state::content::State as ContentState;
+use md_engine::state::document::State as DocumentState;
+use md_engine::state::flow::State as FlowState;
+use md_engine::state::gfm_table::State as TableState;
+use md_engine::state::heading_atx::State as HeadingState;
+use md_engine::state::{Name as StateName, State};
+use md_engine::tokenizer::{Container, Tokenizer};
+use md_leaves::{blank_line, heading_atx};
+use md_registry::choices;
+use md_tables::row::{Row, place_of};
+use md_tables::{gfm_table, row_words};
+
+/// Whether the next container goes on, with a prefix that can be taken at once.
+fn goes_on_at_once(tokenizer: &mut Tokenizer) -> bool
+    ensures goes { result ≡ true → GoesAtOnce (world tokenizer.old) }
+    ensures same { world tokenizer.new ≡ world tokenizer.old }
+{
+    match document::next_container(tokenizer) {
+        None => false,
+        Some(container) => choices::has_plain_prefix(container, tokenizer),
+    }
+}
+
+/// The next container is asked, if there is one.
+fn ask_next(tokenizer: &mut Tokenizer)
+    ensures { world tokenizer.new ≡ asking_next (world tokenizer.old) }
+{
+    match document::next_container(tokenizer) {
+        None => {}
+        Some(container) => document::ask(tokenizer, container),
+    }
+}
+
+/// At the same place: goes at once over prefixes of containers that go on, as the states do one after another.
+#[inline(always)]
+pub fn containers_existing(tokenizer: &mut Tokenizer) -> State
+    requires { IsAt NeedsNothing (StateName.Document DocumentState.ContainerExistingBefore) (world tokenizer.old) }
+    ensures runs { result ≢ State.Error →
+        RunsHere FlowStep
+        (StateName.Document DocumentState.ContainerExistingBefore) (world tokenizer.old) result (world tokenizer.new) }
+    ensures sees { result ≢ State.Error → SeesOn result (world tokenizer.old) (world tokenizer.new) }
+{
+    while goes_on_at_once(tokenizer) {
+        ask_next(tokenizer);
+        or_error!(choices::take_plain_prefix(tokenizer));
+        document::container_existing_after(tokenizer);
+    }
+    document::container_existing_before(tokenizer)
+}
+
+/// Passes all containers that may open, where none does by what stands here, as the states do one after another.
+#[inline(always)]
+pub fn pass_openers(tokenizer: &mut Tokenizer)
+    ensures { world tokenizer.new ≡ openers_passed (world tokenizer.old) }
+{
+    document::ask(tokenizer, Container::new(choices::last_opener()));
+    document::begin_line(tokenizer);
+}
+
+/// Before the first container that may open, where one opens with a prefix that can be taken at once: it opens, as by
+/// the states that try one kind after another.
+pub fn opens_at_once(tokenizer: &mut Tokenizer) -> State
+    requires at { IsAt NeedsNothing (StateName.Document (opener_front openers)) (world tokenizer.old) }
+    requires plain { IsPlainBullet (world tokenizer.old) }
+    ensures runs { result ≢ State.Error →
+        RunsHere FlowStep
+        (StateName.Document (opener_front openers)) (world tokenizer.old) result (world tokenizer.new) }
+    ensures sees { result ≢ State.Error → SeesOn result (world tokenizer.old) (world tokenizer.new) }
+{
+    document::ask(tokenizer, Container::new(choices::plain_opener()));
+    or_error!(choices::take_plain_opening(tokenizer));
+    document::container_new_after(tokenizer)
+}
+
+/// At the start of a chunk of content: its first byte is taken at once.
+#[inline(always)]
+fn chunk_begins(tokenizer: &mut Tokenizer) -> State
+    requires { IsAt NeedsNothing (StateName.Content ContentState.ChunkStart) (world tokenizer.old) }
+    ensures runs { result ≢ State.Error →
+        RunsHere FlowStep
+        (StateName.Content ContentState.ChunkStart) (world tokenizer.old) result (world tokenizer.new) }
+    ensures sees { result ≢ State.Error → SeesOn result (world tokenizer.old) (world tokenizer.new) }
+{
+    match content::chunk_start(tokenizer) {
+        State::Retry(StateName::Content(ContentState::ChunkInside)) => {
+            content::chunk_inside(tokenizer)
+        }
+        state => state,
+    }
+}
+
+/// Before content: its first byte is taken at once.
+#[inline(always)]
+fn content_begins(tokenizer: &mut Tokenizer) -> State
+    requires { IsAt NeedsNothing (StateName.Flow FlowState.BeforeContent) (world tokenizer.old) }
+    ensures runs { result ≢ State.Error →
+        RunsHere FlowStep
+        (StateName.Flow FlowState.BeforeContent) (world tokenizer.old) result (world tokenizer.new) }
+    ensures sees { result ≢ State.Error → SeesOn result (world tokenizer.old) (world tokenizer.new) }
+{
+    match flow::before_content(tokenizer) {
+        State::Retry(StateName::Content(ContentState::ChunkStart)) => chunk_begins(tokenizer),
+        state => state,
+    }
+}
+
+/// At the start of an ATX heading: it begins with its opening sequence in the same call.
+#[inline(always)]
+pub fn heading_begins(tokenizer: &mut Tokenizer) -> State
+    requires { IsAt NeedsNothing (StateName.HeadingAtx HeadingState.Start) (world tokenizer.old) }
+    ensures runs { result ≢ State.Error →
+        RunsHere FlowStep
+        (StateName.HeadingAtx HeadingState.Start) (world tokenizer.old) result (world tokenizer.new) }
+    ensures sees { result ≢ State.Error → SeesOn result (world tokenizer.old) (world tokenizer.new) }
+{
+    match heading_atx::start(tokenizer) {
+        State::Retry(StateName::HeadingAtx(HeadingState::Before)) => heading_atx::before(tokenizer),
+        state => state,
+    }
+}
+
+/// Whether a blank line is tried next.
+#[inline(always)]
+fn may_be_blank(state: State) -> bool
+    ensures { result ≡ true → state ≡ State.Retry (StateName.Flow FlowState.BlankLineBefore) }
+{
+    match state {
+        State::Retry(StateName::Flow(FlowState::BlankLineBefore)) => true,
+        _ => false,
+    }
+}
+
+/// Whether an ATX heading is tried next.
+#[inline(always)]
+fn is_heading(state: State) -> bool
+    ensures { result ≡ true → state ≡ State.Retry (StateName.HeadingAtx HeadingState.Start) }
+{
+    match state {
+        State::Retry(StateName::HeadingAtx(HeadingState::Start)) => true,
+        _ => false,
+    }
+}
+
+/// At the start of the rest of a line: content begins at once where one look tells so, and a heading with its opening
+/// sequence.
+#[inline(always)]
+fn rest_begins(tokenizer: &mut Tokenizer) -> State
+    requires { IsAt NeedsNothing (StateName.Flow FlowState.Start) (world tokenizer.old) }
+    ensures runs { result ≢ State.Error →
+        RunsHere FlowStep
+        (StateName.Flow FlowState.Start) (world tokenizer.old) result (world tokenizer.new) }
+    ensures sees { result ≢ State.Error → SeesOn result (world tokenizer.old) (world tokenizer.new) }
+{
+    if choices::content_alone(tokenizer.flags.leaf, tokenizer.current) {
+        return content_begins(tokenizer);
+    }
+    let state = flow::start(tokenizer);
+    if may_be_blank(state) {
+        return flow::blank_line_before(tokenizer);
+    }
+    if is_heading(state) {
+        return heading_begins(tokenizer);
+    }
+    state
+}
+
+/// Before the first container that may open: where none may by what stands here, the leaf of the line is next; and one
+/// opens at once whose prefix can be taken so.
+#[inline(always)]
+fn containers_new(tokenizer: &mut Tokenizer) -> State
+    requires { IsAt NeedsNothing (StateName.Document (opener_front openers)) (world tokenizer.old) }
+    ensures runs { result ≢ State.Error →
+        RunsHere FlowStep
+        (StateName.Document (opener_front openers)) (world tokenizer.old) result (world tokenizer.new) }
+    ensures sees { result ≢ State.Error → SeesOn result (world tokenizer.old) (world tokenizer.new) }
+{
+    if choices::opens_none(tokenizer.current) {
+        pass_openers(tokenizer);
+        if choices::goes_inside(tokenizer.flags.leaf) {
+            document::flow_inside(tokenizer)
+        } else {
+            rest_begins(tokenizer)
+        }
+    } else if choices::opens_plainly(tokenizer) {
+        opens_at_once(tokenizer)
+    } else {
+        document::before_opener(tokenizer, choices::first_opener())
+    }
+}
+
+/// Behind all containers of a line: where nothing is left of it, it ends at once, and else may be blank.
+#[inline(always)]
+fn behind_containers(tokenizer: &mut Tokenizer) -> State
+    requires { IsAt NeedsNothing (StateName.Document DocumentState.ContainersAfter) (world tokenizer.old) }
+    ensures runs { result ≢ State.Error →
+        RunsHere FlowStep
+        (StateName.Document DocumentState.ContainersAfter) (world tokenizer.old) result (world tokenizer.new) }
+    ensures sees { result ≢ State.Error → SeesOn result (world tokenizer.old) (world tokenizer.new) }
+{
+    document::containers_after(tokenizer);
+    if choices::goes_inside(tokenizer.flags.leaf) {
+        document::flow_inside(tokenizer)
+    } else if blank_line::ends_line(tokenizer.current) {
+        flow::blank_line_after(tokenizer);
+        document::flow_end(tokenizer)
+    } else {
+        rest_begins(tokenizer)
+    }
+}
+
+/// At the begin of a line, or behind a prefix: goes on behind the containers that go on.
+#[inline(always)]
+fn containers(tokenizer: &mut Tokenizer) -> State
+    requires { IsAt NeedsNothing (StateName.Document DocumentState.ContainerExistingBefore) (world tokenizer.old) }
+    ensures runs { result ≢ State.Error →
+        RunsHere FlowStep
+        (StateName.Document DocumentState.ContainerExistingBefore) (world tokenizer.old) result (world tokenizer.new) }
+    ensures sees { result ≢ State.Error → SeesOn result (world tokenizer.old) (world tokenizer.new) }
+{
+    match containers_existing(tokenizer) {
+        State::Retry(StateName::Document(DocumentState::ContainerNewBefore)) => {
+            containers_new(tokenizer)
+        }
+        State::Retry(StateName::Document(DocumentState::ContainersAfter)) => {
+            behind_containers(tokenizer)
+        }
+        state => state,
+    }
+}
+
+/// Behind a leaf on one line: the line ends.
+#[inline(always)]
+fn leaf_end(tokenizer: &mut Tokenizer) -> State
+    requires { IsAt NeedsNothing (StateName.Flow FlowState.LeafAfter) (world tokenizer.old) }
+    ensures runs { result ≢ State.Error →
+        RunsHere FlowStep
+        (StateName.Flow FlowState.LeafAfter) (world tokenizer.old) result (world tokenizer.new) }
+    ensures sees { result ≢ State.Error → SeesOn result (world tokenizer.old) (world tokenizer.new) }
+{
+    flow::leaf_after(tokenizer);
+    document::flow_end(tokenizer)
+}
+
+/// Behind a line of text: the line ends.
+#[inline(always)]
+fn line_end(tokenizer: &mut Tokenizer) -> State
+    requires { IsAt NeedsNothing (StateName.Flow FlowState.After) (world tokenizer.old) }
+    ensures runs { result ≢ State.Error →
+        RunsHere FlowStep
+        (StateName.Flow FlowState.After) (world tokenizer.old) result (world tokenizer.new) }
+    ensures sees { result ≢ State.Error → SeesOn result (world tokenizer.old) (world tokenizer.new) }
+{
+    flow::after(tokenizer);
+    document::flow_end(tokenizer)
+}
+
+/// Calls a state of the containers of a line; prefixes are taken at once, and so is what refuses the byte behind them.
+#[inline(always)]
+pub fn call_document(tokenizer: &mut Tokenizer, state: DocumentState) -> State
+    requires current { (world tokenizer.old).current ≡ looks (world tokenizer.old) }
+    requires stands { stands flow_table_scheme (world tokenizer.old) (State.Next (StateName.Document state)) }
+    ensures runs { result ≢ State.Error →
+        RunsHere FlowStep (StateName.Document state)
+        (world tokenizer.old) result (world tokenizer.new) }
+    ensures sees { result ≢ State.Error → SeesOn result (world tokenizer.old) (world tokenizer.new) }
+{
+    match state {
+        DocumentState::ContainerExistingBefore => containers(tokenizer),
+        DocumentState::ContainerNewBefore => containers_new(tokenizer),
+        _ => document::call(tokenizer, state),
+    }
+}
+
+/// Calls a state of flow; leaves that refuse the byte that stands here are passed at once.
+#[inline(always)]
+pub fn call_flow(tokenizer: &mut Tokenizer, state: FlowState) -> State
+    requires current { (world tokenizer.old).current ≡ looks (world tokenizer.old) }
+    requires stands { stands flow_table_scheme (world tokenizer.old) (State.Next (StateName.Flow state)) }
+    ensures runs { result ≢ State.Error →
+        RunsHere FlowStep (StateName.Flow state)
+        (world tokenizer.old) result (world tokenizer.new) }
+    ensures sees { result ≢ State.Error → SeesOn result (world tokenizer.old) (world tokenizer.new) }
+{
+    match state {
+        FlowState::Start => rest_begins(tokenizer),
+        FlowState::LeafAfter => leaf_end(tokenizer),
+        FlowState::After => line_end(tokenizer),
+        FlowState::BeforeContent => content_begins(tokenizer),
+        _ => flow::call(tokenizer, state),
+    }
+}
+
+/// Calls a state of a heading; words of it are taken at once.
+#[inline(always)]
+fn call_heading(tokenizer: &mut Tokenizer, state: HeadingState) -> State
+    requires current { (world tokenizer.old).current ≡ looks (world tokenizer.old) }
+    requires stands { stands flow_table_scheme (world tokenizer.old) (State.Next (StateName.HeadingAtx state)) }
+    ensures runs { result ≢ State.Error →
+        RunsHere FlowStep (StateName.HeadingAtx state)
+        (world tokenizer.old) result (world tokenizer.new) }
+    ensures sees { result ≢ State.Error → SeesOn result (world tokenizer.old) (world tokenizer.new) }
+{
+    match state {
+        HeadingState::AtBreak => heading_atx::words(tokenizer),
+        HeadingState::SequenceOpen => heading_atx::opens(tokenizer),
+        _ => heading_atx::call(tokenizer, state),
+    }
+}
+
+/// Calls a state of a table, or takes parts of a row of its body at once.
+#[inline(always)]
+fn call_in_table(tokenizer: &mut Tokenizer, state: TableState) -> State
+    requires current { (world tokenizer.old).current ≡ looks (world tokenizer.old) }
+    requires stands { stands flow_table_scheme (world tokenizer.old) (State.Next (StateName.GfmTable state)) }
+    ensures runs { result ≢ State.Error →
+        RunsHere FlowStep (StateName.GfmTable state)
+        (world tokenizer.old) result (world tokenizer.new) }
+    ensures sees { result ≢ State.Error → SeesOn result (world tokenizer.old) (world tokenizer.new) }
+{
+    match place_of(Row::Body, state) {
+        Some(place) => row_words::call(tokenizer, Row::Body, place),
+        None => constructs::call(tokenizer, StateName::GfmTable(state)),
+    }
+}
+
+/// Calls a state of a table, and those that follow it, up to one that may stay or is of no table.
+#[inline(always)]
+fn call_table(tokenizer: &mut Tokenizer, first: TableState) -> State
+    requires current { (world tokenizer.old).current ≡ looks (world tokenizer.old) }
+    requires stands { stands flow_table_scheme (world tokenizer.old) (State.Next (StateName.GfmTable first)) }
+    ensures runs { result ≢ State.Error →
+        RunsHere FlowStep (StateName.GfmTable first)
+        (world tokenizer.old) result (world tokenizer.new) }
+    ensures sees { result ≢ State.Error → SeesOn result (world tokenizer.old) (world tokenizer.new) }
+{
+    let mut state = first;
+    loop {
+        let to = call_in_table(tokenizer, state);
+        let Some(next) = gfm_table::next(tokenizer, to) else {
+            return to;
+        };
+        state = next;
+    }
+}
+
+/// The same, where a construct may take several states in one call.
+#[inline(always)]
+pub fn call_at_once(tokenizer: &mut Tokenizer, name: StateName) -> State
+    requires current { (world tokenizer.old).current ≡ looks (world tokenizer.old) }
+    requires stands { stands flow_table_scheme (world tokenizer.old) (State.Next name) }
+    requires construct { is_flow_own name ≡ false }
+    ensures runs { result ≢ State.Error →
+        RunsHere FlowStep name (world tokenizer.old)
+        result (world tokenizer.new) }
+    ensures sees { result ≢ State.Error → SeesOn result (world tokenizer.old) (world tokenizer.new) }
+{
+    match name {
+        StateName::HeadingAtx(state) => call_heading(tokenizer, state),
+        StateName::GfmTable(state) => call_table(tokenizer, state),
+        _ => constructs::call(tokenizer, name),
+    }
+}
