@@ -15,7 +15,6 @@ use Rattle.md_engine.specs.declared.state.Name.TheVariants as n
 use Rattle.md_engine.specs.declared.state.document.State.{State as DocumentState}
 use Rattle.md_engine.specs.declared.state.document.State.TheVariants as document
 use Rattle.md_engine.specs.declared.state.blank_line.State.TheVariants as blank_line
-use Rattle.md_engine.specs.declared.state.flow.State.{State as FlowState}
 use Rattle.md_engine.specs.declared.state.flow.State.TheVariants as flow
 use Rattle.md_engine.specs.declared.state.State.{State}
 use Rattle.md_engine.specs.declared.state.State.TheVariants.{Error, Next, Nok, Retry}
@@ -31,21 +30,21 @@ use Rattle.md_content.specs.Chunks.{chunk_inside_code}
 use Rattle.md_leaves.specs.Blank as blank
 use Rattle.md_leaves.proofs.HeadingWords.{remains-of, sees-from}
 use Rattle.md_seam.specs.Look.{behind_code, first_behind, looks_behind, may_with}
-use Rattle.md_seam.specs.Spaces.{ends_line, sees_white}
+use Rattle.md_seam.specs.Spaces.{ends_line}
 use Rattle.md_seam.specs.Transition.{Transition, entered, exited, taken}
 use Rattle.md_registry.specs.AtOnce.{all_asked, content_alone, is_common, opens_none, openers_passed}
 use Rattle.md_registry.specs.Document.{document_own_transition}
-use Rattle.md_registry.specs.Flow.{before_transition, blank_line_before_transition, blank_line_code}
+use Rattle.md_registry.specs.Flow.{blank_line_before_transition, blank_line_code}
 use Rattle.md_registry.specs.Flow.{flow_end_code, flow_end_transition}
-use Rattle.md_registry.specs.Flow.{flow_own_transition, leaf_transition, new_before_transition, opener_transition}
+use Rattle.md_registry.specs.Flow.{new_before_transition, opener_transition}
 use Rattle.md_registry.specs.Flow.{row_transition, start_by, start_code, start_transition, trial_code}
 use Rattle.md_frame.specs.EndingName.{ending_name}
 use Rattle.md_registry.specs.LineFlags.{asking, begun_line, blank_here, blanked, next_line}
 use Rattle.md_registry.specs.LineFlags.{nothing_stands, kept_containers}
 use Rattle.md_frame.specs.LeafName.{GfmTable, LeafName}
-use Rattle.md_registry.specs.Registry.{container_rules, front_of, leaf, may_open, next_of}
+use Rattle.md_registry.specs.Registry.{container_rules, front_of, leaf, may_open}
 use Rattle.md_registry.specs.Registry.{next_opener, opener_at, opener_front, openers, opens_with}
-use Rattle.md_registry.specs.Registry.{row, trials, tried_at}
+use Rattle.md_registry.specs.Registry.{row, trials}
 use Rattle.md_registry.specs.States.{FlowStep, flow_transition}
 use Rattle.md_registry.proofs.ConstructStates.{NextOpener, container-states}
 use Rattle.md_registry.proofs.Dispatch.{common-row}
@@ -129,51 +128,19 @@ openers-refuse is_end s v (k ∷ ks) js w next none seen within came =
     (record { to_is = sym (ap (λ (y : Transition). y.to) is); new_is = sym (ap (λ (y : Transition). y.world) is) }) refl
     within refl seen)
 
--- Leaves that are tried.
-
-at-leaf : (x : FlowState) (l : LeafName) (w : World) → tried_at x ≡ Some l →
-    flow_own_transition x w ≡ before_transition l w
-at-leaf flow.Start l w e = cc
-at-leaf flow.BlankLineBefore l w e = cc
-at-leaf flow.BeforeContent l w e = cc
-at-leaf flow.BlankLineAfter l w e = cc
-at-leaf flow.LeafAfter l w e = cc
-at-leaf flow.After l w e = cc
-at-leaf _ l w e = ap (λ (o : Option LeafName). leaf_transition o w) e
-
--- what is called where one is tried
-pub tried-calls : (x : FlowState) (w : World) → is_some (tried_at x) ≡ true →
-    flow_own_transition x w ≡ leaf_transition (tried_at x) w
-tried-calls x w some = go (tried_at x) refl some
-  where
-    go : (o : Option LeafName) → tried_at x ≡ o → is_some o ≡ true →
-        flow_own_transition x w ≡ leaf_transition (tried_at x) w
-    go None is e = cc
-    go (Some l) is e = at-leaf x l w is ∙ sym (ap (λ (o : Option LeafName). leaf_transition o w) is)
-
 -- What one look tells.
 
--- what stands here opens no container, and does not end the line
-record OpensNone (w : World) : Type 0 where
-  refused : Refused may_open openers w
-  not_end : ends_line w.current ≡ false
-  not_blank : may_with (λ (b : ℕ). nat_eq b 10) (looks_behind w) ≡ false
-
-opens-none : (w : World) → opens_none w.current ≡ true → OpensNone w
+-- what stands here opens no container
+opens-none : (w : World) → opens_none w.current ≡ true → Refused may_open openers w
 opens-none w e = go w.current refl e
   where
-    go : (o : Option ℕ) → w.current ≡ o → opens_none o ≡ true → OpensNone w
+    go : (o : Option ℕ) → w.current ≡ o → opens_none o ≡ true → Refused may_open openers w
     go None here is = cc
     go (Some b) here is =
         let any : Bool = list_any (λ (k : ContainerKind). may_open k b) openers in
         let parts = or_parts (is_white b || nat_eq b 10) any (not-true (is_white b || nat_eq b 10 || any) is) in
         let dark = or_parts (is_white b) (nat_eq b 10) parts.0 in
-        let first : looks_behind w ≡ Some b = looks-dark w b here dark.0 in
-        record {
-          refused = record { byte = b; here = first; none = parts.1 };
-          not_end = ap ends_line here ∙ dark.1;
-          not_blank = ap (may_with (λ (x : ℕ). nat_eq x 10)) first ∙ dark.1;
-        }
+        record { byte = b; here = looks-dark w b here dark.0; none = parts.1 }
 
 -- Behind all containers a leaf that is open may be asked first,
 pub line-front : (is_end : Bool) (s : State) (v w : World) →
@@ -237,9 +204,8 @@ pub passes-front : (is_end : Bool) (s : State) (v w : World) →
     CameTo FlowStep is_end s v (leaf_front (is_some (asked_first (openers_passed w).flags.leaf))) (openers_passed w)
 unfolding looks_behind
 passes-front is_end s v w e seen within came =
-    let is = opens-none w e in
     line-front is_end s v (all_asked openers w) seen within
-    (openers-refuse is_end s v openers [] w refl is.refused seen within came)
+    (openers-refuse is_end s v openers [] w refl (opens-none w e) seen within came)
 
 -- and to the rest of the line,
 pub passes-openers : (is_end : Bool) (s : State) (v w : World) →
@@ -376,15 +342,6 @@ inside-leaves w = go (asked_first w.flags.leaf)
     go (Some l) =
         trial-leaves (leaf l).start (n.Flow flow.After) (n.Flow flow.Start)
         (record w { flags = blank_here (nothing_stands w.current w.point) w.flags }) w true refl refl refl
-
-pub leaf-leaves : (l : LeafName) (w : World) → Leaves (before_transition l w) w
-leaf-leaves l w =
-    trial-leaves (leaf l).start (n.Flow (leaf_end (leaf l).ends)) (n.Flow (next_of l)) w w
-    (may_with ((leaf l).may_begin w.flags.leaf (sees_white w.current)) (looks_behind w)) refl refl refl
-
-pub tried-leaf-leaves : (o : Option LeafName) (w : World) → Leaves (leaf_transition o w) w
-tried-leaf-leaves None w = (tt, refl)
-tried-leaf-leaves (Some l) w = leaf-leaves l w
 
 pub chunk-leaves : (w : World) (x : Bool) → Leaves (chunk_inside_code w x) w
 chunk-leaves w true = (tt, refl)
