@@ -283,5 +283,15 @@ CommonMark 4.8 | commonmark | nothing
 paragraph
   | quote
   | | row
+
+CommonMark 4.1: no underline, but a break | gfm | thematic_break
+"a\n- - -"
+paragraph
+  | a
+break
+
+CommonMark 4.1: a break where no text is open | gfm | thematic_break
+"---"
+break
 "#
 }

@@ -747,16 +747,6 @@ table 1
   row
     cell | #bc
 
-CommonMark 4.1: no underline, but a break | gfm | thematic_break
-"a\n- - -"
-paragraph
-  | a
-break
-
-CommonMark 4.1: a break where no text is open | gfm | thematic_break
-"---"
-break
-
 GFM 4.10: no underline and no break, but a delimiter row | gfm | gfm_table
 "a\n-:"
 table 1
@@ -776,17 +766,6 @@ paragraph
   | -g
   | =h
   | <
-
-CommonMark 2.2: what is left of a cut tab is whitespace | gfm | block_quote heading_atx
-">\t# a"
-quote
-  heading 1
-    | a
-
-CommonMark 2.2: what is left of a cut tab is whitespace | gfm | block_quote thematic_break
-">\t***"
-quote
-  break
 
 own choice: a construct that is off accepts no line | commonmark | nothing
 "a | b\n-|-"

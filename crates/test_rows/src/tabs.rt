@@ -259,5 +259,16 @@ list -
   item
     math
       |   a
+
+CommonMark 2.2: what is left of a cut tab is whitespace | gfm | block_quote heading_atx
+">\t# a"
+quote
+  heading 1
+    | a
+
+CommonMark 2.2: what is left of a cut tab is whitespace | gfm | block_quote thematic_break
+">\t***"
+quote
+  break
 "##
 }
