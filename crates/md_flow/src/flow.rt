@@ -369,13 +369,7 @@ pub fn call(tokenizer: &mut Tokenizer, state: FlowState) -> State
         FlowState::BlankLineAfter => blank_line_after(tokenizer),
         FlowState::LeafAfter => leaf_after(tokenizer),
         FlowState::After => after(tokenizer),
-        FlowState::BeforeCodeIndented => before_code_indented(tokenizer),
-        FlowState::BeforeRaw => before_raw(tokenizer),
-        FlowState::BeforeHtml => before_html(tokenizer),
-        FlowState::BeforeHeadingAtx => before_heading_atx(tokenizer),
-        FlowState::BeforeHeadingSetext => before_heading_setext(tokenizer),
-        FlowState::BeforeThematicBreak => before_thematic_break(tokenizer),
-        FlowState::BeforeGfmTable => before_gfm_table(tokenizer),
+        _ => try_leaf(tokenizer, state),
     }
 }
 
