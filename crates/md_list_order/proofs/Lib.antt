@@ -1,0 +1,12 @@
+pub mod Walks
+pub mod ItemNames
+pub mod Around
+pub mod HeadingAround
+pub mod TurnedAhead
+pub mod TurnedAround
+pub mod TabledAhead
+pub mod TabledAround
+pub mod LeavesAlone
+pub mod HeadingsKeep
+pub mod SetextAlone
+pub mod ListsFirst

@@ -1,0 +1,12 @@
+pub mod HeadParts
+pub mod Held
+pub mod HeldMany
+pub mod Items
+pub mod Names
+pub mod Passed
+pub mod SetextLook
+pub mod SetextStep
+pub mod Stay
+pub mod TableLooks
+pub mod TableSlice
+pub mod TableStep

@@ -1,0 +1,4 @@
+pub mod HeadLaws
+pub mod PassLaws
+pub mod RewrittenLemmas
+pub mod Same

@@ -1,0 +1,93 @@
+use Rattle.std.proofs.Common.{◌≡◌, Bool, false, true, not, refl, sym, subst, ap, ◌∙◌, ◌&&◌, ◌∷◌, []}
+use Rattle.md_containers.specs.Listed.{is_item}
+use Rattle.md_leaves.specs.HeadingText.{begins, is_heading}
+use Rattle.md_leaves.specs.Turned.{passes as is_unturned}
+use Rattle.md_order.specs.Left.{MayStay, is_passed, table_len}
+use Rattle.md_order.specs.declared.wanted.Wanted.{Wanted}
+use Rattle.md_order.proofs.Stay.{stay-drop}
+use Rattle.md_engine.specs.declared.event.Event.{Event}
+use Rattle.md_seam.specs.Events.Spelled.{role}
+use Rattle.md_tables.specs.Tabled.{begins_table, bound_of}
+use Rattle.md_resolve.proofs.PassLaws.{Now, held-given, item-whole, now_of, one-whole, rest_of, table-whole, text-whole}
+use Rattle.md_resolve.proofs.pass.Walk.step.Goals as goal
+use Rattle.md_resolve.proofs.pass.Walk.step.Goals.{else-wanted-2-via-else-wanted-2, else-wanted-2-via-then-wanted-2+else-begins_heading}
+use Rattle.md_resolve.proofs.pass.Walk.step.Goals.{else-wanted-3-via-else-wanted-3, else-wanted-3-via-then-wanted-3+else-not-passes}
+use Rattle.md_resolve.proofs.pass.Walk.step.Goals.{else-wanted-4-via-else-wanted-4, else-wanted-4-via-then-wanted-4+else-begins_table}
+use Rattle.md_resolve.proofs.pass.Walk.step.Goals.{else-wanted-via-else-wanted, else-wanted-via-then-wanted+else-is_item}
+
+pub returns-then-is_item-clause-whole : goal.returns-then-is_item-clause-whole
+returns-then-is_item-clause-whole c =
+    item-whole c.args.wanted c.args.bytes.now (now_of c.args.self.now) (now_of c.item.new.self) c.args.event
+    c.if-wanted.true c.requires.outside c.in_ok-item.ensures.outside (sym c.is_item.ensures ∙ c.if-is_item.true)
+    c.requires.first c.in_ok-item.ensures.given c.in_ok-item.ensures.items c.in_ok-item.ensures.on
+    c.in_ok-item.ensures.rest
+
+pub returns-then-not-passes-clause-whole : goal.returns-then-not-passes-clause-whole
+returns-then-not-passes-clause-whole c =
+    text-whole c.args.wanted c.args.bytes.now (now_of c.args.self.now) (now_of c.text.new.self) c.args.event
+    c.if-wanted-3.true c.requires.outside c.in_ok-text.ensures.outside (sym c.passes.ensures ∙ c.if-not-passes.true)
+    c.requires.stay c.requires.first c.in_ok-text.ensures.given c.in_ok-text.ensures.items c.in_ok-text.ensures.on
+    c.in_ok-text.ensures.rest
+
+pub returns-then-begins_table-clause-whole : goal.returns-then-begins_table-clause-whole
+returns-then-begins_table-clause-whole c =
+    table-whole c.args.wanted c.args.bytes.now (now_of c.args.self.now) (now_of c.table.new.self) c.args.event
+    c.if-wanted-4.true c.requires.outside c.in_ok-table.ensures.outside
+    (sym c.begins_table.ensures ∙ c.if-begins_table.true) c.requires.stay c.requires.first c.in_ok-table.ensures.given
+    c.in_ok-table.ensures.items c.in_ok-table.ensures.on c.in_ok-table.ensures.rest
+
+pub returns-then-begins_table-clause-stay : goal.returns-then-begins_table-clause-stay
+returns-then-begins_table-clause-stay c =
+    subst (MayStay c.args.wanted) (sym c.in_ok-table.ensures.rest)
+    (stay-drop c.args.wanted (rest_of (now_of c.args.self.now)) c.requires.stay
+    (table_len (rest_of (now_of c.args.self.now))))
+
+-- an event that is of none of them passes
+passed-by : (w : Wanted) (e : Event) → (w.items && is_item (role e.name)) ≡ false →
+    (w.atx && begins is_heading e) ≡ false → (w.setext && not (is_unturned e)) ≡ false →
+    (w.tables && begins_table (bound_of e)) ≡ false → is_passed w e ≡ true
+passed-by w e a b c d = rw (a, b, c, d) refl
+
+off : (x y : Bool) → x ≡ false → (x && y) ≡ false
+off x y h = rw h refl
+
+other : (x y : Bool) → y ≡ false → (x && y) ≡ false
+other true y h = h
+other false y h = refl
+
+is-passed : (c : goal.After-self-1) → is_passed c.args.wanted c.args.event ≡ true
+is-passed c =
+    passed-by c.args.wanted c.args.event
+    (elim c.else-wanted.branch [
+      | else-wanted-via-then-wanted+else-is_item w ↦ other c.args.wanted.items _ (sym w.is_item.ensures ∙ w.if-is_item.false)
+      | else-wanted-via-else-wanted w ↦ off c.args.wanted.items _ w.if-wanted.false
+    ])
+    (elim c.else-wanted-2.branch [
+      | else-wanted-2-via-then-wanted-2+else-begins_heading w ↦ other c.args.wanted.atx _
+          (sym w.begins_heading.ensures ∙ w.if-begins_heading.false)
+      | else-wanted-2-via-else-wanted-2 w ↦ off c.args.wanted.atx _ w.if-wanted-2.false
+    ])
+    (elim c.else-wanted-3.branch [
+      | else-wanted-3-via-then-wanted-3+else-not-passes w ↦ other c.args.wanted.setext _
+          (ap not (sym w.passes.ensures ∙ w.if-not-passes.false))
+      | else-wanted-3-via-else-wanted-3 w ↦ off c.args.wanted.setext _ w.if-wanted-3.false
+    ])
+    (elim c.else-wanted-4.branch [
+      | else-wanted-4-via-then-wanted-4+else-begins_table w ↦ other c.args.wanted.tables _
+          (sym w.begins_table.ensures ∙ w.if-begins_table.false)
+      | else-wanted-4-via-else-wanted-4 w ↦ off c.args.wanted.tables _ w.if-wanted-4.false
+    ])
+
+pub returns-clause-whole : goal.returns-clause-whole
+returns-clause-whole c =
+    let old : Now = now_of c.args.self.now in
+    let new : Now = record old { all = c.hold.new.self } in
+    one-whole c.args.wanted c.args.bytes.now old new c.args.event c.requires.outside c.requires.outside (is-passed c)
+    c.requires.first
+    (held-given old new (c.args.event ∷ []) c.requires.outside c.requires.outside c.hold.ensures.written
+    c.hold.ensures.held) refl refl c.hold.ensures.left
+
+pub returns-clause-stay : goal.returns-clause-stay
+returns-clause-stay c =
+    subst (MayStay c.args.wanted) (sym c.hold.ensures.left)
+    (stay-drop c.args.wanted (rest_of (now_of c.args.self.now)) c.requires.stay 1)

@@ -1,0 +1,4 @@
+pub mod Counted
+pub mod HeadingWalk
+pub mod PassWalk
+pub mod Rewritten
