@@ -22,8 +22,10 @@ use Rattle.md_meaning.proofs.TextsLemmas.{NoEnding}
 use Rattle.md_frame.specs.RestLine.{rest_line}
 use Rattle.md_frame.specs.LineLeaf.{LineLeaf}
 use Rattle.md_frame.specs.Resolving.{is_own, resolved}
+use Rattle.md_frame.proofs.ClosedFacts.{IsClosed}
 use Rattle.md_frame.proofs.OutsideFacts.{AreOutside, NoEnds}
 use Rattle.md_frame.proofs.LeafFacts.{LeafFacts, LineAt}
+use Rattle.md_frame.proofs.LinedFacts.{AreLined}
 use Rattle.md_frame.proofs.SpannedFacts.{AreUnspanned}
 use Rattle.md_frame.proofs.UnturnedFacts.{AreUnturned}
 use Rattle.md_frame.specs.HeldLeaf.{has_lines}
@@ -110,18 +112,21 @@ pub record LeafLaws (l : LineLeaf) : Type 1 where
   -- Where no part ends in what it adds that a resolver rewrites, so that none is registered, none begins there.
   pub own : (options : ParseOptions) (on : HeldLeaf) (cells : List Cell) (p : Point) →
       NoEnds is_own (l.adds options on cells p) → AreOutside (l.adds options on cells p)
-  -- If it is open behind its line, no resolver rewrites it but the one that joins its lines, and the one that sets
-  -- headings where it goes on text.
-  pub outside : l.ends ≡ false → (options : ParseOptions) (on : HeldLeaf) (r : Rest) (p : Point) →
-      l.starts options on r ≡ true → AreOutside (l.added options on (rest_line r) p)
-  pub unturned_line : l.ends ≡ false → (options : ParseOptions) (on : HeldLeaf) (r : Rest) (p : Point) →
+  -- If it is open behind its line, goes on no text and takes no head, it has the events of a leaf of several lines.
+  pub lined : l.ends ≡ false → l.heads ≡ false → (options : ParseOptions) (on : HeldLeaf) (r : Rest) (p : Point) →
       l.starts options on r ≡ true → (l.further on ≡ true → has_lines on ≡ true) →
-      AreUnturned (l.added options on (rest_line r) p)
-  -- If it always ends on its line, resolvers set what is its own,
+      AreLined (l.added options on (rest_line r) p)
+  -- If it always ends on its line, the walk that joins the lines of leaves of several passes it as its states leave it,
+  -- and it holds no other block;
+  pub unjoined : l.ends ≡ true → (options : ParseOptions) (on : HeldLeaf) (r : Rest) (p : Point) →
+      l.starts options on r ≡ true → AreUnspanned (l.added options on (rest_line r) p)
+  pub alone : l.ends ≡ true → (options : ParseOptions) (on : HeldLeaf) (r : Rest) (p : Point) →
+      l.starts options on r ≡ true → IsClosed (l.added options on (rest_line r) p)
+  -- resolvers set what is its own,
   pub set : l.ends ≡ true → (options : ParseOptions) (on : HeldLeaf) (r : Rest) (p : Point) (es : List Event) →
       l.starts options on r ≡ true →
       resolved (l.added options on (rest_line r) p ++ es) ≡ l.unread (rest_line r) p ++ resolved es
-  -- and those that set setext headings and join the lines of leaves of several pass it;
+  -- and those that set setext headings and tables pass it;
   pub unturned : l.ends ≡ true → (options : ParseOptions) (on : HeldLeaf) (r : Rest) (p : Point) →
       l.starts options on r ≡ true → AreUnturned (l.unread (rest_line r) p)
   pub unspanned : l.ends ≡ true → (options : ParseOptions) (on : HeldLeaf) (r : Rest) (p : Point) →

@@ -2,6 +2,7 @@ pub mod AroundOutside
 pub mod BetweenFacts
 pub mod BlankLine
 pub mod ChunkFacts
+pub mod ClosedFacts
 pub mod CollectFacts
 pub mod ContainerLaws
 pub mod ContainerNames
@@ -27,6 +28,7 @@ pub mod LeafStarts
 pub mod LineEnds
 pub mod LineTexts
 pub mod LineWalk
+pub mod LinedFacts
 pub mod IndentRemoved
 pub mod MarkRuns
 pub mod NestedEvents

@@ -1,3 +1,4 @@
+pub mod AloneGroups
 pub mod Begun
 pub mod BetweenRows
 pub mod ContainedLemmas
@@ -26,6 +27,7 @@ pub mod HeadMet
 pub mod HeadRows
 pub mod HeadedTable
 pub mod HeldRows
+pub mod JoinedLeaves
 pub mod JoinedLemmas
 pub mod KindLemmas
 pub mod Labels
@@ -37,6 +39,7 @@ pub mod PieceRows
 pub mod PlainEvents
 pub mod RegistryFound
 pub mod RowFacts
+pub mod RowHolds
 pub mod RowKinds
 pub mod RowLeaf
 pub mod SpanJoined
@@ -57,4 +60,4 @@ pub mod TileReads
 pub mod Turned
 pub mod TurnedGroups
 pub mod Underlines
-pub mod UntabledLines
+pub mod UnspannedGroups

@@ -1,47 +1,62 @@
--- Tables get their heads, bodies and cells once the lines of each leaf of several are joined, and all else stays.
-use Rattle.std.proofs.Common.{◌≡◌, ℕ, Bool, true, false, cond, List, [], ◌∷◌, ◌++◌, refl, ap, sym, ◌∙◌, append_assoc}
-use Rattle.std.proofs.Common.{subst}
+-- Tables get their heads, bodies and cells behind all other resolvers of leaves, and all else stays; and what all of
+-- these make of a text.
+use Rattle.std.proofs.Common.{◌≡◌, ℕ, Bool, List, [], ◌∷◌, ◌++◌, refl, ap, sym, ◌∙◌, append_assoc, subst}
 use Rattle.md_engine.specs.declared.configuration.ParseOptions.{ParseOptions}
 use Rattle.md_engine.specs.declared.event.Event.{Event}
 use Rattle.md_engine.specs.declared.event.Name.TheVariants as n
 use Rattle.md_engine.specs.declared.event.Point.{Point}
 use Rattle.md_engine.specs.declared.tokenizer.held_leaf.HeldLeaf.{HeldLeaf}
 use Rattle.md_meaning.specs.State.{Container}
+use Rattle.md_leaves.specs.Turned.{turned}
 use Rattle.md_tables.specs.Tabled.{tabled}
-use Rattle.md_tables.proofs.TabledLines.{AreUntabled, tabled-passes, untabled-append}
-use Rattle.md_frame.specs.Joins.{tables_set}
+use Rattle.md_tables.proofs.TabledLines.{AreFree, AreUntabled, free-untabled, tabled-passes, untabled-append}
 use Rattle.md_frame.specs.EndingName.{ending_name}
-use Rattle.md_frame.specs.Row.{Row, ending_of, headed_row}
-use Rattle.md_rows.specs.Rows.{Group, Headed, Lines, Single, LeafLines, Turned, groups}
-use Rattle.md_frame.specs.Row.{headed_unread, last_row, span_by}
-use Rattle.md_rows.specs.Rows.{tail_events}
+use Rattle.md_frame.specs.Joins.{lines_joined}
+use Rattle.md_frame.specs.Resolving.{resolved}
+use Rattle.md_frame.specs.Row.{Row, ending_of, headed_row, headed_unread, last_row, span_by}
 use Rattle.md_rows.specs.BlockList.{tabled_group, tabled_groups}
-use Rattle.md_rows.specs.Unread.{spanned_group, spanned_groups}
+use Rattle.md_rows.specs.Rows.{Group, Headed, LeafLines, Lines, Single, Turned, groups, tail_events}
+use Rattle.md_rows.specs.Unread.{spanned_group, turned_groups, unread_groups}
 use Rattle.md_frame.proofs.FrontNames.{HasFront}
+use Rattle.md_frame.proofs.LinedFacts.{AreLined, lined-free, lined-gaps}
+use Rattle.md_frame.proofs.SpannedFacts.{AreUnspanned}
+use Rattle.md_container_rooms.proofs.GroupedBlocks.{no-table}
 use Rattle.md_table_rooms.proofs.GfmTable.TableUnread.{table-apart}
 use Rattle.md_rows.proofs.GroupLines.{AreGroups, AreSpan, Begins, IsHead, span-begins}
 use Rattle.md_rows.proofs.GroupsAre.{groups-are}
-use Rattle.md_rows.proofs.HeadedTable.{IsHeaded, headed-is, headed-on, headed-table}
+use Rattle.md_rows.proofs.GroupsSet.{leaves-set}
+use Rattle.md_rows.proofs.HeadedTable.{IsHeaded, headed-is, headed-table}
+use Rattle.md_rows.proofs.JoinedLeaves.{lines-hold}
 use Rattle.md_rows.proofs.JoinedLemmas.{EachNoContent}
 use Rattle.md_rows.proofs.RowFacts.{AreRows}
 use Rattle.md_rows.proofs.SpanJoined.{front-unspanned, tail-unspanned}
-use Rattle.md_frame.proofs.SpannedFacts.{AreUnspanned}
-use Rattle.md_rows.proofs.SpannedGroups.{AreOfLeaf, single-unspanned, span-leaf, text-unspanned, turned-unspanned}
+use Rattle.md_rows.proofs.SpannedGroups.{lines-joined}
 use Rattle.md_rows.proofs.TextProgress.{IsShut}
-use Rattle.md_rows.proofs.UntabledLines.{span-untabled, unspanned-untabled}
+use Rattle.md_rows.proofs.TurnedGroups.{headings-set}
+use Rattle.md_rows.proofs.UnspannedGroups.{single-unspanned, text-unspanned, turned-unspanned}
 
--- the lines of a leaf of several that is no table, joined
+-- a table is a leaf of several lines, so none begins outside of those
+unspanned-untabled : (es : List Event) → AreUnspanned es → AreUntabled es
+unspanned-untabled [] h = tt
+unspanned-untabled (e ∷ es) h = (no-table e.kind e.name h.0, unspanned-untabled es h.1)
+
+-- nor in one that is no table
+lines-free : (es : List Event) → AreLined es → AreFree es
+lines-free [] h = tt
+lines-free (e ∷ es) h = (lined-free e.name h.0, lines-free es h.1)
+
 span-passes : (options : ParseOptions) (bytes : List ℕ) (row : Row) (rows : List Row) →
     AreSpan options bytes row rows → Begins row → AreUntabled (tabled_group options bytes (LeafLines row rows))
 span-passes options bytes row rows are begins =
-    let of_leaf : AreOfLeaf options bytes row rows = span-leaf options bytes row rows are begins in
     let last : Row = last_row row rows in
     let joined : List Event = span_by (λ (r : Row). r.inside) row rows in
     untabled-append (row.front ++ joined) (tail_events (ending_of last.kind last) last)
     (untabled-append row.front joined
     (unspanned-untabled row.front
     (front-unspanned bytes row (span-begins options bytes row rows are).front))
-    (span-untabled options bytes of_leaf.name row rows of_leaf.open_leaf of_leaf.is of_leaf.first of_leaf.behind))
+    (lines-hold AreUntabled
+    (lined-gaps AreUntabled (λ es h. free-untabled es (lines-free es h)) untabled-append (λ p q. (refl, (refl, tt))))
+    options bytes row rows are begins))
     (unspanned-untabled (tail_events (ending_of last.kind last) last) (tail-unspanned last.kind last))
 
 -- the lines of a table: between what stands in front of its head, and what stands behind its last line
@@ -69,66 +84,50 @@ headed-tabled options bytes row next rows es head are front =
     ∙ ap (λ (blank : Bool). (row.front ++ table ++ tail_events (ending_name blank) last) ++ tabled es) (sym is.ends)
 
 groups-tabled : (options : ParseOptions) (bytes : List ℕ) (gs : List Group) → AreGroups options bytes gs →
-    tabled (spanned_groups options bytes gs) ≡ tabled_groups options bytes gs
+    tabled (turned_groups options bytes gs) ≡ tabled_groups options bytes gs
 groups-tabled options bytes [] are = refl
 groups-tabled options bytes (Single row ∷ gs) are =
-    tabled-passes (tabled_group options bytes (Single row)) (spanned_groups options bytes gs)
+    tabled-passes (tabled_group options bytes (Single row)) (turned_groups options bytes gs)
     (unspanned-untabled (tabled_group options bytes (Single row)) (single-unspanned options bytes row are.0 row.kind refl))
     ∙ ap (λ (l : List Event). tabled_group options bytes (Single row) ++ l) (groups-tabled options bytes gs are.1)
 groups-tabled options bytes (Lines row rows ∷ gs) are =
-    tabled-passes (tabled_group options bytes (Lines row rows)) (spanned_groups options bytes gs)
+    tabled-passes (tabled_group options bytes (Lines row rows)) (turned_groups options bytes gs)
     (unspanned-untabled (tabled_group options bytes (Lines row rows))
     (text-unspanned options bytes row rows are.0 are.2))
     ∙ ap (λ (l : List Event). tabled_group options bytes (Lines row rows) ++ l) (groups-tabled options bytes gs are.3)
 groups-tabled options bytes (Turned row rows under ∷ gs) are =
-    tabled-passes (tabled_group options bytes (Turned row rows under)) (spanned_groups options bytes gs)
+    tabled-passes (tabled_group options bytes (Turned row rows under)) (turned_groups options bytes gs)
     (unspanned-untabled (tabled_group options bytes (Turned row rows under))
     (turned-unspanned options bytes row rows under are.0 are.1 are.5 are.3))
     ∙ ap (λ (l : List Event). tabled_group options bytes (Turned row rows under) ++ l)
     (groups-tabled options bytes gs are.4)
 groups-tabled options bytes (Headed row next rows ∷ gs) are =
-    headed-tabled options bytes row next rows (spanned_groups options bytes gs) are.0 are.1 are.3
+    headed-tabled options bytes row next rows (turned_groups options bytes gs) are.0 are.1 are.3
     ∙ ap (λ (l : List Event). tabled_group options bytes (Headed row next rows) ++ l)
     (groups-tabled options bytes gs are.4)
 groups-tabled options bytes (LeafLines row rows ∷ gs) are =
-    tabled-passes (tabled_group options bytes (LeafLines row rows)) (spanned_groups options bytes gs)
+    tabled-passes (tabled_group options bytes (LeafLines row rows)) (turned_groups options bytes gs)
     (span-passes options bytes row rows are.0 are.4)
     ∙ ap (λ (l : List Event). tabled_group options bytes (LeafLines row rows) ++ l) (groups-tabled options bytes gs are.2)
 
--- where tables are off no group is one, so all are as they are listed
-groups-listed : (options : ParseOptions) (bytes : List ℕ) (gs : List Group) → options.constructs.gfm_table ≡ false →
-    AreGroups options bytes gs → spanned_groups options bytes gs ≡ tabled_groups options bytes gs
-groups-listed options bytes [] off are = refl
-groups-listed options bytes (Single row ∷ gs) off are =
-    ap (λ (l : List Event). tabled_group options bytes (Single row) ++ l) (groups-listed options bytes gs off are.1)
-groups-listed options bytes (Lines row rows ∷ gs) off are =
-    ap (λ (l : List Event). tabled_group options bytes (Lines row rows) ++ l)
-    (groups-listed options bytes gs off are.3)
-groups-listed options bytes (Turned row rows under ∷ gs) off are =
-    ap (λ (l : List Event). tabled_group options bytes (Turned row rows under) ++ l)
-    (groups-listed options bytes gs off are.4)
-groups-listed options bytes (Headed row next rows ∷ gs) off are =
-    let is : IsHeaded options bytes row next rows = headed-is options bytes row next rows are.0 are.1 in
-    let bad : true ≡ false = sym (headed-on options bytes row next rows is) ∙ off in
-    cc
-groups-listed options bytes (LeafLines row rows ∷ gs) off are =
-    ap (λ (l : List Event). tabled_group options bytes (LeafLines row rows) ++ l) (groups-listed options bytes gs off are.2)
-
--- So each table of a text is set.
+-- So each table of a text is set, and all else stays.
 pub tables-set : (options : ParseOptions) (bytes : List ℕ) (open_before : List Container) (still : HeldLeaf)
     (p : Point) (lines : List (List ℕ)) (rows : List Row) →
     IsShut still → AreRows options bytes open_before still p lines rows → EachNoContent rows →
-    tables_set options (spanned_groups options bytes (groups rows)) ≡ tabled_groups options bytes (groups rows)
-tables-set options bytes open_before still p lines rows shut are quiet = go options.constructs.gfm_table refl
-  where
-    gs : List Group
-    gs = groups rows
+    tabled (turned_groups options bytes (groups rows)) ≡ tabled_groups options bytes (groups rows)
+tables-set options bytes open_before still p lines rows shut are quiet =
+    groups-tabled options bytes (groups rows) (groups-are options bytes open_before still p lines rows shut are quiet)
 
-    laid : AreGroups options bytes gs
-    laid = groups-are options bytes open_before still p lines rows shut are quiet
-
-    go : (x : Bool) → options.constructs.gfm_table ≡ x →
-        cond x (tabled (spanned_groups options bytes gs)) (spanned_groups options bytes gs) ≡
-        tabled_groups options bytes gs
-    go true e = groups-tabled options bytes gs laid
-    go false e = groups-listed options bytes gs e laid
+-- The lines of leaves of several are joined, then the resolvers of leaves run, and setext headings and tables are set.
+pub chain : (options : ParseOptions) (bytes : List ℕ) (open_before : List Container) (still : HeldLeaf) (p : Point)
+    (lines : List (List ℕ)) (rows : List Row) →
+    IsShut still → AreRows options bytes open_before still p lines rows → EachNoContent rows →
+    tabled (turned (resolved (lines_joined options (unread_groups options bytes (groups rows))))) ≡
+    tabled_groups options bytes (groups rows)
+chain options bytes open_before still p lines rows shut are quiet =
+    ap (λ (l : List Event). tabled (turned (resolved l)))
+    (lines-joined options bytes open_before still p lines rows shut are quiet)
+    ∙ ap (λ (l : List Event). tabled (turned l))
+    (leaves-set options bytes open_before still p lines rows shut are quiet)
+    ∙ ap tabled (headings-set options bytes open_before still p lines rows shut are quiet)
+    ∙ tables-set options bytes open_before still p lines rows shut are quiet

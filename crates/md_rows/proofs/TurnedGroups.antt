@@ -8,8 +8,8 @@ use Rattle.md_engine.specs.declared.event.Link.{Link}
 use Rattle.md_engine.specs.declared.event.Name.TheVariants as n
 use Rattle.md_engine.specs.declared.event.Point.{Point}
 use Rattle.md_engine.specs.declared.tokenizer.held_leaf.HeldLeaf.{HeldLeaf}
-use Rattle.md_engine.specs.declared.tokenizer.held_leaf.HeldLeaf.TheVariants as held_leaf
 use Rattle.md_meaning.specs.State.{Container}
+use Rattle.md_leaves.specs.Spanned.{is_code_line}
 use Rattle.md_leaves.specs.Turned.{has_underline, is_underline, turned, underline_behind}
 use Rattle.md_leaves.proofs.TurnedLemmas.{Unlined, no-ending, passes-parts, turned-passes, turned-text}
 use Rattle.md_leaves.proofs.TurnedLemmas.{turned-underlined}
@@ -18,66 +18,52 @@ use Rattle.md_link_definitions.specs.DefinitionRule.{DefinitionParts}
 use Rattle.md_seam.specs.Events.Nested.{around, exit, is_enter, pair}
 use Rattle.md_seam.specs.Events.Places.{past_text, same_place}
 use Rattle.md_seam.specs.Events.Prefix.{is_prefix}
-use Rattle.md_rows.specs.BlockList.{heading_unread, lines_unread, turned_unread}
 use Rattle.md_frame.specs.Change.{ends_of}
-use Rattle.md_frame.specs.RestLine.{rest_line}
-use Rattle.md_frame.specs.HeldLeaf.{has_lines, may_go_on, takes_lazy}
-use Rattle.md_table_rooms.specs.Leaf.GfmTable.{table_leaf}
+use Rattle.md_frame.specs.ContainerNames.{container_name}
 use Rattle.md_frame.specs.EndingName.{ending_name}
 use Rattle.md_frame.specs.LeafName.{LeafName}
-use Rattle.md_frame.specs.Resolving.{resolved}
+use Rattle.md_frame.specs.Row.{BlankRow, LeafRow, Row, RowKind, TextRow, blank_line, defined_unread, ending_events}
+use Rattle.md_frame.specs.Row.{ending_of, headed_row, is_blank_by, last_row, span_by}
 use Rattle.md_frame.specs.TextLines.{text_leaf, turn_leaf}
-use Rattle.md_frame.specs.ContainerNames.{container_name}
-use Rattle.md_registry.specs.Registry.{leaf}
-use Rattle.md_frame.specs.Row.{BlankRow, LeafRow, Row, RowKind, TextRow}
-use Rattle.md_rows.specs.Rows.{Group, Headed, Lines, Single, LeafLines}
-use Rattle.md_rows.specs.Rows.{Turned}
-use Rattle.md_frame.specs.Row.{blank_line, ending_events, ending_of, is_blank_by, last_row}
-use Rattle.md_rows.specs.Rows.{groups, is_further}
-use Rattle.md_frame.specs.Row.{defined_unread}
-use Rattle.md_rows.specs.Rows.{leaf_events, leaf_unread, row_events, rows_events, tail_events}
-use Rattle.md_frame.specs.Row.{headed_row, row_line}
-use Rattle.md_rows.specs.Rows.{text_done, turned_done}
-use Rattle.md_rows.specs.Unread.{headed_lines, set_groups}
 use Rattle.md_frame.specs.UnreadText.{linked_lines}
-use Rattle.md_rows.specs.BlockList.{tabled_group, tabled_row_by, text_unread}
-use Rattle.md_rows.specs.Unread.{turned_groups, unread_group, unread_groups}
+use Rattle.md_registry.specs.Registry.{leaf}
+use Rattle.md_rows.specs.BlockList.{heading_unread, lines_unread, tabled_group, tabled_row_by, text_unread, turned_unread}
 use Rattle.md_rows.specs.BlockList.{unread_lines}
+use Rattle.md_rows.specs.Rows.{Group, Headed, LeafLines, Lines, Single, Turned, groups, leaf_events, leaf_unread}
+use Rattle.md_rows.specs.Rows.{row_events, tail_events, text_done, turned_done}
+use Rattle.md_rows.specs.Unread.{set_groups, spanned_group, turned_groups, unread_group}
 use Rattle.md_frame.proofs.ContainerNames.{container-facts}
+use Rattle.md_frame.proofs.EachEvent.{each-append, each-as}
+use Rattle.md_frame.proofs.FrontNames.{HasFront, ends-are, ends-first, fronts-are}
+use Rattle.md_frame.proofs.LeafLines.Cuts.{ending-is}
+use Rattle.md_frame.proofs.LeafLines.Each.{OfGaps}
+use Rattle.md_frame.proofs.LinedFacts.{IsLined, lined-gaps, lined-unturned, prefix-lined}
+use Rattle.md_frame.proofs.PrefixNames.{ArePrefixes, prefixes-front}
+use Rattle.md_frame.proofs.SubstitutedLemmas.{EachPrefixed}
+use Rattle.md_frame.proofs.UnturnedFacts.{AreUnturned, IsUnturned, fronts-unturned}
+use Rattle.md_leaf_rooms.proofs.HeadingSetext.Line.{underline-unturned, underline_parts}
 use Rattle.md_content_rooms.proofs.Defined.Form.{Form, form_unread, inside_by, strand_unread, string_unread}
 use Rattle.md_content_rooms.proofs.Defined.Is.{IsDefined}
-use Rattle.md_frame.proofs.EachEvent.{each-append, each-as}
-use Rattle.md_frame.proofs.FrontFacts.{LinePrefix}
-use Rattle.md_frame.proofs.FrontNames.{HasFront, ends-are, ends-first, fronts-are}
-use Rattle.md_table_rooms.proofs.GfmTable.Each.{table-unturned}
-use Rattle.md_table_rooms.proofs.GfmTable.Head.{head-unturned}
+use Rattle.md_table_rooms.proofs.GfmTable.Each.{of-unturned}
+use Rattle.md_registry.proofs.Registry.{laws}
 use Rattle.md_rows.proofs.GroupLemmas.{lines-prefixed, under-prefixed}
-use Rattle.md_rows.proofs.GroupLines.{AreGroups, AreLines, AreSpan, EndsBeforeGroups, IsLeft, IsSingle, IsSpanLine}
-use Rattle.md_rows.proofs.GroupLines.{IsHead, IsUnder, line-of, span-begins}
-use Rattle.md_rows.proofs.LineBehind.{further-may}
+use Rattle.md_rows.proofs.GroupLines.{AreGroups, AreLines, AreSpan, Begins, EndsBeforeGroups, IsHead, IsLeft, IsSingle}
+use Rattle.md_rows.proofs.GroupLines.{IsUnder, span-begins}
 use Rattle.md_rows.proofs.GroupsAre.{groups-are}
-use Rattle.md_rows.proofs.GroupsSet.{leaves-set}
 use Rattle.md_rows.proofs.HeadedTable.{headed-is}
-use Rattle.md_leaf_rooms.proofs.HeadingSetext.Line.{underline-unturned, underline_parts}
+use Rattle.md_rows.proofs.JoinedLeaves.{headed-each, lines-hold}
 use Rattle.md_rows.proofs.JoinedLemmas.{EachNoContent}
 use Rattle.md_rows.proofs.KindLemmas.{kind-starts}
-use Rattle.md_frame.proofs.PrefixNames.{ArePrefixes, prefixes-front}
-use Rattle.md_registry.proofs.Registry.{laws}
 use Rattle.md_rows.proofs.RowFacts.{AreRows}
-use Rattle.md_frame.proofs.LeafLines.Cuts.{ending-is}
-use Rattle.md_frame.proofs.SpanLaws.{AreBehind, IsLineOf}
-use Rattle.md_frame.proofs.SubstitutedLemmas.{EachPrefixed}
 use Rattle.md_rows.proofs.Text.Cut.{IsCutText, between}
 use Rattle.md_rows.proofs.Text.Cut.IsCutText.{Defines, Follows, Remains}
 use Rattle.md_rows.proofs.Text.Cuts.{cut-is}
-use Rattle.md_content_rooms.proofs.Defined.Names.{IsOfDefinition}
-use Rattle.md_rows.proofs.Text.Names.{between-names, defined-names, unturned-of}
+use Rattle.md_rows.proofs.Text.Names.{between-of, defined-of, unturned-of}
 use Rattle.md_rows.proofs.Text.Stands.{last-behind}
+use Rattle.md_rows.proofs.TextProgress.{IsShut}
 use Rattle.md_rows.proofs.Turned.Cut.{IsCutHeading, heading-cut, left-remains}
 use Rattle.md_rows.proofs.Turned.Cut.{IsCutHeading as cut_heading}
 use Rattle.md_rows.proofs.Turned.Under.{under-is}
-use Rattle.md_rows.proofs.TextProgress.{IsShut}
-use Rattle.md_frame.proofs.UnturnedFacts.{AreUnturned, IsUnturned, fronts-unturned}
 
 -- Events that pass.
 
@@ -146,78 +132,45 @@ single-unturned options bytes row is kind e =
         (kind-starts options row.on is.is.rest l (sym is.is.kind ∙ e)))
     unread TextRow e = absurd (is.other e)
 
--- a line of a leaf of several, by what it adds
-span_line-adds : (options : ParseOptions) (bytes : List ℕ) (row : Row) (is : IsSpanLine options bytes row) →
-    AreUnturned row.inside → AreUnturned (row_events row)
-span_line-adds options bytes row is inside =
-    each-append IsUnturned (row.front ++ leaf_events row.kind row) (tail_events (ending_of row.kind row) row)
-    (each-append IsUnturned row.front (leaf_events row.kind row) (front-unturned bytes row is.front)
-    (subst (λ (kind : RowKind). AreUnturned (leaf_events kind row)) (sym is.kind) inside))
-    (tail-unturned (is_blank_by row.kind row) row)
+-- Lines of leaves of several, joined.
 
--- one that goes on no text
-span_line-unturned : (options : ParseOptions) (bytes : List ℕ) (row : Row) (is : IsSpanLine options bytes row) →
-    (is_further row.kind row.on ≡ true → has_lines row.on ≡ true) → AreUnturned (row_events row)
-span_line-unturned options bytes row is lines =
-    span_line-adds options bytes row is
-    (subst AreUnturned (sym of_leaf.inside)
-    ((laws is.name).unturned_line is.open_leaf options row.on of_leaf.rest row.first of_leaf.starts
-    (λ further. lines (ap (λ (kind : RowKind). is_further kind row.on) is.kind ∙ further))))
-  where
-    of_leaf : IsLineOf options bytes (leaf is.name) row
-    of_leaf = line-of options bytes row is
+whitened : (x : Bool) (e : Event) → IsUnturned e → IsUnturned (record e { name = cond x n.SpaceOrTab e.name })
+whitened true e h = refl
+whitened false e h = h
 
--- a leaf that a line may go on, and that takes no lazy lines, has several
-lines-of : (on : HeldLeaf) → may_go_on on ≡ true → takes_lazy on ≡ false → has_lines on ≡ true
-lines-of held_leaf.None may lazy = cc
-lines-of (held_leaf.Text at) may lazy = cc
-lines-of (held_leaf.LazyText at) may lazy = cc
-lines-of _ may lazy = refl
+unturned-gaps : OfGaps IsUnturned AreUnturned
+unturned-gaps = record {
+  all = λ es h. h;
+  append = each-append IsUnturned;
+  ending = λ p q. (refl, (refl, tt));
+  blank = λ p q. (refl, (refl, tt));
+  white = λ e h. whitened (is_code_line e.name) e h;
+}
 
 span-unturned : (options : ParseOptions) (bytes : List ℕ) (row : Row) (rows : List Row) →
-    AreSpan options bytes row rows → (is_further row.kind row.on ≡ true → has_lines row.on ≡ true) →
-    AreUnturned (rows_events (row ∷ rows))
-span-unturned options bytes row [] are lines =
-    each-append IsUnturned (row_events row) [] (span_line-unturned options bytes row are lines) tt
-span-unturned options bytes row (next ∷ rows) are lines =
-    let below : IsSpanLine options bytes next = span-begins options bytes next rows are.8 in
-    let above : IsLineOf options bytes (leaf are.0.name) row = line-of options bytes row are.0 in
-    let unlazy : takes_lazy next.on ≡ false =
-    ap takes_lazy (are.6 ∙ above.behind) ∙ ((laws are.0.name).not_lazy options row.on).1 above.rest in
-    each-append IsUnturned (row_events row) (rows_events (next ∷ rows))
-    (span_line-unturned options bytes row are.0 lines)
-    (span-unturned options bytes next rows are.8
-    (λ f. lines-of next.on (further-may options bytes below.line next below.is f) unlazy))
-
--- lines of a table, and the line of text in front of them that is its head
-table_line-unturned : (options : ParseOptions) (bytes : List ℕ) (row : Row) → IsSpanLine options bytes row →
-    IsLineOf options bytes table_leaf row → AreUnturned (row_events row)
-table_line-unturned options bytes row is line =
-    span_line-adds options bytes row is
-    (subst AreUnturned (sym line.inside) (table-unturned options row.on (rest_line line.rest) row.first))
-
-table_lines-unturned : (options : ParseOptions) (bytes : List ℕ) (above row : Row) (rows : List Row) →
-    AreSpan options bytes row rows → AreBehind options bytes table_leaf above (row ∷ rows) →
-    AreUnturned (rows_events (row ∷ rows))
-table_lines-unturned options bytes above row [] are behind =
-    each-append IsUnturned (row_events row) [] (table_line-unturned options bytes row are behind.6) tt
-table_lines-unturned options bytes above row (next ∷ rows) are behind =
-    each-append IsUnturned (row_events row) (rows_events (next ∷ rows))
-    (table_line-unturned options bytes row are.0 behind.6)
-    (table_lines-unturned options bytes row next rows are.8 behind.7)
+    AreSpan options bytes row rows → Begins row → AreUnturned (tabled_group options bytes (LeafLines row rows))
+span-unturned options bytes row rows are begins =
+    let last : Row = last_row row rows in
+    let joined : List Event = span_by (λ (r : Row). r.inside) row rows in
+    each-append IsUnturned (row.front ++ joined) (tail_events (ending_of last.kind last) last)
+    (each-append IsUnturned row.front joined
+    (front-unturned bytes row (span-begins options bytes row rows are).front)
+    (lines-hold AreUnturned
+    (lined-gaps AreUnturned (λ es h. each-as IsLined IsUnturned lined-unturned es h) (each-append IsUnturned)
+    (λ p q. (refl, (refl, tt)))) options bytes row rows are begins))
+    (tail-unturned (is_blank_by last.kind last) last)
 
 headed-unturned : (options : ParseOptions) (bytes : List ℕ) (row next : Row) (rows : List Row) →
     IsHead options bytes row next → AreSpan options bytes next rows → HasFront bytes row →
-    AreUnturned (headed_lines bytes row next rows)
+    AreUnturned (spanned_group options bytes (Headed row next rows))
 headed-unturned options bytes row next rows head are front =
-    let inside : List Event = (headed_row bytes row).inside in
-    let tail : List Event = tail_events n.LineEnding row in
-    each-append IsUnturned (row.front ++ inside ++ tail) (rows_events (next ∷ rows))
-    (each-append IsUnturned (row.front ++ inside) tail
-    (each-append IsUnturned row.front inside (front-unturned bytes row front)
-    (head-unturned (row_line bytes row) row.first))
-    (tail-unturned false row))
-    (table_lines-unturned options bytes row next rows are (headed-is options bytes row next rows head are).are)
+    let last : Row = last_row next rows in
+    let joined : List Event = span_by (λ (r : Row). r.inside) (headed_row bytes row) (next ∷ rows) in
+    each-append IsUnturned (row.front ++ joined) (tail_events n.LineEnding last)
+    (each-append IsUnturned row.front joined (front-unturned bytes row front)
+    (headed-each IsUnturned of-unturned (λ q. refl) (λ e is. lined-unturned e (prefix-lined e is)) unturned-gaps options
+    bytes row next rows (headed-is options bytes row next rows head are).are))
+    (tail-unturned false last)
 
 -- Texts.
 
@@ -232,17 +185,6 @@ linked-unturned link row (next ∷ rows) h = (
         (linked-unturned link next rows h.1),
   ),
 )
-
--- definitions pass, and what stands between them
-defined-unturned : (bytes : List ℕ) (d : DefinitionParts) (row : Row) (rows : List Row) → IsDefined bytes d row rows →
-    AreUnturned (defined_unread d row rows)
-defined-unturned bytes d row rows is =
-    each-as IsOfDefinition IsUnturned unturned-of (defined_unread d row rows) (defined-names bytes d row rows is)
-
-between-unturned : (bytes : List ℕ) (p q r : Point) (front : List Event) → LinePrefix bytes [] q r front →
-    AreUnturned (between p q front)
-between-unturned bytes p q r front is =
-    each-as IsOfDefinition IsUnturned unturned-of (between p q front) (between-names bytes p q r front is)
 
 -- the line that turns one is an underline
 record IsUnderline (under : Row) : Type 0 where
@@ -324,11 +266,11 @@ groups-unlined options bytes (Turned row rows under ∷ gs) are =
     (sym (append_assoc (unread_group options bytes (Lines row rows)) (row_events under) (set_groups options bytes gs)))
     (text-unlined options bytes row rows (row_events under ++ set_groups options bytes gs) are.0 are.3)
 groups-unlined options bytes (Headed row next rows ∷ gs) are =
-    unlined-passed (headed_lines bytes row next rows) (set_groups options bytes gs)
+    unlined-passed (spanned_group options bytes (Headed row next rows)) (set_groups options bytes gs)
     (headed-unturned options bytes row next rows are.0 are.1 are.3) (groups-unlined options bytes gs are.4)
 groups-unlined options bytes (LeafLines row rows ∷ gs) are =
-    unlined-passed (rows_events (row ∷ rows)) (set_groups options bytes gs)
-    (span-unturned options bytes row rows are.0 (λ f. let bad : true ≡ false = sym f ∙ are.4 in cc))
+    unlined-passed (tabled_group options bytes (LeafLines row rows)) (set_groups options bytes gs)
+    (span-unturned options bytes row rows are.0 are.4)
     (groups-unlined options bytes gs are.2)
 
 -- so no underline follows lines of text
@@ -372,14 +314,15 @@ cut-turned options bytes row rows es fs more (Remains first below are) none =
     (each-unturned (unread_lines first below)
     (linked-unturned text_leaf.link first below (lines-prefixed options bytes first below are))) none
 cut-turned options bytes row rows es fs more (Defines d first below are is) none =
-    passed (defined_unread d first below) more (defined-unturned bytes d first below is)
+    passed (defined_unread d first below) more (defined-of AreUnturned unturned-of bytes d first below is)
 cut-turned options bytes row rows es fs more (Follows d first own next below q left done are is after ending front rest)
     none =
     let own_events : List Event = defined_unread d first own in
     let gap : List Event = between (last_row first own).end q next.front in
     let begun : List Event = own_events ++ gap in
-    let pass : AreUnturned begun = each-append IsUnturned own_events gap (defined-unturned bytes d first own is)
-    (between-unturned bytes (last_row first own).end q next.first next.front front) in
+    let pass : AreUnturned begun = each-append IsUnturned own_events gap
+    (defined-of AreUnturned unturned-of bytes d first own is)
+    (between-of AreUnturned unturned-of bytes (last_row first own).end q next.first next.front front) in
     ap turned (append_assoc begun left more)
     ∙ passed begun (left ++ more) pass
     ∙ ap (λ (l : List Event). begun ++ l) (cut-turned options bytes next below left done more rest none)
@@ -471,8 +414,9 @@ cut-headed options bytes under row rows before behind done more
     let own_events : List Event = defined_unread d first own in
     let gap : List Event = between (last_row first own).end q next.front in
     let begun : List Event = own_events ++ gap in
-    let pass : AreUnturned begun = each-append IsUnturned own_events gap (defined-unturned bytes d first own is)
-    (between-unturned bytes (last_row first own).end q next.first next.front front) in
+    let pass : AreUnturned begun = each-append IsUnturned own_events gap
+    (defined-of AreUnturned unturned-of bytes d first own is)
+    (between-of AreUnturned unturned-of bytes (last_row first own).end q next.first next.front front) in
     let line : List Event = row_events under ++ more in
     let follows : List Event = tail_events n.LineEnding (last_row next below) ++ line in
     let tail : List Event = tail_events (ending_of under.kind under) under in
@@ -520,20 +464,20 @@ groups-turned options bytes (Turned row rows under ∷ gs) are =
     ∙ ap (λ (l : List Event). tabled_group options bytes (Turned row rows under) ++ l)
     (groups-turned options bytes gs are.4)
 groups-turned options bytes (Headed row next rows ∷ gs) are =
-    passed (headed_lines bytes row next rows) (set_groups options bytes gs)
+    passed (spanned_group options bytes (Headed row next rows)) (set_groups options bytes gs)
     (headed-unturned options bytes row next rows are.0 are.1 are.3)
-    ∙ ap (λ (l : List Event). headed_lines bytes row next rows ++ l) (groups-turned options bytes gs are.4)
+    ∙ ap (λ (l : List Event). spanned_group options bytes (Headed row next rows) ++ l)
+    (groups-turned options bytes gs are.4)
 groups-turned options bytes (LeafLines row rows ∷ gs) are =
-    passed (rows_events (row ∷ rows)) (set_groups options bytes gs)
-    (span-unturned options bytes row rows are.0 (λ f. let bad : true ≡ false = sym f ∙ are.4 in cc))
-    ∙ ap (λ (l : List Event). rows_events (row ∷ rows) ++ l) (groups-turned options bytes gs are.2)
+    passed (tabled_group options bytes (LeafLines row rows)) (set_groups options bytes gs)
+    (span-unturned options bytes row rows are.0 are.4)
+    ∙ ap (λ (l : List Event). tabled_group options bytes (LeafLines row rows) ++ l) (groups-turned options bytes gs are.2)
 
--- The resolvers of leaves have run, and setext headings are set.
+-- Setext headings are set, and all else stays.
 pub headings-set : (options : ParseOptions) (bytes : List ℕ) (open_before : List Container) (still : HeldLeaf)
     (p : Point) (lines : List (List ℕ)) (rows : List Row) →
     IsShut still → AreRows options bytes open_before still p lines rows → EachNoContent rows →
-    turned (resolved (unread_groups options bytes (groups rows))) ≡ turned_groups options bytes (groups rows)
+    turned (set_groups options bytes (groups rows)) ≡ turned_groups options bytes (groups rows)
 headings-set options bytes open_before still p lines rows shut are quiet =
-    ap turned (leaves-set options bytes open_before still p lines rows shut are quiet)
-    ∙ groups-turned options bytes (groups rows)
+    groups-turned options bytes (groups rows)
     (groups-are options bytes open_before still p lines rows shut are quiet)

@@ -42,34 +42,32 @@ abbrev pub unread_groups : ParseOptions → List ℕ → List Group → List Eve
 unread_groups options bytes [] = []
 unread_groups options bytes (group ∷ groups) = unread_group options bytes group ++ unread_groups options bytes groups
 
--- Leaves once their resolvers have run, before setext headings are set, and the lines of a leaf of several are joined.
+-- The lines of each leaf of several once they are joined, before the leaves on one line are set.
+abbrev pub spanned_group : ParseOptions → List ℕ → Group → List Event
+spanned_group options bytes (LeafLines row rows) = tabled_group options bytes (LeafLines row rows)
+spanned_group options bytes (Headed row next rows) =
+    row.front ++ span_by (λ (r : Row). r.inside) (headed_row bytes row) (next ∷ rows)
+    ++ tail_events n.LineEnding (last_row next rows)
+spanned_group options bytes group = unread_group options bytes group
+
+abbrev pub spanned_groups : ParseOptions → List ℕ → List Group → List Event
+spanned_groups options bytes [] = []
+spanned_groups options bytes (group ∷ groups) = spanned_group options bytes group ++ spanned_groups options bytes groups
+
+-- Those leaves once their resolvers have run, before setext headings are set.
 abbrev pub set_group : ParseOptions → List ℕ → Group → List Event
-set_group options bytes (LeafLines row rows) = rows_events (row ∷ rows)
-set_group options bytes (Headed row next rows) = headed_lines bytes row next rows
-set_group options bytes (Turned row rows under) = unread_group options bytes (Turned row rows under)
-set_group options bytes group = tabled_group options bytes group
+set_group options bytes (Single row) = tabled_group options bytes (Single row)
+set_group options bytes group = spanned_group options bytes group
 
 abbrev pub set_groups : ParseOptions → List ℕ → List Group → List Event
 set_groups options bytes [] = []
 set_groups options bytes (group ∷ groups) = set_group options bytes group ++ set_groups options bytes groups
 
--- Setext headings once they are set, before the lines of a leaf of several are joined.
+-- Setext headings once they are set, before tables get their cells.
 abbrev pub turned_group : ParseOptions → List ℕ → Group → List Event
-turned_group options bytes (LeafLines row rows) = rows_events (row ∷ rows)
-turned_group options bytes (Headed row next rows) = headed_lines bytes row next rows
+turned_group options bytes (Headed row next rows) = spanned_group options bytes (Headed row next rows)
 turned_group options bytes group = tabled_group options bytes group
 
 abbrev pub turned_groups : ParseOptions → List ℕ → List Group → List Event
 turned_groups options bytes [] = []
 turned_groups options bytes (group ∷ groups) = turned_group options bytes group ++ turned_groups options bytes groups
-
--- The lines of each leaf of several once they are joined, before tables get their cells.
-abbrev pub spanned_group : ParseOptions → List ℕ → Group → List Event
-spanned_group options bytes (Headed row next rows) =
-    row.front ++ span_by (λ (r : Row). r.inside) (headed_row bytes row) (next ∷ rows)
-    ++ tail_events n.LineEnding (last_row next rows)
-spanned_group options bytes group = tabled_group options bytes group
-
-abbrev pub spanned_groups : ParseOptions → List ℕ → List Group → List Event
-spanned_groups options bytes [] = []
-spanned_groups options bytes (group ∷ groups) = spanned_group options bytes group ++ spanned_groups options bytes groups

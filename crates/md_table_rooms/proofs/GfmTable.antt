@@ -1,4 +1,5 @@
 -- Tables: a delimiter row, which turns the text in front of it, and further rows: what they come to, and their laws.
+pub mod Alone
 pub mod Cells
 pub mod DelimiterRow
 pub mod DelimiterRowCells

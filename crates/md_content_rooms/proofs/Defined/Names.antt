@@ -52,11 +52,6 @@ IsOfDefinition e = is_of_definition e.name ≡ true
 abbrev pub AreOfDefinition : List Event → Type 0
 AreOfDefinition es = Each IsOfDefinition es
 
--- a name of a prefix is such: each name is tested
-pub prefix-name : (name : Name) → is_prefix name ≡ true → is_of_definition name ≡ true
-prefix-name n.Data h = refl
-prefix-name _ h = cc
-
 -- Resolvers pass them: none is of a heading or of a leaf of several lines, and none begins or ends a paragraph.
 
 not-own : (name : Name) → is_of_definition name ≡ true → is_own name ≡ false
@@ -78,7 +73,7 @@ paragraph-own _ h = refl
 
 -- Part by part.
 
-pub both : (xs ys : List Event) → AreOfDefinition xs → AreOfDefinition ys → AreOfDefinition (xs ++ ys)
+both : (xs ys : List Event) → AreOfDefinition xs → AreOfDefinition ys → AreOfDefinition (xs ++ ys)
 both xs ys h k = each-append IsOfDefinition xs ys h k
 
 white-names : (cells : List Cell) (p : Point) → AreOfDefinition (white_part cells p)

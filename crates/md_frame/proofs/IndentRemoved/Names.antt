@@ -9,15 +9,14 @@ use Rattle.md_engine.specs.declared.event.Name.{Name}
 use Rattle.md_engine.specs.declared.event.Name.TheVariants as n
 use Rattle.md_engine.specs.declared.event.Point.{Point}
 use Rattle.md_meaning.specs.Rest.{Rest, indent, lose}
-use Rattle.md_leaves.specs.Turned.{is_paragraph, is_underline}
 use Rattle.md_seam.specs.Events.Nested.{is_enter, pair}
 use Rattle.md_seam.specs.Substituted.{wanted}
 use Rattle.md_frame.specs.RestLine.{rest_line}
 use Rattle.md_frame.specs.LineColumns.{lost_line, part_over, past_columns}
 use Rattle.md_frame.specs.Resolving.{is_own}
 use Rattle.md_frame.proofs.ContentFacts.{NoContent, is_told}
+use Rattle.md_frame.proofs.LinedFacts.{AreLined, is_lined}
 use Rattle.md_frame.proofs.OutsideFacts.{AreOutside}
-use Rattle.md_frame.proofs.UnturnedFacts.{AreUnturned}
 
 -- An event of a part.
 
@@ -103,16 +102,14 @@ more-outside kind name x es e k = (rw (inside-own name e) (and-false (is_enter k
 pub inside-outside : (es : List Event) → AreInside es → AreOutside es
 inside-outside es all = all AreOutside tt more-outside
 
--- None is of a text or an underline.
+-- They may stand in a leaf of several lines.
 
-inside-passes : (name : Name) → is_inside name ≡ true →
-    cond (is_paragraph name) false (cond (is_underline name) false true) ≡ true
-inside-passes n.Paragraph e = absurd (cc)
-inside-passes n.HeadingSetextUnderline e = absurd (cc)
-inside-passes _ e = refl
+name-lined : (name : Name) → is_inside name ≡ true → is_lined name ≡ true
+name-lined n.SpaceOrTab e = refl
+name-lined _ e = cc
 
-pub inside-unturned : (es : List Event) → AreInside es → AreUnturned es
-inside-unturned es all = all AreUnturned tt (λ kind name x es e k. (inside-passes name e, k))
+pub inside-lined : (es : List Event) → AreInside es → AreLined es
+inside-lined es all = all AreLined tt (λ kind name x es e k. (name-lined name e, k))
 
 -- No content stands among them.
 

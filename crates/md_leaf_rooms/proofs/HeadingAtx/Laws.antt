@@ -28,7 +28,7 @@ use Rattle.md_leaf_rooms.proofs.HeadingAtx.Stands.{read-parts, unread-parts}
 use Rattle.md_leaf_rooms.proofs.HeadingAtx.Texts.{fill-title, heading-resolved, stands-title}
 use Rattle.md_leaf_rooms.proofs.HeadingAtx.Tiled.{heading-tiled}
 use Rattle.md_leaf_rooms.proofs.HeadingAtx.Trial.{trial-looked, trial-refused, trial-shrinks, trial-took}
-use Rattle.md_leaf_rooms.proofs.HeadingAtx.Names.{heading-unspanned, heading-unturned}
+use Rattle.md_leaf_rooms.proofs.HeadingAtx.Names.{heading-alone, heading-unjoined, heading-unspanned, heading-unturned}
 use Rattle.md_leaf_rooms.proofs.HeadingAtx.Words.{read-word, unread-word}
 use Rattle.md_frame.proofs.LeafFacts.{LeafFacts, LineAt}
 use Rattle.md_frame.proofs.LeafLaws.{LeafLaws}
@@ -115,9 +115,10 @@ heading-laws = record {
       λ ends options on r p es starts. heading-resolved (rest_line r) p (past_text (rest_line r) p) es
       (line-begins options r starts);
   own = λ options on. heading-own options;
-  outside = λ open_leaf options on r p starts. cc;
-  unturned_line = λ open_leaf options on r p starts lines. absurd (cc);
+  lined = λ open_leaf plain options on r p starts lines. absurd (cc);
   unturned = λ ends options on r p starts. heading-unturned (rest_line r) p;
   unspanned = λ ends options on r p starts. heading-unspanned (rest_line r) p;
+  unjoined = λ ends options on r p starts. heading-unjoined (rest_line r) p;
+  alone = λ ends options on r p starts. heading-alone (rest_line r) p;
   facts = λ ends options on. heading-facts options;
 }

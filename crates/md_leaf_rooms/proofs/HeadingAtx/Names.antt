@@ -1,5 +1,5 @@
 -- The names of the events of a heading: it is no leaf of several lines, no text and no underline, nor is any of its
--- parts.
+-- parts; and it holds no other block.
 use Rattle.std.proofs.Common.{◌≡◌, ℕ, ◌+◌, Bool, true, false, cond, List, [], ◌∷◌, ◌++◌, drop, length, refl, take}
 use Rattle.std.specs.Prelude.{Option, Some, None}
 use Rattle.md_engine.specs.declared.event.Event.{Event}
@@ -11,7 +11,8 @@ use Rattle.md_leaves.specs.HeadingTitle.{Title, front_len, line_runs, text_of, t
 use Rattle.md_seam.specs.declared.inline.Chunk.{Chunk}
 use Rattle.md_seam.specs.Events.Nested.{exit}
 use Rattle.md_seam.specs.Events.Places.{past_byte, past_text}
-use Rattle.md_leaf_rooms.specs.Leaf.HeadingAtx.{heading_leaf}
+use Rattle.md_leaf_rooms.specs.Leaf.HeadingAtx.{heading_around, heading_leaf}
+use Rattle.md_frame.proofs.ClosedFacts.{IsClosed, IsUnset, closed-around, heading-block}
 use Rattle.md_frame.proofs.EachEvent.{Each, each-append}
 use Rattle.md_leaf_rooms.proofs.HeadingAtx.Places.{text_end}
 use Rattle.md_frame.proofs.SpannedFacts.{AreUnspanned, IsUnspanned}
@@ -19,7 +20,6 @@ use Rattle.md_frame.proofs.UnturnedFacts.{AreUnturned, IsUnturned}
 
 -- what holds of an event of each of these names, whatever else it is
 record OfNames (P : Event → Type 0) : Type 0 where
-  heading : (e : Event) → e.name ≡ n.HeadingAtx → P e
   white : (e : Event) → e.name ≡ n.SpaceOrTab → P e
   hashes : (e : Event) → e.name ≡ n.HeadingAtxSequence → P e
   text : (e : Event) → e.name ≡ n.HeadingAtxText → P e
@@ -65,29 +65,54 @@ title-each P of line p =
     (text-each P of title.text))
     (runs-each P of Apart (drop (front_len line + length (text_of line)) line) (text_end line p))
 
-heading-each : (P : Event → Type 0) → OfNames P → (line : List ℕ) (p : Point) → Each P (heading_leaf.unread line p)
-heading-each P of line p = (
-  of.heading _ refl,
-  each-append P (unread_title (title_of line p)) (exit n.HeadingAtx (past_text line p) ∷ []) (title-each P of line p)
-      (of.heading _ refl, tt),
+-- and of the heading itself
+around-each : (P : Event → Type 0) → ((e : Event) → e.name ≡ n.HeadingAtx → P e) → (line : List ℕ) (p : Point)
+    (inside : List Event) → Each P inside → Each P (heading_around line p inside)
+around-each P around_it line p inside h = (
+  around_it _ refl,
+  each-append P inside (exit n.HeadingAtx (past_text line p) ∷ []) h (around_it _ refl, tt),
 )
 
-pub heading-unspanned : (line : List ℕ) (p : Point) → AreUnspanned (heading_leaf.unread line p)
-heading-unspanned = heading-each IsUnspanned
-    (record {
-      heading = λ e is. rw is refl;
-      white = λ e is. rw is refl;
-      hashes = λ e is. rw is refl;
-      text = λ e is. rw is refl;
-      chunk = λ e is. rw is refl;
-    })
+-- No line of a leaf of several begins or ends with them, as its states leave it, and once its text is set.
 
+unspanned-parts : OfNames IsUnspanned
+unspanned-parts = record {
+  white = λ e is. rw is refl;
+  hashes = λ e is. rw is refl;
+  text = λ e is. rw is refl;
+  chunk = λ e is. rw is refl;
+}
+
+pub heading-unjoined : (line : List ℕ) (p : Point) → AreUnspanned (heading_around line p (line_runs Apart line p))
+heading-unjoined line p =
+    around-each IsUnspanned (λ e is. rw is refl) line p (line_runs Apart line p)
+    (runs-each IsUnspanned unspanned-parts Apart line p)
+
+pub heading-unspanned : (line : List ℕ) (p : Point) → AreUnspanned (heading_leaf.unread line p)
+heading-unspanned line p =
+    around-each IsUnspanned (λ e is. rw is refl) line p (unread_title (title_of line p))
+    (title-each IsUnspanned unspanned-parts line p)
+
+-- None is of a text or an underline.
 pub heading-unturned : (line : List ℕ) (p : Point) → AreUnturned (heading_leaf.unread line p)
-heading-unturned = heading-each IsUnturned
+heading-unturned line p =
+    around-each IsUnturned (λ e is. rw is refl) line p (unread_title (title_of line p))
+    (title-each IsUnturned
     (record {
-      heading = λ e is. rw is refl;
       white = λ e is. rw is refl;
       hashes = λ e is. rw is refl;
       text = λ e is. rw is refl;
       chunk = λ e is. rw is refl;
-    })
+    }) line p)
+
+-- None in it is of another block.
+pub heading-alone : (line : List ℕ) (p : Point) → IsClosed (heading_around line p (line_runs Apart line p))
+heading-alone line p =
+    closed-around n.HeadingAtx heading-block p (past_text line p) (line_runs Apart line p)
+    (runs-each IsUnset
+    (record {
+      white = λ e is. rw is refl;
+      hashes = λ e is. rw is refl;
+      text = λ e is. rw is refl;
+      chunk = λ e is. rw is refl;
+    }) Apart line p)

@@ -3,11 +3,9 @@ use Rattle.std.proofs.Common.{◌≡◌, true, false, refl}
 use Rattle.md_engine.specs.declared.tokenizer.held_leaf.HeldLeaf.{HeldLeaf}
 use Rattle.md_engine.specs.declared.tokenizer.held_leaf.HeldLeaf.TheVariants as held_leaf
 use Rattle.md_leaves.specs.HeadingSetext.{is_text}
-use Rattle.md_frame.specs.RestLine.{rest_line}
 use Rattle.md_frame.specs.HeldLeaf.{has_lines, may_go_on}
 use Rattle.md_leaf_rooms.specs.Leaf.HeadingSetext.{setext_leaf}
 use Rattle.md_leaf_rooms.proofs.HeadingSetext.Kinds.{setext-fits, setext-starts}
-use Rattle.md_leaf_rooms.proofs.HeadingSetext.Line.{underline-outside}
 use Rattle.md_leaf_rooms.proofs.HeadingSetext.Runs.{setext-adds, setext-no_content, setext-own}
 use Rattle.md_leaf_rooms.proofs.HeadingSetext.Trial.{setext-looked, setext-refused, setext-shrinks, setext-took}
 use Rattle.md_frame.proofs.LeafLaws.{LeafLaws}
@@ -39,11 +37,12 @@ setext-laws = record {
   not_lazy = λ options on. (λ cells p. refl, λ r. refl);
   no_content = λ wants only. setext-no_content wants;
   own = λ options on cells p none. setext-own options on cells p;
-  outside = λ open_leaf options on r p starts. underline-outside (rest_line r) p;
-  unturned_line = λ open_leaf options on r p starts lines.
+  lined = λ open_leaf plain options on r p starts lines.
       absurd (text-alone on (setext-starts options on r starts).text lines);
   unturned = λ ends options on r p starts. absurd (cc);
   set = λ ends options on r p es starts. cc;
   unspanned = λ ends options on r p starts. absurd (cc);
+  unjoined = λ ends options on r p starts. absurd (cc);
+  alone = λ ends options on r p starts. absurd (cc);
   facts = λ ends options on bytes r p q starts at. absurd (cc);
 }

@@ -36,6 +36,7 @@ use Rattle.md_leaf_rooms.specs.Leaf.HeadingSetext.{setext_leaf, underline_line}
 use Rattle.md_frame.specs.MarkRuns.{Apart, mark_runs}
 use Rattle.md_frame.specs.Row.{blank_line}
 use Rattle.md_frame.proofs.BetweenFacts.{AreBetween, around-between, is_low, low-between}
+use Rattle.md_frame.proofs.ClosedFacts.{IsClosed, IsUnset, closed-around, underline-block}
 use Rattle.md_frame.proofs.EachEvent.{Each}
 use Rattle.md_leaf_rooms.proofs.HeadingSetext.Bytes.{underline-dark, underline-run}
 use Rattle.md_leaf_rooms.proofs.HeadingSetext.Kinds.{setext-starts, underline-first}
@@ -119,7 +120,14 @@ pub underline-unspanned : (line : List ℕ) (p : Point) → AreUnspanned (underl
 underline-unspanned line p =
     underline-each IsUnspanned (λ q. refl, λ q. refl) (λ q. refl, λ q. refl) (λ q. refl, λ q. refl) line p
 
--- and inside of it neither does the one that sets headings
+-- It holds no other block,
+pub underline-alone : (line : List ℕ) (p : Point) → IsClosed (underline_line line p)
+underline-alone line p =
+    closed-around n.HeadingSetextUnderline underline-block p (past_text line p) (underline_parts line p)
+    (runs-hold IsUnset n.HeadingSetextUnderlineSequence (λ q. refl, λ q. refl) (λ q. refl, λ q. refl) Apart
+    (first_byte (trim_start line)) line p)
+
+-- and inside of it the one that sets headings changes none
 pub underline-unturned : (line : List ℕ) (p : Point) → AreUnturned (underline_parts line p)
 underline-unturned line p =
     each-unturned (underline_parts line p)

@@ -10,7 +10,7 @@ use Rattle.md_leaf_rooms.proofs.ThematicBreak.Facts.{break-facts, break-set, bre
 use Rattle.md_leaf_rooms.proofs.ThematicBreak.Kinds.{break-fits}
 use Rattle.md_leaf_rooms.proofs.ThematicBreak.Runs.{break-adds, break-no_content, break-own}
 use Rattle.md_leaf_rooms.proofs.ThematicBreak.Trial.{break-looked, break-refused, break-shrinks, break-took}
-use Rattle.md_leaf_rooms.proofs.ThematicBreak.Unturned.{break-unturned}
+use Rattle.md_leaf_rooms.proofs.ThematicBreak.Unturned.{break-alone, break-unturned}
 use Rattle.md_leaf_rooms.specs.Leaf.ThematicBreak.{is_ruled}
 use Rattle.md_engine.specs.declared.configuration.ParseOptions.{ParseOptions}
 use Rattle.md_engine.specs.declared.tokenizer.held_leaf.HeldLeaf.{HeldLeaf}
@@ -41,10 +41,11 @@ break-laws = record {
   not_lazy = λ options on. (λ cells p. refl, λ r. refl);
   no_content = λ wants only options on. break-no_content wants options;
   own = λ options on cells p none. break-own options cells p;
-  outside = λ open_leaf options on r p starts. cc;
-  unturned_line = λ open_leaf options on r p starts lines. absurd (cc);
+  lined = λ open_leaf plain options on r p starts lines. absurd (cc);
   unturned = λ ends options on r p starts. break-unturned (rest_line r) p;
   unspanned = λ ends options on r p starts. break-unspanned (rest_line r) p;
+  unjoined = λ ends options on r p starts. break-unspanned (rest_line r) p;
+  alone = λ ends options on r p starts. break-alone (rest_line r) p;
   set = λ ends options on r p es starts. break-set (rest_line r) p es;
   facts = λ ends options on bytes r p q starts. break-facts options bytes r p q (ruled options on r starts);
 }

@@ -23,10 +23,10 @@ use Rattle.md_frame.specs.LineColumns.{rest_of}
 use Rattle.md_literal_rooms.proofs.CodeIndented.Parts.{code-inside}
 use Rattle.md_frame.proofs.ContentFacts.{NoContent, is_told}
 use Rattle.md_frame.proofs.EachEvent.{each-append}
-use Rattle.md_frame.proofs.IndentRemoved.Names.{AreInside, More, either-part, inside-no_content, inside-outside}
-use Rattle.md_frame.proofs.IndentRemoved.Names.{inside-unturned}
-use Rattle.md_frame.proofs.OutsideFacts.{AreOutside, IsOutside, outside-append}
-use Rattle.md_frame.proofs.UnturnedFacts.{AreUnturned, IsUnturned}
+use Rattle.md_frame.proofs.IndentRemoved.Names.{AreInside, More, either-part, inside-lined, inside-no_content}
+use Rattle.md_frame.proofs.IndentRemoved.Names.{inside-outside}
+use Rattle.md_frame.proofs.LinedFacts.{AreLined, IsLined}
+use Rattle.md_frame.proofs.OutsideFacts.{AreOutside, IsOutside}
 
 -- On a blank line whitespace stands, and a part of a leaf.
 blank-inside : (cells : List Cell) (p : Point) → AreInside (blank_adds cells p)
@@ -62,47 +62,27 @@ code_further-own options on cells p =
     either AreOutside (is_blank (line_bytes cells)) (blank_adds cells p) (line_adds begin cells p)
     (inside-outside (blank_adds cells p) (blank-inside cells p)) (line-own begin cells p refl)
 
-parts-outside : (r : Rest) (p q : Point) → AreOutside (code_parts r p q)
-parts-outside r p q = inside-outside (code_parts r p q) (code-inside r p q)
+-- Its names may stand in a leaf of several lines.
 
-line-outside : (begin : Event) (r : Rest) (p q : Point) → IsOutside begin → AreOutside (line_parts begin r p q)
-line-outside begin r p q is =
-    (is, outside-append (code_parts r p q) (exit n.CodeIndented q ∷ []) (parts-outside r p q) (refl, tt))
-
-pub code-outside : (options : ParseOptions) (on : HeldLeaf) (line : List ℕ) (p : Point) →
-    AreOutside (code_leaf.added options on line p)
-code-outside options on line p = line-outside (enter n.CodeIndented p) (rest_of p line) p (past_text line p) refl
-
-pub code_further-outside : (options : ParseOptions) (on : HeldLeaf) (line : List ℕ) (p : Point) →
-    AreOutside (code_further.added options on line p)
-code_further-outside options on line p =
-    let r : Rest = rest_of p line in
-    let q : Point = past_text line p in
-    let begin : Event = enter_link n.CodeIndented p further_link in
-    either AreOutside (is_blank r.bytes) (code_parts r p q) (line_parts begin r p q) (parts-outside r p q)
-    (line-outside begin r p q refl)
-
--- No part of it is a text or an underline.
-
-line-unturned : (begin : Event) (r : Rest) (p q : Point) → IsUnturned begin → AreUnturned (line_parts begin r p q)
-line-unturned begin r p q is = (
+line-lined : (begin : Event) (r : Rest) (p q : Point) → IsLined begin → AreLined (line_parts begin r p q)
+line-lined begin r p q is = (
   is,
-  each-append IsUnturned (code_parts r p q) (exit n.CodeIndented q ∷ [])
-      (inside-unturned (code_parts r p q) (code-inside r p q)) (refl, tt),
+  each-append IsLined (code_parts r p q) (exit n.CodeIndented q ∷ [])
+      (inside-lined (code_parts r p q) (code-inside r p q)) (refl, tt),
 )
 
-pub code-unturned : (options : ParseOptions) (on : HeldLeaf) (line : List ℕ) (p : Point) →
-    AreUnturned (code_leaf.added options on line p)
-code-unturned options on line p = line-unturned (enter n.CodeIndented p) (rest_of p line) p (past_text line p) refl
+pub code-lined : (options : ParseOptions) (on : HeldLeaf) (line : List ℕ) (p : Point) →
+    AreLined (code_leaf.added options on line p)
+code-lined options on line p = line-lined (enter n.CodeIndented p) (rest_of p line) p (past_text line p) refl
 
-pub code_further-unturned : (options : ParseOptions) (on : HeldLeaf) (line : List ℕ) (p : Point) →
-    AreUnturned (code_further.added options on line p)
-code_further-unturned options on line p =
+pub code_further-lined : (options : ParseOptions) (on : HeldLeaf) (line : List ℕ) (p : Point) →
+    AreLined (code_further.added options on line p)
+code_further-lined options on line p =
     let r : Rest = rest_of p line in
     let q : Point = past_text line p in
     let begin : Event = enter_link n.CodeIndented p further_link in
-    either AreUnturned (is_blank r.bytes) (code_parts r p q) (line_parts begin r p q)
-    (inside-unturned (code_parts r p q) (code-inside r p q)) (line-unturned begin r p q refl)
+    either AreLined (is_blank r.bytes) (code_parts r p q) (line_parts begin r p q)
+    (inside-lined (code_parts r p q) (code-inside r p q)) (line-lined begin r p q refl)
 
 -- No content stands in it, and its link is to none that is read later.
 

@@ -4,7 +4,7 @@ use Rattle.md_frame.specs.RestLine.{rest_line}
 use Rattle.md_literal_rooms.specs.Leaf.Fence.{fence_keeps, fence_leaf}
 use Rattle.md_literal_rooms.proofs.Fence.Adds.{fence-adds}
 use Rattle.md_literal_rooms.proofs.Fence.Cells.{fence-fits, fence-keeps}
-use Rattle.md_literal_rooms.proofs.Fence.Outside.{fence-lazy, fence-no_content, fence-outside, fence-own, fence-unturned}
+use Rattle.md_literal_rooms.proofs.Fence.Outside.{fence-lazy, fence-lined, fence-no_content, fence-own}
 use Rattle.md_literal_rooms.proofs.Fence.Trial.{fence-looked, fence-took, trial-refused, trial-shrinks}
 use Rattle.md_frame.proofs.LeafLaws.{LeafLaws}
 
@@ -26,10 +26,11 @@ fence-laws = record {
   no_content = λ wants only options on cells p.
       fence-no_content wants only.string options (fence_keeps options cells p) cells p;
   own = λ options on cells p none. fence-own options (fence_keeps options cells p) cells p;
-  outside = λ open_leaf options on r p starts. fence-outside (rest_line r) p;
-  unturned_line = λ open_leaf options on r p starts lines. fence-unturned (rest_line r) p;
+  lined = λ open_leaf plain options on r p starts lines. fence-lined (rest_line r) p;
   unturned = λ ends options on r p starts. absurd (cc);
   set = λ ends options on r p es starts. cc;
   unspanned = λ ends options on r p starts. absurd (cc);
+  unjoined = λ ends options on r p starts. absurd (cc);
+  alone = λ ends options on r p starts. absurd (cc);
   facts = λ ends options on bytes r p q starts at. absurd (cc);
 }

@@ -11,7 +11,6 @@ use Rattle.md_engine.specs.declared.event.Point.{Point}
 use Rattle.md_engine.specs.declared.tokenizer.held_leaf.HeldLeaf.{HeldLeaf}
 use Rattle.md_engine.specs.declared.tokenizer.held_leaf.HeldLeaf.TheVariants as held_leaf
 use Rattle.md_engine.specs.Meaning.{Cell}
-use Rattle.md_leaves.specs.Turned.{is_paragraph, is_underline}
 use Rattle.md_code.specs.FenceLine.{fence_adds, fence_opened, is_opening, marker_at}
 use Rattle.md_code.specs.FenceRule.{run_size}
 use Rattle.md_code.specs.Fence.{is_on}
@@ -24,8 +23,8 @@ use Rattle.md_frame.specs.Resolving.{is_own}
 use Rattle.md_frame.proofs.ContentFacts.{NoContent, is_told}
 use Rattle.md_frame.proofs.EachEvent.{Each}
 use Rattle.md_literal_rooms.proofs.Fence.Each.{adds-each, is_block_name, is_fence_name, line-each}
+use Rattle.md_frame.proofs.LinedFacts.{AreLined, IsLined, is_lined}
 use Rattle.md_frame.proofs.OutsideFacts.{AreOutside, IsOutside}
-use Rattle.md_frame.proofs.UnturnedFacts.{AreUnturned, IsUnturned}
 
 -- Its names.
 
@@ -55,29 +54,20 @@ fence-own options leaf cells p =
     adds-each IsOutside (λ name is q. (name-own name is, refl)) (λ name is q. (block-own name is, refl))
     (λ q. (refl, refl)) options leaf cells p
 
-pub fence-outside : (line : List ℕ) (p : Point) → AreOutside (fence_line linked line p)
-fence-outside line p =
-    line-each IsOutside (λ name is q. (name-own name is, refl)) (λ name is q. (block-own name is, refl)) linked
-    (λ p q. (refl, (refl, tt))) line p
+-- Its names may stand in a leaf of several lines.
 
--- No part of it is a text or an underline.
+name-lined : (name : Name) → is_fence_name name ≡ true → is_lined name ≡ true
+name-lined n.SpaceOrTab e = refl
+name-lined _ e = cc
 
-name-unturned : (name : Name) → is_fence_name name ≡ true →
-    cond (is_paragraph name) false (cond (is_underline name) false true) ≡ true
-name-unturned n.Paragraph e = cc
-name-unturned n.HeadingSetextUnderline e = cc
-name-unturned _ e = refl
+block-lined : (name : Name) → is_block_name name ≡ true → is_lined name ≡ true
+block-lined n.CodeFenced e = refl
+block-lined _ e = cc
 
-block-unturned : (name : Name) → is_block_name name ≡ true →
-    cond (is_paragraph name) false (cond (is_underline name) false true) ≡ true
-block-unturned n.Paragraph e = cc
-block-unturned n.HeadingSetextUnderline e = cc
-block-unturned _ e = refl
-
-pub fence-unturned : (line : List ℕ) (p : Point) → AreUnturned (fence_line linked line p)
-fence-unturned line p =
-    line-each IsUnturned (λ name is q. (name-unturned name is, name-unturned name is))
-    (λ name is q. (block-unturned name is, block-unturned name is)) linked (λ p q. (refl, (refl, tt))) line p
+pub fence-lined : (line : List ℕ) (p : Point) → AreLined (fence_line linked line p)
+fence-lined line p =
+    line-each IsLined (λ name is q. (name-lined name is, name-lined name is))
+    (λ name is q. (block-lined name is, block-lined name is)) linked (λ p q. (refl, (refl, tt))) line p
 
 -- No content stands in it.
 

@@ -13,7 +13,6 @@ use Rattle.md_engine.specs.declared.tokenizer.held_leaf.HeldLeaf.{HeldLeaf}
 use Rattle.md_engine.specs.Meaning.{Cell}
 use Rattle.md_meaning.specs.Leaves.{closes}
 use Rattle.md_meaning.specs.Rest.{Rest, indent, run_len, trim_start}
-use Rattle.md_leaves.specs.Turned.{is_paragraph, is_underline}
 use Rattle.md_code.specs.Fence.{block_name, chunk_name, fence_name, held_indent, held_marker, sequence_name}
 use Rattle.md_code.specs.FenceLine.{chunk_events, closes_here, closing_end, closing_events, further_inside, spaces}
 use Rattle.md_code.specs.FenceRule.{is_end, is_line, run_end, run_rest}
@@ -29,10 +28,10 @@ use Rattle.md_frame.specs.Resolving.{is_own}
 use Rattle.md_frame.proofs.ContentFacts.{NoContent, is_told}
 use Rattle.md_frame.proofs.IndentRemoved.Names.{is_inside}
 use Rattle.md_frame.proofs.EachEvent.{each-append}
-use Rattle.md_frame.proofs.IndentRemoved.Names.{AreInside, More, either-part, inside-outside, inside-unturned}
+use Rattle.md_frame.proofs.IndentRemoved.Names.{AreInside, More, either-part, inside-lined}
 use Rattle.md_frame.proofs.IndentRemoved.Names.{lost-each, more-no_content, more-outside, over-each}
-use Rattle.md_frame.proofs.OutsideFacts.{AreOutside, NoEnds, outside-append}
-use Rattle.md_frame.proofs.UnturnedFacts.{AreUnturned, IsUnturned}
+use Rattle.md_frame.proofs.LinedFacts.{AreLined, IsLined, is_lined}
+use Rattle.md_frame.proofs.OutsideFacts.{AreOutside, NoEnds}
 
 pub either-name : (P : Name → Type 0) (x : Bool) (a b : Name) → P a → P b → P (cond x a b)
 either-name P true a b h k = h
@@ -150,31 +149,19 @@ further-own options on cells p h = (
   inside-each AreOutside more-outside options on cells p _ (refl, tt),
 )
 
-pub further-outside : (options : ParseOptions) (on : HeldLeaf) (line : List ℕ) (p : Point) →
-    AreOutside (fence_further.added options on line p)
-further-outside options on line p =
+-- Its names may stand in a leaf of several lines.
+
+block-lined : (m : ℕ) → is_lined (block_name m) ≡ true
+block-lined m = either-name (λ a. is_lined a ≡ true) (m == 36) _ _ refl refl
+
+pub further-lined : (options : ParseOptions) (on : HeldLeaf) (line : List ℕ) (p : Point) →
+    AreLined (fence_further.added options on line p)
+further-lined options on line p =
     let q : Point = past_text line p in
     let parts : List Event = further_parts options on (rest_of p line) p q in (
-      block-own (held_marker on),
-      outside-append parts (exit (block_name (held_marker on)) q ∷ [])
-          (inside-outside parts (parts-inside options on (rest_of p line) p q)) (refl, tt),
-    )
-
--- No part of it is a text or an underline.
-
-block-unturned : (m : ℕ) →
-    cond (is_paragraph (block_name m)) false (cond (is_underline (block_name m)) false true) ≡ true
-block-unturned m =
-    either-name (λ a. cond (is_paragraph a) false (cond (is_underline a) false true) ≡ true) (m == 36) _ _ refl refl
-
-pub further-unturned : (options : ParseOptions) (on : HeldLeaf) (line : List ℕ) (p : Point) →
-    AreUnturned (fence_further.added options on line p)
-further-unturned options on line p =
-    let q : Point = past_text line p in
-    let parts : List Event = further_parts options on (rest_of p line) p q in (
-      block-unturned (held_marker on),
-      each-append IsUnturned parts (exit (block_name (held_marker on)) q ∷ [])
-          (inside-unturned parts (parts-inside options on (rest_of p line) p q)) (block-unturned (held_marker on), tt),
+      block-lined (held_marker on),
+      each-append IsLined parts (exit (block_name (held_marker on)) q ∷ [])
+          (inside-lined parts (parts-inside options on (rest_of p line) p q)) (block-lined (held_marker on), tt),
     )
 
 -- It holds no content, and its link is to none that is read later.

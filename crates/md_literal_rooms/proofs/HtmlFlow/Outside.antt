@@ -16,8 +16,8 @@ use Rattle.md_seam.specs.Events.Nested.{around, enter_link, exit, pair}
 use Rattle.md_seam.specs.Events.Places.{past_text}
 use Rattle.md_literal_rooms.specs.Leaf.HtmlFlow.{html_further, html_leaf}
 use Rattle.md_frame.proofs.ContentFacts.{NoContent}
+use Rattle.md_frame.proofs.LinedFacts.{AreLined}
 use Rattle.md_frame.proofs.OutsideFacts.{AreOutside}
-use Rattle.md_frame.proofs.UnturnedFacts.{AreUnturned}
 
 -- A first line between two points, and a further one, by whether it is empty.
 
@@ -45,27 +45,19 @@ pub further-own : (options : ParseOptions) (on : HeldLeaf) (cells : List Cell) (
     AreOutside (html_further.adds options on cells p)
 further-own options on cells p = line-outside (is_end (line_bytes cells)) p (line_end cells p)
 
-pub html-outside : (options : ParseOptions) (on : HeldLeaf) (line : List ℕ) (p : Point) →
-    AreOutside (html_leaf.added options on line p)
-html-outside options on line p = first-outside p (past_text line p)
+-- Their names may stand in a leaf of several lines.
 
-pub further-outside : (options : ParseOptions) (on : HeldLeaf) (line : List ℕ) (p : Point) →
-    AreOutside (html_further.added options on line p)
-further-outside options on line p = line-outside (is_end line) p (past_text line p)
+pub html-lined : (options : ParseOptions) (on : HeldLeaf) (line : List ℕ) (p : Point) →
+    AreLined (html_leaf.added options on line p)
+html-lined options on line p = (refl, (refl, (refl, (refl, tt))))
 
--- No part of them is a text or an underline.
+line-lined : (empty : Bool) (p q : Point) → AreLined (further_line empty p q)
+line-lined true p q = (refl, (refl, tt))
+line-lined false p q = (refl, (refl, (refl, (refl, tt))))
 
-pub html-unturned : (options : ParseOptions) (on : HeldLeaf) (line : List ℕ) (p : Point) →
-    AreUnturned (html_leaf.added options on line p)
-html-unturned options on line p = (refl, (refl, (refl, (refl, tt))))
-
-line-unturned : (empty : Bool) (p q : Point) → AreUnturned (further_line empty p q)
-line-unturned true p q = (refl, (refl, tt))
-line-unturned false p q = (refl, (refl, (refl, (refl, tt))))
-
-pub further-unturned : (options : ParseOptions) (on : HeldLeaf) (line : List ℕ) (p : Point) →
-    AreUnturned (html_further.added options on line p)
-further-unturned options on line p = line-unturned (is_end line) p (past_text line p)
+pub further-lined : (options : ParseOptions) (on : HeldLeaf) (line : List ℕ) (p : Point) →
+    AreLined (html_further.added options on line p)
+further-lined options on line p = line-lined (is_end line) p (past_text line p)
 
 -- No content stands in them, and the link is to none that is read later.
 

@@ -27,7 +27,7 @@ use Rattle.md_frame.proofs.EachEvent.{Each, each-append}
 use Rattle.md_frame.proofs.MarkRuns.Each.{Holds, IsNoContent, each-no_content}
 use Rattle.md_frame.proofs.OutsideFacts.{AreOutside, IsOutside}
 use Rattle.md_frame.proofs.SpanLemmas.{either}
-use Rattle.md_frame.proofs.UnturnedFacts.{AreUnturned, IsUnturned}
+use Rattle.md_frame.proofs.UnturnedFacts.{IsUnturned}
 
 -- A fact that holds of the begins and the ends of the parts of a row,
 pub record OfRow (P : Event → Type 0) : Type 0 where
@@ -184,10 +184,6 @@ pub table-own : (options : ParseOptions) (on : HeldLeaf) (cells : List Cell) (p 
     AreOutside (table_leaf.adds options on cells p)
 table-own options on cells p = table-adds_each IsOutside of-outside options on cells p
 
-pub table-outside : (options : ParseOptions) (on : HeldLeaf) (line : List ℕ) (p : Point) →
-    AreOutside (table_leaf.added options on line p)
-table-outside options on line p = table-added_each IsOutside of-outside options on line p
-
 -- none is a text or an underline,
 pub of-unturned : OfTable IsUnturned
 of-unturned = record {
@@ -204,10 +200,6 @@ of-unturned = record {
     space = (λ q. refl, λ q. refl);
   };
 }
-
-pub table-unturned : (options : ParseOptions) (on : HeldLeaf) (line : List ℕ) (p : Point) →
-    AreUnturned (table_leaf.added options on line p)
-table-unturned options on line p = table-added_each IsUnturned of-unturned options on line p
 
 -- and no content stands in it: its words are texts, and it is linked to the line in front.
 pub of-no_content : (wants : Content → Bool) → WantsContent wants → OfTable (IsNoContent wants)

@@ -12,13 +12,12 @@ use Rattle.md_tables.specs.GfmTableLine.{head_line, row_runs}
 use Rattle.md_tables.specs.RowRule.{Apart}
 use Rattle.md_frame.proofs.EachEvent.{Each, each-append}
 use Rattle.md_frame.proofs.ContentFacts.{NoContent, WantsContent}
-use Rattle.md_table_rooms.proofs.GfmTable.Each.{OfRow, of-no_content, of-outside, of-unturned, row-bytes}
+use Rattle.md_table_rooms.proofs.GfmTable.Each.{OfRow, of-no_content, of-outside, row-bytes}
 use Rattle.md_table_rooms.proofs.GfmTable.Span.{IsNoLine, each-no_lines, of-no_line}
 use Rattle.md_frame.proofs.MarkRuns.Each.{IsNoContent, each-no_content}
 use Rattle.md_frame.proofs.OutsideFacts.{AreOutside, IsOutside}
 use Rattle.md_frame.proofs.SpanLaws.{IsSpanned}
 use Rattle.md_frame.proofs.SpannedFacts.{AreUnspanned}
-use Rattle.md_frame.proofs.UnturnedFacts.{AreUnturned, IsUnturned}
 
 -- its row
 abbrev row_events : List ℕ → Point → List Event
@@ -34,7 +33,7 @@ row-each P of line p =
     )
 
 -- and the table around it
-head-each : (P : Event → Type 0) → OfRow P → ((p : Point) → P (enter n.GfmTable p)) →
+pub head-each : (P : Event → Type 0) → OfRow P → ((p : Point) → P (enter n.GfmTable p)) →
     ((p : Point) → P (exit n.GfmTable p)) → (line : List ℕ) (p : Point) → Each P (head_line line p)
 head-each P of begins ends line p =
     let q : Point = past_text line p in (
@@ -42,13 +41,10 @@ head-each P of begins ends line p =
       each-append P (row_events line p) (exit n.GfmTable q ∷ []) (row-each P of line p) (ends q, tt),
     )
 
--- No part of it is rewritten, and none is a text or an underline.
+-- No part of it is rewritten.
 
 pub head-outside : (line : List ℕ) (p : Point) → AreOutside (head_line line p)
 head-outside line p = head-each IsOutside of-outside.of (λ q. refl) (λ q. refl) line p
-
-pub head-unturned : (line : List ℕ) (p : Point) → AreUnturned (head_line line p)
-head-unturned line p = head-each IsUnturned of-unturned.of (λ q. refl) (λ q. refl) line p
 
 -- Nor does content stand in it.
 pub head-no_content : (wants : Content → Bool) → WantsContent wants → (line : List ℕ) (p : Point) →

@@ -1,9 +1,8 @@
 -- The laws of a line of a table, as the frame asks for them.
 use Rattle.std.proofs.Common.{refl}
-use Rattle.md_frame.specs.RestLine.{rest_line}
 use Rattle.md_table_rooms.specs.Leaf.GfmTable.{table_leaf}
 use Rattle.md_table_rooms.proofs.GfmTable.Cells.{table-adds, table-fits}
-use Rattle.md_table_rooms.proofs.GfmTable.Each.{table-no_content, table-outside, table-own, table-unturned}
+use Rattle.md_table_rooms.proofs.GfmTable.Each.{table-no_content, table-own}
 use Rattle.md_table_rooms.proofs.GfmTable.Found.{table-held, table-lines}
 use Rattle.md_table_rooms.proofs.GfmTable.Trial.{table-refused, table-shrinks, table-took}
 use Rattle.md_tables.proofs.GfmTableLook.{table-looked}
@@ -26,10 +25,11 @@ table-laws = record {
   not_lazy = λ options on. (λ cells p. refl, λ r. refl);
   no_content = table-no_content;
   own = λ options on cells p none. table-own options on cells p;
-  outside = λ stays options on r p starts. table-outside options on (rest_line r) p;
-  unturned_line = λ stays options on r p starts lines. table-unturned options on (rest_line r) p;
+  lined = λ stays plain options on r p starts lines. absurd (cc);
   unturned = λ ends options on r p starts. absurd (cc);
   set = λ ends options on r p es starts. cc;
   unspanned = λ ends options on r p starts. absurd (cc);
+  unjoined = λ ends options on r p starts. absurd (cc);
+  alone = λ ends options on r p starts. absurd (cc);
   facts = λ ends options on bytes r p q starts is. absurd (cc);
 }

@@ -146,7 +146,7 @@ head-begins line p =
 one-by-one : (a b c d e : List Event) → (a ++ ((b ++ c) ++ d)) ++ e ≡ a ++ (b ++ (c ++ (d ++ e)))
 one-by-one a b c d e = simp append_assoc
 
-table-joined : (bytes : List ℕ) (row next : Row) (rows : List Row) → IsTable bytes row next rows →
+pub table-joined : (bytes : List ℕ) (row next : Row) (rows : List Row) → IsTable bytes row next rows →
     span_by inside_of (headed_row bytes row) (next ∷ rows) ≡ table_read (table_of bytes row next rows)
 table-joined bytes row next rows is =
     let own = delimiter-line bytes row next rows is in
