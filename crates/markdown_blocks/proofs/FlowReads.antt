@@ -38,7 +38,7 @@ use Rattle.markdown_blocks.specs.FlowReads.{FlowReads, has_text}
 use Rattle.md_rows.specs.TextRows.{text_cells, text_rows, text_setting}
 use Rattle.md_frame.specs.Resolved.{resolved_as}
 use Rattle.md_registry.specs.FlowRule.{flow_at}
-use Rattle.md_frame.specs.Resolving.{heads_read, is_own, resolved, resolver}
+use Rattle.md_frame.specs.Resolving.{heads_read, resolved}
 use Rattle.md_frame.specs.Row.{BlankRow, LeafRow, Row, RowKind, TextRow}
 use Rattle.md_rows.specs.Rows.{is_text, leaf_events, row_events}
 use Rattle.md_rows.specs.Rows.{row_events_by, rows_events, tail_events}
@@ -50,12 +50,11 @@ use Rattle.md_rows.proofs.FlowRows.{flow_at-rows}
 use Rattle.markdown_blocks.proofs.FlowRuns.{flow_flush, flow_outcome, flow_push}
 use Rattle.md_frame.proofs.ContentFacts.{content-alone, no_content-label, nothing as nothing_wanted}
 use Rattle.md_frame.proofs.ContentFacts.{nothing-wanted}
-use Rattle.markdown_blocks.proofs.FlowSteps.{IsFramed, content-same, reading-outside, rows-no_content, rows-outside}
+use Rattle.markdown_blocks.proofs.FlowSteps.{IsFramed, content-same, rows-no_content}
 use Rattle.markdown_blocks.proofs.FlowSteps.{rows_at-framed}
-use Rattle.md_table_rooms.proofs.HeadsRead.{heads-none, heads-outside}
+use Rattle.md_table_rooms.proofs.HeadsRead.{heads-none}
 use Rattle.md_rows.proofs.JoinedLemmas.{EachNoContent, rows_at-no_content}
-use Rattle.md_frame.proofs.OutsideFacts.{AreOutside, IsNoEnd, NoEnds}
-use Rattle.md_rows.proofs.OutsideLemmas.{outside-same}
+use Rattle.md_frame.proofs.OutsideFacts.{IsNoEnd, NoEnds}
 use Rattle.md_frame.proofs.Registers.{Registers, goes-back, named, none-yet}
 use Rattle.markdown_blocks.proofs.StandsLemmas.{flow-ran}
 use Rattle.markdown_blocks.proofs.LinesFed.{text-follows_it}
@@ -136,15 +135,9 @@ abbrev RanIf : Resolution → ResolveName → Bool → World → Found → Found
 RanIf R name true at was found new = RanOnce R name at was found new
 RanIf R name false at was found new = (found ≡ was) × (new ≡ at)
 
--- each of the two ran that was registered
-record Ran (R : Resolution) (content own : Bool) (w : World) (found : Found) (new : World) : Type 0 where
-  mid : World
-  mid_found : Found
-  reads : RanIf R r.Content content w nothing mid_found mid
-  sets : RanIf R resolver own mid mid_found found new
-
+-- so ran the resolver of content, which alone may be registered
 resolved-content : (R : Resolution) (w : World) (b : Bool) (names : List ResolveName) (found : Found) (new : World) →
-    Resolved R w names found new → names ≡ named b false → RanIf R r.Content b w nothing found new
+    Resolved R w names found new → names ≡ named b → RanIf R r.Content b w nothing found new
 resolved-content R w true names found new h e =
     let last = resolved-last R w names found new h [] r.Content e in
     let none = resolved-none R w [] last.mid_found last.mid last.before refl in
@@ -155,23 +148,6 @@ resolved-content R w true names found new h e =
       found_is = last.found_is ∙ ap (λ (x : Found). with_found x last.more) none.0;
     }
 resolved-content R w false names found new h e = resolved-none R w names found new h e
-
-own-last : (b : Bool) → named b true ≡ named b false ++ resolver ∷ []
-own-last true = refl
-own-last false = refl
-
-resolved-named : (R : Resolution) (w : World) (b c : Bool) (names : List ResolveName) (found : Found) (new : World) →
-    Resolved R w names found new → names ≡ named b c → Ran R b c w found new
-resolved-named R w b true names found new h e =
-    let last = resolved-last R w names found new h (named b false) resolver (e ∙ own-last b) in
-    record {
-      mid = last.mid;
-      mid_found = last.mid_found;
-      reads = resolved-content R w b (named b false) last.mid_found last.mid last.before refl;
-      sets = record { more = last.more; resolved = last.resolved; found_is = last.found_is };
-    }
-resolved-named R w b false names found new h e =
-    record { mid = new; mid_found = found; reads = resolved-content R w b names found new h e; sets = (refl, refl) }
 
 -- Lines without the end of content have no text.
 
@@ -197,7 +173,7 @@ no-text (row ∷ rows) o =
     other (LeafRow l) h = refl
     other TextRow h = absurd (h refl)
 
--- The steps behind the states, whether each resolver ran or not.
+-- The step behind the states, whether the resolver of content ran or not.
 
 -- lines of text that are heads are read again, and then content is read
 record ContentRead (bytes : List ℕ) (options : ParseOptions) (rows : List Row) (at : World) (found : Found)
@@ -262,13 +238,6 @@ content-step bytes options rows false at found new framed quiet events text set 
           ∙ ap (labels_in bytes) (sym same);
       footnotes = ap (λ (x : Found). x.footnotes) h.0;
     }
-
--- and what is the registry's own is set
-own-step : (b : Bool) (at : World) (was found : Found) (new : World) → (b ≡ false → AreOutside at.events) →
-    RanIf resolved_as resolver b at was found new → (found ≡ was) × (new ≡ record at { events = resolved at.events })
-own-step true at was found new outside h = (h.found_is ∙ ap (with_found was) h.resolved.0, h.resolved.1)
-own-step false at was found new outside h =
-    (h.0, h.1 ∙ ap (λ (l : List Event). record at { events = l }) (sym (outside-same at.events (outside refl))))
 
 -- no resolver begins or leaves an attempt
 step-frames : (name : ResolveName) (old : World) (found : Option Found) (new : World) →
@@ -382,25 +351,41 @@ flow-pushed bytes options p end at found items small run f =
     setting : f.at.setting ≡ text_setting bytes options p
     setting = runs-setting FlowStep true end at f.end f.at f.runs ∙ kept
 
--- what flow has read of a text from a point on, once all of it was pushed and flushed, setext headings were set, the
--- lines of leaves were joined, tables got their cells, and lists were put around items
-pub flow-reads : (bytes : List ℕ) (options : ParseOptions) (p : Point) (end : State) (at : World) (found : Found)
-    (items lines : World) (more : Option Found) (new : World) →
+-- What flow has read of a text from a point on, once all of it was pushed and flushed: its content is read, and nothing
+-- else is set yet.
+pub record FlowFlushed (bytes : List ℕ) (options : ParseOptions) (p : Point) (found : Found)
+    (new : World) : Type 0 where
+  pub end : State
+  pub ended : World
+  pub ran : FlowRan bytes options p end ended
+  pub events : ended.events ≡ rows_events (text_rows options bytes p)
+  pub content : List Event
+  pub content_read : Substituted wants_content (content_readings bytes options) [] 0
+      (joined (heads_read options bytes (rows_events (text_rows options bytes p)))) content
+  pub events_are : new.events ≡ content
+  pub rest : new ≡ record ended { events = content; resolvers = [] }
+  pub setting : new.setting ≡ text_setting bytes options p
+  pub frames : new.frames ≡ []
+  pub found_is : ((has_text (text_rows options bytes p) ≡ false) × (found ≡ nothing)) ⊎
+      (found ≡ found_in_content bytes content)
+  pub definitions : found.definitions ≡ labels_in bytes content
+  pub footnotes : found.footnotes ≡ []
+
+pub flow-flushed : (bytes : List ℕ) (options : ParseOptions) (p : Point) (end : State) (at : World) (found : Found)
+    (new : World) →
     length bytes < 2 ^ 61 →
     Runs FlowStep false (Next (s.Document document.ContainerExistingBefore))
     (reads_to (fresh bytes options p) (length bytes)) end at →
-    Flushes FlowStep resolved_as end at true found items →
-    lines ≡ record items { events = tables_set options (lines_joined options (turned items.events)) } →
-    resolved_as r.ListItem lines more new →
-    FlowReads bytes options p found new
-flow-reads bytes options p end at found items lines more new small run f joining listing =
+    Flushes FlowStep resolved_as end at true found new →
+    FlowFlushed bytes options p found new
+flow-flushed bytes options p end at found new small run f =
     go
     (runs-register true end at
     (runs-register false (Next (s.Document document.ContainerExistingBefore))
     (reads_to (fresh bytes options p) (length bytes)) none-yet end at run) f.end f.at f.runs)
   where
     pushed : IsPushed bytes options p f.end f.at
-    pushed = flow-pushed bytes options p end at found items small run f
+    pushed = flow-pushed bytes options p end at found new small run f
 
     rows : List Row
     rows = text_rows options bytes p
@@ -415,71 +400,77 @@ flow-reads bytes options p end at found items lines more new small run f joining
         rows_at-framed options (suc (length (text_cells bytes options p))) [] held_leaf.None
         (text_cells bytes options p) p
 
-    go : Registers f.at → FlowReads bytes options p found new
+    go : Registers f.at → FlowFlushed bytes options p found new
     go registers =
         let w : World = record f.at { resolvers = [] } in
-        let ran = resolved-named resolved_as w registers.content registers.own f.at.resolvers found items f.resolved
-        registers.names_are in
         let P : List Event → Type 0 = λ es. NoEnds is_content es in
-        let Q : List Event → Type 0 = λ es. NoEnds is_own es in
-        let read : ContentRead bytes options rows w ran.mid_found ran.mid =
-        content-step bytes options rows registers.content w ran.mid_found ran.mid framed quiet pushed.events
+        let read : ContentRead bytes options rows w found new =
+        content-step bytes options rows registers.content w found new framed quiet pushed.events
         (ap (λ (x : Setting). x.bytes) pushed.setting) (ap (λ (x : Setting). x.options) pushed.setting)
-        (λ e. subst P pushed.events (registers.no_content e)) ran.reads in
-        let set : (found ≡ ran.mid_found) × (items ≡ record ran.mid { events = resolved ran.mid.events }) =
-        own-step registers.own ran.mid ran.mid_found found items
-        (λ e.
-        reading-outside bytes options (heads_read options bytes (rows_events rows)) ran.mid.events
-        (heads-outside options bytes (rows_events rows)
-        (rows-outside rows framed (subst Q pushed.events (registers.no_own e)))) read.read) ran.sets in
-        let before : items ≡ record w { events = resolved ran.mid.events } = set.1
-        ∙ ap (λ (x : World). record x { events = resolved ran.mid.events }) read.rest in
-        let put : List Event → List Event = λ es. tables_set options (lines_joined options (turned es)) in
-        let joined_up : lines ≡ record w { events = put (resolved ran.mid.events) } = joining
-        ∙ ap (λ (x : World). record x { events = put x.events }) before in
-        let text : lines.setting.bytes ≡ bytes = ap (λ (x : World). x.setting.bytes) joined_up
-        ∙ ap (λ (x : Setting). x.bytes) pushed.setting in
-        let all : new ≡
-        record w { events = listed bytes (put (resolved ran.mid.events)) } = listing.1
-        ∙ ap (λ (x : World). record x { events = listed lines.setting.bytes x.events }) joined_up
-        ∙ ap (λ (l : List ℕ). record w { events = listed l (put (resolved ran.mid.events)) }) text in
-        let is : new.events ≡ listed bytes (put (resolved ran.mid.events)) =
-        ap (λ (x : World). x.events) all in
-        let F : Found →
-        Type 0 = λ x. ((has_text rows ≡ false) × (x ≡ nothing)) ⊎ (x ≡ found_in_content bytes ran.mid.events) in
+        (λ e. subst P pushed.events (registers.no_content e))
+        (resolved-content resolved_as w registers.content f.at.resolvers found new f.resolved registers.names_are) in
         record {
           end = f.end;
           ended = f.at;
           ran = pushed.ran;
           events = pushed.events;
-          content = ran.mid.events;
+          content = new.events;
           content_read = read.read;
-          events_are = is;
-          rest = all ∙ ap (λ (l : List Event). record w { events = l }) (sym is);
-          setting = ap (λ (x : World). x.setting) all ∙ pushed.setting;
-          frames = ap (λ (x : World). x.frames) all ∙ f.none_left;
-          found_is = subst F (sym set.0) read.found_is;
-          definitions = ap (λ (x : Found). x.definitions) set.0 ∙ read.definitions;
-          footnotes = ap (λ (x : Found). x.footnotes) set.0 ∙ read.footnotes;
+          events_are = refl;
+          rest = read.rest;
+          setting = ap (λ (x : World). x.setting) read.rest ∙ pushed.setting;
+          frames = ap (λ (x : World). x.frames) read.rest ∙ f.none_left;
+          found_is = read.found_is;
+          definitions = read.definitions;
+          footnotes = read.footnotes;
         }
 
 -- the same for a tokenizer that is known to be fresh
-pub flow-reads-from : (bytes : List ℕ) (options : ParseOptions) (p : Point)
-    (start : World) (to : ℕ) (end : State) (at : World) (found : Found) (items lines : World) (more : Option Found)
-    (new : World) →
+pub flow-flushed-from : (bytes : List ℕ) (options : ParseOptions) (p : Point)
+    (start : World) (to : ℕ) (end : State) (at : World) (found : Found) (new : World) →
     start ≡ fresh bytes options p → to ≡ length bytes →
     length bytes < 2 ^ 61 →
     Runs FlowStep false (Next (s.Document document.ContainerExistingBefore)) (reads_to start to) end at →
-    Flushes FlowStep resolved_as end at true found items →
-    lines ≡ record items { events = tables_set options (lines_joined options (turned items.events)) } →
-    resolved_as r.ListItem lines more new →
-    FlowReads bytes options p found new
-flow-reads-from bytes options p start to end at found items lines more new same all small run f joining listing =
+    Flushes FlowStep resolved_as end at true found new →
+    FlowFlushed bytes options p found new
+flow-flushed-from bytes options p start to end at found new same all small run f =
     let P : World →
     Type 0 = λ w. Runs FlowStep false (Next (s.Document document.ContainerExistingBefore))
     (reads_to w (length bytes)) end at in
     let Q : ℕ →
     Type 0 = λ n. Runs FlowStep false (Next (s.Document document.ContainerExistingBefore))
     (reads_to start n) end at in
-    flow-reads bytes options p end at found items lines more new small
-    (subst P same (subst Q all run)) f joining listing
+    flow-flushed bytes options p end at found new small (subst P same (subst Q all run)) f
+
+-- and once ATX headings have their texts, setext headings are set, the lines of leaves are joined, tables have their
+-- cells, and lists are put around items
+pub flow-reads : (bytes : List ℕ) (options : ParseOptions) (p : Point) (found : Found) (items new : World) →
+    FlowFlushed bytes options p found items →
+    new ≡
+    record items {
+      events = listed items.setting.bytes (tables_set options (lines_joined options (turned (resolved items.events))));
+    } →
+    FlowReads bytes options p found new
+flow-reads bytes options p found items new h set =
+    let put : List Event → List Event = λ es. tables_set options (lines_joined options (turned (resolved es))) in
+    let text : items.setting.bytes ≡ bytes = ap (λ (x : Setting). x.bytes) h.setting in
+    let all : new ≡
+    record h.ended { events = listed bytes (put h.content); resolvers = [] } = set
+    ∙ ap (λ (l : List ℕ). record items { events = listed l (put items.events) }) text
+    ∙ ap (λ (x : World). record x { events = listed bytes (put x.events) }) h.rest in
+    let is : new.events ≡ listed bytes (put h.content) = ap (λ (x : World). x.events) all in
+    record {
+      end = h.end;
+      ended = h.ended;
+      ran = h.ran;
+      events = h.events;
+      content = h.content;
+      content_read = h.content_read;
+      events_are = is;
+      rest = all ∙ ap (λ (l : List Event). record h.ended { events = l; resolvers = [] }) (sym is);
+      setting = ap (λ (x : World). x.setting) set ∙ h.setting;
+      frames = ap (λ (x : World). x.frames) set ∙ h.frames;
+      found_is = h.found_is;
+      definitions = h.definitions;
+      footnotes = h.footnotes;
+    }

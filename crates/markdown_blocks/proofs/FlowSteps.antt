@@ -1,7 +1,7 @@
--- Behind the states of flow each resolver is a step that changes nothing where no line is its own: then it does not
--- matter whether it ran.
+-- Behind the states of flow the resolver of content is a step that changes nothing where no line is text: then it does
+-- not matter whether it ran.
 use Rattle.md_engine.specs.declared.tokenizer.held_leaf.HeldLeaf.{HeldLeaf}
-use Rattle.std.proofs.Common.{◌≡◌, ◌≢◌, ℕ, zero, suc, Bool, true, false, cond, List, [], ◌∷◌, ◌++◌, length}
+use Rattle.std.proofs.Common.{◌≡◌, ◌≢◌, ℕ, zero, suc, Bool, true, false, cond, List, [], ◌∷◌, length}
 use Rattle.md_rows.specs.Rows.{is_inside, new_behind}
 use Rattle.md_rows.specs.Rows.{behind_held}
 use Rattle.std.proofs.Common.{refl, ap, sym, ◌∙◌, subst, append-nil}
@@ -10,36 +10,29 @@ use Rattle.std.proofs.lemmas.Bool.{or_parts}
 use Rattle.md_engine.specs.declared.configuration.ParseOptions.{ParseOptions}
 use Rattle.md_engine.specs.declared.event.Content.{Content}
 use Rattle.md_engine.specs.declared.event.Event.{Event}
-use Rattle.md_engine.specs.declared.event.Name.TheVariants as n
 use Rattle.md_engine.specs.declared.event.Point.{Point}
 use Rattle.md_engine.specs.Meaning.{Cell}
-use Rattle.md_content.specs.ContentReads.{content_readings, wants_content}
+use Rattle.md_content.specs.ContentReads.{wants_content}
 use Rattle.md_content.specs.Joined.{joined}
-use Rattle.md_seam.specs.Ahead.{begins_white, from_ending, line_end}
-use Rattle.md_seam.specs.Events.Nested.{pair}
+use Rattle.md_seam.specs.Ahead.{from_ending}
 use Rattle.md_meaning.specs.State.{Container}
 use Rattle.md_seam.specs.Substituted.{Readings, Substituted}
 use Rattle.md_frame.specs.Change.{interrupts, open_behind, others_of}
 use Rattle.markdown_blocks.specs.FlowReads.{has_text}
-use Rattle.md_frame.specs.Row.{BlankRow, Row, RowKind, TextRow, ending_of}
+use Rattle.md_frame.specs.Row.{BlankRow, Row, RowKind, TextRow}
 use Rattle.md_rows.specs.Rows.{Front, Held, held_at}
-use Rattle.md_rows.specs.Rows.{in_front, inside_of, is_text, leaf_events, opened_prefixes, no_front, row_events}
+use Rattle.md_rows.specs.Rows.{in_front, is_text, opened_prefixes, no_front, row_events}
 use Rattle.md_frame.specs.Row.{LeafRow}
-use Rattle.md_rows.specs.Rows.{row_kind, rows_at, rows_by, rows_events, tail_events, continued_prefixes}
-use Rattle.md_frame.proofs.EachEvent.{Each, each-behind, each-front, joined-each, each-append}
+use Rattle.md_rows.specs.Rows.{rows_at, rows_by, rows_events, continued_prefixes}
+use Rattle.md_frame.proofs.EachEvent.{each-append}
 use Rattle.md_rows.proofs.EachRow.{EachRow}
-use Rattle.md_frame.specs.Resolving.{is_own}
 use Rattle.md_registry.specs.Registry.{goes_at, opens_at}
-use Rattle.md_frame.proofs.OutsideFacts.{AreOutside, outside-append, IsNoEnd, IsOutside, NoEnds}
-use Rattle.md_rows.proofs.OutsideLemmas.{front-outside, tail-outside, ending-own}
-use Rattle.md_registry.proofs.Registry.{laws, text-laws}
 use Rattle.md_rows.proofs.JoinedLemmas.{EachNoContent, events-no_content, front-no_content, joined-passes}
-use Rattle.md_frame.proofs.SubstitutedLemmas.{keeps, keeps-each}
+use Rattle.md_frame.proofs.SubstitutedLemmas.{keeps}
 use Rattle.md_frame.proofs.ContentFacts.{NoContent, WantsContent, content-alone, no_content-append, no_content-unwanted, nothing, nothing-wanted}
 use Rattle.md_frame.proofs.PrefixNames.{AreFront, IsFrontEvent}
 use Rattle.md_frame.specs.Passed.{Passed}
 use Rattle.md_registry.proofs.RegistryContainers.{goes-front, opens-front}
-use Rattle.md_frame.specs.Row.{is_blank_row}
 
 -- What stands in front of a line that flow reads.
 
@@ -94,23 +87,9 @@ held-are options cs still cells p =
 
 -- Lines.
 
--- whitespace that may stand in a line
-white-outside : (x : Bool) (p q : Point) → AreOutside (cond x (pair n.SpaceOrTab p q) [])
-white-outside true p q = (refl, (refl, tt))
-white-outside false p q = tt
-
--- where nothing ends in a line that a resolver rewrites, nothing begins
-inside-own : (options : ParseOptions) (on : HeldLeaf) (cells : List Cell) (p : Point) (kind : RowKind) →
-    NoEnds is_own (inside_of options on cells p kind) → AreOutside (inside_of options on cells p kind)
-inside-own options on cells p BlankRow h = white-outside (begins_white cells) p (line_end cells p)
-inside-own options on cells p (LeafRow l) h = (laws l).own options on cells p h
-inside-own options on cells p TextRow h = tt
-
--- prefixes and begins of containers stand in front of a line, and in it begins nothing of a resolver that does not end
--- there
+-- prefixes and begins of containers stand in front of a line
 pub record IsFramed (row : Row) : Type 0 where
   pub front : AreFront row.front
-  pub own : NoEnds is_own row.inside → AreOutside row.inside
 
 -- so it is in the lines that flow reads
 rows_by-framed : (options : ParseOptions) (h : Held)
@@ -120,7 +99,7 @@ rows_by-framed : (options : ParseOptions) (h : Held)
     EachRow IsFramed (further open_before still cells p)) →
     EachRow IsFramed (rows_by options h further)
 rows_by-framed options h further front each = (
-  record { front = front; own = inside-own options h.on h.cells h.point (row_kind options h.on h.cells) },
+  record { front = front },
   go (from_ending h.cells),
 )
   where
@@ -170,39 +149,3 @@ content-same reads rows framed quiet none =
     subst (λ (l : List Event). Substituted wants_content reads [] 0 l es) (sym same)
     (keeps wants_content reads [] 0 es
     (no_content-unwanted wants_content es (rows-no_content wants_content content-alone rows framed quiet none)))
-
--- The resolvers behind that of content.
-
--- what flow adds for a line, but for what stands around it
-leaf-outside : (row : Row) (kind : RowKind) → IsFramed row → NoEnds is_own (leaf_events kind row) →
-    AreOutside (leaf_events kind row)
-leaf-outside row BlankRow framed h = framed.own h
-leaf-outside row (LeafRow l) framed h = framed.own h
-leaf-outside row TextRow framed h = (refl, (refl, tt))
-
-row-outside : (row : Row) → IsFramed row → NoEnds is_own (row_events row) → AreOutside (row_events row)
-row-outside row framed h =
-    let leaf : List Event = leaf_events row.kind row in
-    let tail : List Event = tail_events (ending_of row.kind row) row in
-    let inside = each-behind (IsNoEnd is_own) row.front leaf (each-front (IsNoEnd is_own) (row.front ++ leaf) tail h) in
-    outside-append (row.front ++ leaf) tail
-    (outside-append row.front leaf (front-outside row.front framed.front) (leaf-outside row row.kind framed inside))
-    (tail-outside (ending_of row.kind row) row (ending-own (is_blank_row row)))
-
--- where nothing of a resolver ends in the lines of a text, nothing of it begins
-pub rows-outside : (rows : List Row) → EachRow IsFramed rows → NoEnds is_own (rows_events rows) →
-    AreOutside (rows_events rows)
-rows-outside [] framed h = tt
-rows-outside (row ∷ rows) framed h =
-    outside-append (row_events row) (rows_events rows)
-    (row-outside row framed.0 (each-front (IsNoEnd is_own) (row_events row) (rows_events rows) h))
-    (rows-outside rows framed.1 (each-behind (IsNoEnd is_own) (row_events row) (rows_events rows) h))
-
--- so nothing of a resolver begins where content is read and nothing did before
-pub reading-outside : (bytes : List ℕ) (options : ParseOptions) (es out : List Event) → AreOutside es →
-    Substituted wants_content (content_readings bytes options) [] 0 (joined es) out → AreOutside out
-reading-outside bytes options es out h s =
-    keeps-each IsOutside wants_content (content_readings bytes options)
-    (λ content chunks answer is. subst (Each IsOutside) (sym is) (text-laws.outside bytes options chunks)) [] 0
-    (joined es) out tt
-    (joined-each IsOutside (λ e q h. h) es h) s

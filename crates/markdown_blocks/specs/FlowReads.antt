@@ -37,8 +37,8 @@ pub record FlowReads (bytes : List ℕ) (options : ParseOptions) (p : Point) (fo
   pub content : List Event
   pub content_read : Substituted wants_content (content_readings bytes options) [] 0
       (joined (heads_read options bytes (rows_events (text_rows options bytes p)))) content
-  -- then the resolvers of leaves run, setext headings are set, the lines of each leaf of several are joined, tables get
-  -- their cells, and lists are put around items
+  -- then ATX headings get their texts, setext headings are set, the lines of each leaf of several are joined, tables
+  -- get their cells, and lists are put around items
   pub events_are : new.events ≡ listed bytes (tables_set options (lines_joined options (turned (resolved content))))
   -- all else stays, but that no resolver is left to run
   pub rest : new ≡ record ended { events = new.events; resolvers = [] }

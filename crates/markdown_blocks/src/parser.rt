@@ -14,7 +14,7 @@ ghost use Rattle.markdown_blocks.specs.FlowReads.{FlowReads};
 ghost use Rattle.md_container_rooms.specs.Footnotes.{footnotes_listed};
 ghost use Rattle.markdown_blocks.specs.Parsed.{IsParsed, IsRead, IsWithoutMdx};
 ghost use Rattle.md_meaning.specs.Wrapped.{IsSmall};
-ghost use Rattle.md_frame.specs.Resolving.{stays_alone};
+ghost use Rattle.md_frame.specs.Resolving.{resolved, stays_alone};
 
 use crate::plain::Plain;
 use md_content::footnote_labels::footnote_labels;
@@ -149,6 +149,19 @@ fn flow_tokenizer<'a>(
     Ok(tokenizer)
 }
 
+/// Gives ATX headings their texts.
+///
+/// An `Err` says that memory ran out.
+fn set_headings(tokenizer: &mut Tokenizer) -> Result<(), Message>
+    requires { (world tokenizer.old).frames ≡ [] }
+    ensures frames { OnOk result ((world tokenizer.new).frames ≡ []) }
+    ensures world { OnOk result
+        (world tokenizer.new ≡ record (world tokenizer.old) { events = resolved (world tokenizer.old).events }) }
+{
+    resolve::call(tokenizer, ResolveName::HeadingAtx)?;
+    Ok(())
+}
+
 /// Joins the lines of each leaf of several, where one may be on.
 ///
 /// An `Err` says that memory ran out.
@@ -217,8 +230,8 @@ fn group_blocks(tokenizer: &mut Tokenizer, options: &ParseOptions) -> Result<(),
     Ok(())
 }
 
-/// Reads the lines of a text from a point on by flow, and then its content; sets setext headings, joins the lines of each
-/// leaf of several, and puts lists around items.
+/// Reads the lines of a text from a point on by flow, and then its content; sets headings, joins the lines of each leaf of
+/// several, and puts lists around items.
 ///
 /// An `Err` says that memory ran out.
 fn read_flow<'a>(
@@ -238,6 +251,7 @@ fn read_flow<'a>(
         end => end,
     };
     let found = flush::<FlowTable>(&mut tokenizer, end, true)?;
+    set_headings(&mut tokenizer)?;
     group_blocks(&mut tokenizer, options)?;
     Ok((tokenizer, found))
 }

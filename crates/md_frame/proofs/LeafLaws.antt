@@ -21,9 +21,8 @@ use Rattle.md_seam.proofs.RestCells.{RestAt, rest_cells}
 use Rattle.md_meaning.proofs.TextsLemmas.{NoEnding}
 use Rattle.md_frame.specs.RestLine.{rest_line}
 use Rattle.md_frame.specs.LineLeaf.{LineLeaf}
-use Rattle.md_frame.specs.Resolving.{is_own, resolved}
+use Rattle.md_frame.specs.Resolving.{resolved}
 use Rattle.md_frame.proofs.ClosedFacts.{IsClosed}
-use Rattle.md_frame.proofs.OutsideFacts.{AreOutside, NoEnds}
 use Rattle.md_frame.proofs.LeafFacts.{LeafFacts, LineAt}
 use Rattle.md_frame.proofs.LinedFacts.{AreLined}
 use Rattle.md_frame.proofs.SpannedFacts.{AreUnspanned}
@@ -109,9 +108,6 @@ pub record LeafLaws (l : LineLeaf) : Type 1 where
   pub no_content : (wants : Content → Bool) → WantsContent wants →
       (options : ParseOptions) (on : HeldLeaf) (cells : List Cell) (p : Point) →
       NoContent wants (l.adds options on cells p)
-  -- Where no part ends in what it adds that a resolver rewrites, so that none is registered, none begins there.
-  pub own : (options : ParseOptions) (on : HeldLeaf) (cells : List Cell) (p : Point) →
-      NoEnds is_own (l.adds options on cells p) → AreOutside (l.adds options on cells p)
   -- If it is open behind its line, goes on no text and takes no head, it has the events of a leaf of several lines.
   pub lined : l.ends ≡ false → l.heads ≡ false → (options : ParseOptions) (on : HeldLeaf) (r : Rest) (p : Point) →
       l.starts options on r ≡ true → (l.further on ≡ true → has_lines on ≡ true) →

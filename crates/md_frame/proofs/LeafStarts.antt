@@ -16,8 +16,8 @@ use Rattle.md_frame.proofs.Registers.{Registers, adds}
 pub start-registers : (name : Name) (behind : StateName) (w : World) (on white : Bool) → Registers w →
     Registers (start_code name behind w on white).world
 start-registers name behind w false white h = h
-start-registers name behind w true true h = adds w.events _ w.resolvers refl refl h
-start-registers name behind w true false h = adds w.events _ w.resolvers refl refl h
+start-registers name behind w true true h = adds w.events _ w.resolvers refl h
+start-registers name behind w true false h = adds w.events _ w.resolvers refl h
 
 pub start-shrinks : (name : Name) (on : Bool) (behind : List Cell → Here → Outcome) (options : ParseOptions)
     (cells : List Cell) (h : Here) →

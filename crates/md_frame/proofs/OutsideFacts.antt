@@ -1,6 +1,7 @@
 -- Events among which no part of some names begins, or ends.
 --
--- A resolver asks for the begins of the parts that it rewrites, and it is registered where such a part ends.
+-- The resolver of headings asks for the begins of the parts that it rewrites; that of content is registered where a part
+-- of it ends.
 use Rattle.std.proofs.Common.{◌≡◌, Bool, false, ◌&&◌, List, [], ◌∷◌, ◌++◌, refl, ap}
 use Rattle.md_engine.specs.declared.event.Event.{Event}
 use Rattle.md_engine.specs.declared.event.Name.{Name}

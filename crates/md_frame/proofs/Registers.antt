@@ -1,5 +1,4 @@
--- What flow registers: the resolver of content, and behind it that of the registry; each once, and only where a part of
--- its own has ended.
+-- What flow registers: the resolver of content alone, once, and only where content has ended.
 use Rattle.std.proofs.Common.{◌≡◌, ℕ, Bool, true, false, List, [], ◌∷◌, ◌++◌, take, drop, refl, ◌∙◌, ap}
 use Rattle.md_engine.specs.declared.event.Event.{Event}
 use Rattle.md_engine.specs.declared.event.Name.{Name}
@@ -10,81 +9,50 @@ use Rattle.md_engine.specs.declared.tokenizer.container.Container.{Container}
 use Rattle.md_engine.specs.declared.tokenizer.container.name.ContainerKind.{ContainerKind}
 use Rattle.md_engine.specs.ContainerName.{name_of}
 use Rattle.md_engine.specs.Ends.{ends_at, point_of, put}
-use Rattle.md_engine.specs.World.{World, closed, closed_events, registered, registered_before}
+use Rattle.md_engine.specs.World.{World, closed, closed_events, registered_before}
 use Rattle.md_content.specs.Joined.{is_content}
 use Rattle.md_seam.specs.Events.Nested.{exit}
-use Rattle.md_frame.specs.Resolving.{is_own, resolver}
 use Rattle.md_frame.proofs.EachEvent.{each-append, each-drop, each-take}
 use Rattle.md_frame.proofs.OutsideFacts.{IsNoEnd, NoEnds}
 use Rattle.md_frame.proofs.ContainerNames.{held-names}
 
--- by whether each is registered
-abbrev pub named : Bool → Bool → List ResolveName
-named true true = r.Content ∷ resolver ∷ []
-named true false = r.Content ∷ []
-named false true = resolver ∷ []
-named false false = []
+-- by whether it is registered
+abbrev pub named : Bool → List ResolveName
+named true = r.Content ∷ []
+named false = []
 
 pub record RegistersBy (events : List Event) (names : List ResolveName) : Type 0 where
   pub content : Bool
-  pub own : Bool
-  pub names_are : names ≡ named content own
+  pub names_are : names ≡ named content
   pub no_content : content ≡ false → NoEnds is_content events
-  pub no_own : own ≡ false → NoEnds is_own events
 
 abbrev pub Registers : World → Type 0
 Registers w = RegistersBy w.events w.resolvers
 
 pub none-yet : RegistersBy [] []
-none-yet = record { content = false; own = false; names_are = refl; no_content = λ e. tt; no_own = λ e. tt }
+none-yet = record { content = false; names_are = refl; no_content = λ e. tt }
 
--- an event that ends no part of these
-pub adds : (events : List Event) (e : Event) (names : List ResolveName) → IsNoEnd is_content e → IsNoEnd is_own e →
+-- an event that ends no content
+pub adds : (events : List Event) (e : Event) (names : List ResolveName) → IsNoEnd is_content e →
     RegistersBy events names → RegistersBy (events ++ e ∷ []) names
-adds events e names a b h = record {
+adds events e names a h = record {
   content = h.content;
-  own = h.own;
   names_are = h.names_are;
   no_content = λ k. each-append (IsNoEnd is_content) events (e ∷ []) (h.no_content k) (a, tt);
-  no_own = λ k. each-append (IsNoEnd is_own) events (e ∷ []) (h.no_own k) (b, tt);
 }
 
--- the end of content, and of a part that the resolver of the registry rewrites
-content-named : (b c : Bool) → registered_before (named b c) r.Content ≡ named true c
-content-named true true = refl
-content-named true false = refl
-content-named false true = refl
-content-named false false = refl
+-- the end of content
+content-named : (b : Bool) → registered_before (named b) r.Content ≡ named true
+content-named true = refl
+content-named false = refl
 
-pub adds-content : (events : List Event) (e : Event) (names : List ResolveName) → IsNoEnd is_own e →
-    RegistersBy events names →
+pub adds-content : (events : List Event) (e : Event) (names : List ResolveName) → RegistersBy events names →
     RegistersBy (events ++ e ∷ []) (registered_before names r.Content)
-adds-content events e names b h = record {
+adds-content events e names h = record {
   content = true;
-  own = h.own;
   names_are =
-      ap (λ (x : List ResolveName). registered_before x r.Content) h.names_are
-      ∙ content-named h.content h.own;
+      ap (λ (x : List ResolveName). registered_before x r.Content) h.names_are ∙ content-named h.content;
   no_content = λ k. cc;
-  no_own = λ k. each-append (IsNoEnd is_own) events (e ∷ []) (h.no_own k) (b, tt);
-}
-
-own-named : (b c : Bool) → registered (named b c) resolver ≡ named b true
-own-named true true = refl
-own-named true false = refl
-own-named false true = refl
-own-named false false = refl
-
-pub adds-own : (events : List Event) (e : Event) (names : List ResolveName) → IsNoEnd is_content e →
-    RegistersBy events names →
-    RegistersBy (events ++ e ∷ []) (registered names resolver)
-adds-own events e names a h = record {
-  content = h.content;
-  own = true;
-  names_are =
-      ap (λ (x : List ResolveName). registered x resolver) h.names_are ∙ own-named h.content h.own;
-  no_content = λ k. each-append (IsNoEnd is_content) events (e ∷ []) (h.no_content k) (a, tt);
-  no_own = λ k. cc;
 }
 
 -- a state that fails goes back to what there was
@@ -92,13 +60,11 @@ pub goes-back : (k : ℕ) (events : List Event) (names : List ResolveName) → R
     RegistersBy (take k events) names
 goes-back k events names h = record {
   content = h.content;
-  own = h.own;
   names_are = h.names_are;
   no_content = λ e. each-take (IsNoEnd is_content) k events (h.no_content e);
-  no_own = λ e. each-take (IsNoEnd is_own) k events (h.no_own e);
 }
 
--- ends of containers end no part of these
+-- ends of containers end no content
 no_ends-containers : (is_name : Name → Bool) → ((k : ContainerKind) → is_name (name_of k) ≡ false) →
     (cs : List Container) (p : Point) → NoEnds is_name (ends_at cs p)
 no_ends-containers is_name e [] p = tt
@@ -117,17 +83,12 @@ closes : (keep at : ℕ) (cs : List Container) (events : List Event) (p : Point)
     RegistersBy events names → RegistersBy (closed_events keep at cs events p) names
 closes keep at cs events p names h = record {
   content = h.content;
-  own = h.own;
   names_are = h.names_are;
   no_content =
       λ k. no_ends-put is_content at (ends_at (drop keep cs) q) events
       (no_ends-containers is_content (held-names (λ (name : Name). is_content name ≡ false) refl refl refl)
       (drop keep cs) q)
       (h.no_content k);
-  no_own =
-      λ k. no_ends-put is_own at (ends_at (drop keep cs) q) events
-      (no_ends-containers is_own (held-names (λ (name : Name). is_own name ≡ false) refl refl refl) (drop keep cs) q)
-      (h.no_own k);
 }
   where
     q : Point

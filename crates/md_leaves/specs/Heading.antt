@@ -4,7 +4,6 @@ use Rattle.std.specs.Prelude.{Option, Some, None}
 use Rattle.md_engine.specs.declared.event.Content.TheVariants as content
 use Rattle.md_engine.specs.declared.event.Link.{Link}
 use Rattle.md_engine.specs.declared.event.Name.TheVariants.{Data, HeadingAtx, HeadingAtxSequence}
-use Rattle.md_engine.specs.declared.resolve.name.Name.TheVariants.{HeadingAtx as HeadingResolver}
 use Rattle.md_engine.specs.declared.state.Name.{Name as StateName}
 use Rattle.md_engine.specs.declared.state.Name.TheVariants as n
 use Rattle.md_engine.specs.declared.state.heading_atx.State.{State as HeadingState}
@@ -12,7 +11,7 @@ use Rattle.md_engine.specs.declared.state.heading_atx.State.TheVariants as its
 use Rattle.md_engine.specs.declared.state.State.TheVariants.{Ok, Nok, Next, Retry}
 use Rattle.md_engine.specs.declared.tokenizer.Scratch.{Scratch}
 use Rattle.md_engine.specs.Scheme.{After, Ends, Rank, Scheme, Position, ranked, seen}
-use Rattle.md_engine.specs.World.{World, registered}
+use Rattle.md_engine.specs.World.{World}
 use Rattle.md_leaves.specs.LeafStart as leaf
 use Rattle.md_meaning.specs.Rest.{is_white}
 use Rattle.md_seam.specs.Spaces.{any_size, ends_line, IsRest, is_current, sees_white, white_then}
@@ -60,10 +59,7 @@ at_break_code w true true ending =
     record { to = Retry (n.HeadingAtx its.SequenceFurther); world = entered w HeadingAtxSequence }
 at_break_code w true false ending =
     record { to = Retry (n.HeadingAtx its.Data); world = entered_link w Data heading_link }
-at_break_code w false hash true = record {
-  to = Ok;
-  world = record (exited w HeadingAtx) { resolvers = registered w.resolvers HeadingResolver };
-}
+at_break_code w false hash true = record { to = Ok; world = exited w HeadingAtx }
 at_break_code w false hash false = record { to = Nok; world = w }
 
 -- by whether `#` or whitespace stands here

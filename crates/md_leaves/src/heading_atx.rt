@@ -32,7 +32,6 @@ use crate::leaf_start::start_leaf;
 use md_engine::event::{Content, Link, Name};
 use md_engine::message::Message;
 use md_engine::or_error;
-use md_engine::resolve::Name as ResolveName;
 use md_engine::state::heading_atx::State as HeadingState;
 use md_engine::state::{Name as StateName, State};
 use md_engine::stay::Stay;
@@ -178,7 +177,6 @@ pub fn at_break(tokenizer: &mut Tokenizer) -> State
     match tokenizer.current {
         None | Some(b'\n') => {
             or_error!(tokenizer.exit(Name::HeadingAtx));
-            or_error!(tokenizer.register_resolver(ResolveName::HeadingAtx));
             State::Ok
         }
         // All whitespace lies behind.

@@ -45,7 +45,7 @@ blank-after w true h = h
 blank-after w false h = h
 
 chunk-inside : (w : World) (b : Bool) → Registers w → Registers (chunk_inside_code w b).world
-chunk-inside w true h = adds-content w.events (exit n.Content w.point) w.resolvers refl h
+chunk-inside w true h = adds-content w.events (exit n.Content w.point) w.resolvers h
 chunk-inside w false h = h
 
 -- a trial that begins, and one that is refused at once
@@ -74,8 +74,8 @@ opener-registers (Some k) w h =
     trial _ _ _ (asking (container_of k) w) (may_with (may_open k) (looks_behind w)) h
 
 ending : (w : World) (b : Bool) → Registers w → Registers (exited (taken (entered w (ending_name b))) (ending_name b))
-ending w true h = adds _ _ w.resolvers refl refl (adds w.events _ w.resolvers refl refl h)
-ending w false h = adds _ _ w.resolvers refl refl (adds w.events _ w.resolvers refl refl h)
+ending w true h = adds _ _ w.resolvers refl (adds w.events _ w.resolvers refl h)
+ending w false h = adds _ _ w.resolvers refl (adds w.events _ w.resolvers refl h)
 
 flow-end : (w : World) (o : Option ℕ) → Registers w → Registers (flow.flow_end_code w o).world
 flow-end w None h = closed-registers w 0 (length w.events) h
@@ -86,12 +86,12 @@ flow-end w (Some b) h = go (nat_eq b 10) refl
     go false e = rw e h
 
 white-start : (w : World) (b : Bool) → Registers w → Registers (spaces.start_code w b).world
-white-start w true h = adds w.events _ w.resolvers refl refl h
+white-start w true h = adds w.events _ w.resolvers refl h
 white-start w false h = h
 
 white-inside : (w : World) (b : Bool) → Registers w → Registers (spaces.inside_code w b).world
 white-inside w true h = h
-white-inside w false h = adds w.events _ w.resolvers refl refl h
+white-inside w false h = adds w.events _ w.resolvers refl h
 
 white-after : (w : World) (b : Bool) → Registers w → Registers (spaces.after_code w b).world
 white-after w true h = h
@@ -152,7 +152,7 @@ leaves-register state w h = leaf-registers (tried_at state) w h
 chunk-registers : (state : ContentState) (w : World) → Registers w →
     Registers (chunk_transition state w).world
 chunk-registers content.ChunkStart w h =
-    adds w.events (enter_link n.Content w.point content_link) w.resolvers refl refl h
+    adds w.events (enter_link n.Content w.point content_link) w.resolvers refl h
 chunk-registers content.ChunkInside w h = chunk-inside w (ends_line w.current) h
 chunk-registers _ w h = h
 

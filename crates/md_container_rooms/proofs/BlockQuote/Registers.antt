@@ -8,7 +8,7 @@ use Rattle.md_seam.specs.Spaces.{is_current, sees_white}
 use Rattle.md_frame.proofs.Registers.{Registers, adds}
 
 quote-start : (w : World) (b : Bool) → Registers w → Registers (quote.start_code w b).world
-quote-start w true h = adds w.events _ w.resolvers refl refl h
+quote-start w true h = adds w.events _ w.resolvers refl h
 quote-start w false h = h
 
 quote-cont-start : (w : World) (b : Bool) → Registers w → Registers (quote.cont_start_code w b).world
@@ -17,13 +17,13 @@ quote-cont-start w false h = h
 
 quote-cont-before : (w : World) (b : Bool) → Registers w → Registers (quote.cont_before_code w b).world
 quote-cont-before w true h =
-    adds _ _ w.resolvers refl refl (adds _ _ w.resolvers refl refl (adds w.events _ w.resolvers refl refl h))
+    adds _ _ w.resolvers refl (adds _ _ w.resolvers refl (adds w.events _ w.resolvers refl h))
 quote-cont-before w false h = h
 
 quote-cont-after : (w : World) (b : Bool) → Registers w → Registers (quote.cont_after_code w b).world
 quote-cont-after w true h =
-    adds _ _ w.resolvers refl refl (adds _ _ w.resolvers refl refl (adds w.events _ w.resolvers refl refl h))
-quote-cont-after w false h = adds w.events _ w.resolvers refl refl h
+    adds _ _ w.resolvers refl (adds _ _ w.resolvers refl (adds w.events _ w.resolvers refl h))
+quote-cont-after w false h = adds w.events _ w.resolvers refl h
 
 -- each of them
 pub quote-registers : (state : QuoteState) (w : World) → Registers w → Registers (quote.quote_transition state w).world

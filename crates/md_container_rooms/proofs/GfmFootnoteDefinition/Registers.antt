@@ -15,16 +15,16 @@ use Rattle.md_frame.proofs.Registers.{Registers, adds}
 
 label-before : (w : World) (x : Bool) → Registers w → Registers (footnote.label_before_code w x).world
 label-before w true h =
-    adds _ _ w.resolvers refl refl
-    (adds _ _ w.resolvers refl refl
-    (adds _ _ w.resolvers refl refl (adds w.events _ w.resolvers refl refl h)))
+    adds _ _ w.resolvers refl
+    (adds _ _ w.resolvers refl
+    (adds _ _ w.resolvers refl (adds w.events _ w.resolvers refl h)))
 label-before w false h = h
 
 label-at-marker : (w : World) (x : Bool) → Registers w → Registers (footnote.label_at_marker_code w x).world
 label-at-marker w true h =
-    adds _ _ w.resolvers refl refl
-    (adds _ _ w.resolvers refl refl
-    (adds _ _ w.resolvers refl refl (adds w.events _ w.resolvers refl refl h)))
+    adds _ _ w.resolvers refl
+    (adds _ _ w.resolvers refl
+    (adds _ _ w.resolvers refl (adds w.events _ w.resolvers refl h)))
 label-at-marker w false h = h
 
 -- a byte of the label
@@ -34,10 +34,10 @@ byte w state h = either (nat_le most w.scratch.size) _ _ h h
 closed : (w : World) (empty : Bool) → Registers w → Registers (footnote.closed_code w empty).world
 closed w true h = h
 closed w false h =
-    adds _ _ w.resolvers refl refl
-    (adds _ _ w.resolvers refl refl
-    (adds _ _ w.resolvers refl refl
-    (adds _ _ w.resolvers refl refl (adds w.events _ w.resolvers refl refl h))))
+    adds _ _ w.resolvers refl
+    (adds _ _ w.resolvers refl
+    (adds _ _ w.resolvers refl
+    (adds _ _ w.resolvers refl (adds w.events _ w.resolvers refl h))))
 
 label-inside : (w : World) (o : Option ℕ) → Registers w → Registers (footnote.label_inside_code w o).world
 label-inside w None h = h
@@ -49,7 +49,7 @@ label-escape w true h = byte w at.LabelInside h
 label-escape w false h = h
 
 label-after : (w : World) (x : Bool) → Registers w → Registers (footnote.label_after_code w x).world
-label-after w true h = adds _ _ w.resolvers refl refl (adds w.events _ w.resolvers refl refl h)
+label-after w true h = adds _ _ w.resolvers refl (adds w.events _ w.resolvers refl h)
 label-after w false h = h
 
 marker-after : (w : World) (x : Bool) → Registers w → Registers (footnote.marker_after_code w x).world
@@ -68,4 +68,4 @@ footnote-registers at.LabelInside w h = label-inside w w.current h
 footnote-registers at.LabelEscape w h = label-escape w (sees_mark w.current) h
 footnote-registers at.LabelAfter w h = label-after w (is_current colon w.current) h
 footnote-registers at.MarkerAfter w h = marker-after w (sees_white w.current) h
-footnote-registers at.WhitespaceAfter w h = adds w.events _ w.resolvers refl refl h
+footnote-registers at.WhitespaceAfter w h = adds w.events _ w.resolvers refl h

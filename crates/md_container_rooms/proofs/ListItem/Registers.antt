@@ -28,16 +28,16 @@ before w None h = h
 before w (Some b) h = either (is_bullet b) _ _ (bullet w _ h) (either _ (item.goes_to at.BeforeOrdered w) _ h h)
 
 before-ordered : (w : World) (x : Bool) → Registers w → Registers (item.before_ordered_code w x).world
-before-ordered w true h = adds _ _ w.resolvers refl refl (adds w.events _ w.resolvers refl refl h)
+before-ordered w true h = adds _ _ w.resolvers refl (adds w.events _ w.resolvers refl h)
 before-ordered w false h = h
 
 value : (w : World) (x y : Bool) → Registers w → Registers (item.value_code w x y).world
 value w true y h = h
-value w false true h = adds w.events _ w.resolvers refl refl h
+value w false true h = adds w.events _ w.resolvers refl h
 value w false false h = h
 
 marker : (w : World) (x : Bool) → Registers w → Registers (item.marker_code w x).world
-marker w true h = adds _ _ w.resolvers refl refl (adds w.events _ w.resolvers refl refl h)
+marker w true h = adds _ _ w.resolvers refl (adds w.events _ w.resolvers refl h)
 marker w false h = h
 
 by-blank : (blank filled : ItemState) (w : World) (o : Option ℕ) → Registers w →
@@ -50,12 +50,12 @@ whitespace-after w true h = h
 whitespace-after w false h = h
 
 prefix-other : (w : World) (x : Bool) → Registers w → Registers (item.prefix_other_code w x).world
-prefix-other w true h = adds _ _ w.resolvers refl refl (adds w.events _ w.resolvers refl refl h)
+prefix-other w true h = adds _ _ w.resolvers refl (adds w.events _ w.resolvers refl h)
 prefix-other w false h = h
 
 after : (w : World) (x blank : Bool) → Registers w → Registers (item.after_code w x blank).world
 after w true blank h = h
-after w false blank h = adds w.events _ w.resolvers refl refl h
+after w false blank h = adds w.events _ w.resolvers refl h
 
 -- on a further line
 
@@ -66,13 +66,13 @@ cont-start w false blank h = by-blank at.ContBlank at.ContFilled w (looks_behind
 
 indent : (state : ItemState) (min : ℕ) (w : World) (x : Bool) → Registers w →
     Registers (item.indent_code state min w x).world
-indent state min w true h = adds w.events _ w.resolvers refl refl h
+indent state min w true h = adds w.events _ w.resolvers refl h
 indent state min w false h = h
 
 inside : (state : ItemState) (w : World) (x enough : Bool) → Registers w →
     Registers (item.inside_code state w x enough).world
 inside state w true enough h = h
-inside state w false true h = adds w.events _ w.resolvers refl refl h
+inside state w false true h = adds w.events _ w.resolvers refl h
 inside state w false false h = h
 
 in-indent : (state : ItemState) (w : World) → Registers w → Registers (item.inside_transition state w).world
@@ -93,7 +93,7 @@ pub item-registers : (state : ItemState) (w : World) → Registers w → Registe
 item-registers at.Start w h =
     start-registers n.ListItem _ w w.setting.options.constructs.list_item (sees_white w.current) h
 item-registers at.Before w h = before w w.current h
-item-registers at.BeforeUnordered w h = adds w.events _ w.resolvers refl refl h
+item-registers at.BeforeUnordered w h = adds w.events _ w.resolvers refl h
 item-registers at.BeforeOrdered w h = before-ordered w (sees is_digit w.current) h
 item-registers at.Value w h =
     value w (sees is_digit w.current && nat_lt w.scratch.size 9)

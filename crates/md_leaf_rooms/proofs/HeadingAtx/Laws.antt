@@ -37,7 +37,6 @@ use Rattle.md_frame.proofs.PartsStand.{stands-around}
 use Rattle.md_frame.proofs.PiecesLemmas.{Covered}
 use Rattle.md_frame.proofs.RestFacts.{rest-trim}
 use Rattle.md_frame.proofs.SpanLemmas.{Nested_in}
-use Rattle.md_leaf_rooms.proofs.HeadingAtx.Outside.{heading-own}
 
 -- the line of a heading begins with its markers, behind whitespace
 line-begins : (options : ParseOptions) (r : Rest) → heading_leaf.starts options held_leaf.None r ≡ true →
@@ -114,7 +113,6 @@ heading-laws = record {
   set =
       λ ends options on r p es starts. heading-resolved (rest_line r) p (past_text (rest_line r) p) es
       (line-begins options r starts);
-  own = λ options on. heading-own options;
   lined = λ open_leaf plain options on r p starts lines. absurd (cc);
   unturned = λ ends options on r p starts. heading-unturned (rest_line r) p;
   unspanned = λ ends options on r p starts. heading-unspanned (rest_line r) p;

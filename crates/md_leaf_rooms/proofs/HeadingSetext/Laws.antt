@@ -6,7 +6,7 @@ use Rattle.md_leaves.specs.HeadingSetext.{is_text}
 use Rattle.md_frame.specs.HeldLeaf.{has_lines, may_go_on}
 use Rattle.md_leaf_rooms.specs.Leaf.HeadingSetext.{setext_leaf}
 use Rattle.md_leaf_rooms.proofs.HeadingSetext.Kinds.{setext-fits, setext-starts}
-use Rattle.md_leaf_rooms.proofs.HeadingSetext.Runs.{setext-adds, setext-no_content, setext-own}
+use Rattle.md_leaf_rooms.proofs.HeadingSetext.Runs.{setext-adds, setext-no_content}
 use Rattle.md_leaf_rooms.proofs.HeadingSetext.Trial.{setext-looked, setext-refused, setext-shrinks, setext-took}
 use Rattle.md_frame.proofs.LeafLaws.{LeafLaws}
 
@@ -36,7 +36,6 @@ setext-laws = record {
   holds_is = λ options leaf r starts. refl;
   not_lazy = λ options on. (λ cells p. refl, λ r. refl);
   no_content = λ wants only. setext-no_content wants;
-  own = λ options on cells p none. setext-own options on cells p;
   lined = λ open_leaf plain options on r p starts lines.
       absurd (text-alone on (setext-starts options on r starts).text lines);
   unturned = λ ends options on r p starts. absurd (cc);

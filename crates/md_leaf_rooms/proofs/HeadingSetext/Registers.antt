@@ -15,18 +15,18 @@ setext-before w None h = h
 setext-before w (Some b) h = go (setext.is_marker b) refl
   where
     go : (x : Bool) → setext.is_marker b ≡ x → Registers (setext.before_code w (Some b)).world
-    go true e = rw e (adds w.events _ w.resolvers refl refl h)
+    go true e = rw e (adds w.events _ w.resolvers refl h)
     go false e = rw e h
 
 -- in the run
 setext-inside : (w : World) (a b : Bool) → Registers w → Registers (setext.inside_code w a b).world
 setext-inside w true b h = h
-setext-inside w false true h = adds w.events _ w.resolvers refl refl h
-setext-inside w false false h = adds w.events _ w.resolvers refl refl h
+setext-inside w false true h = adds w.events _ w.resolvers refl h
+setext-inside w false false h = adds w.events _ w.resolvers refl h
 
 -- behind the run
 setext-after : (w : World) (a : Bool) → Registers w → Registers (setext.after_code w a).world
-setext-after w true h = adds w.events _ w.resolvers refl refl h
+setext-after w true h = adds w.events _ w.resolvers refl h
 setext-after w false h = h
 
 -- each of them

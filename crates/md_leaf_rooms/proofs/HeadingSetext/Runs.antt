@@ -23,7 +23,6 @@ use Rattle.md_frame.proofs.EachEvent.{Each}
 use Rattle.md_leaf_rooms.proofs.HeadingSetext.Kinds.{Underlines, setext-starts, underline-mark}
 use Rattle.md_frame.proofs.MarkRuns.Cells.{line-adds}
 use Rattle.md_frame.proofs.MarkRuns.Each.{Holds, IsNoContent, cell_line-holds, each-no_content}
-use Rattle.md_frame.proofs.OutsideFacts.{AreOutside, IsOutside}
 
 -- the whole underline
 pub setext-adds : (options : ParseOptions) (on : HeldLeaf) (said : Line) (text behind : List ℕ) (r : Rest) (p : Point)
@@ -54,9 +53,3 @@ setext-no_content wants options on cells p =
     each-no_content wants (setext_leaf.adds options on cells p)
     (setext-each (IsNoContent wants) (λ q. (refl, refl), λ q. (refl, refl)) (λ q. (refl, refl), λ q. (refl, refl))
     (λ q. (refl, refl), λ q. (refl, refl)) options on cells p)
-
--- and nothing begins in it that a resolver of the registry rewrites
-pub setext-own : (options : ParseOptions) (on : HeldLeaf) (cells : List Cell) (p : Point) →
-    AreOutside (setext_leaf.adds options on cells p)
-setext-own options on cells p =
-    setext-each IsOutside (λ q. refl, λ q. refl) (λ q. refl, λ q. refl) (λ q. refl, λ q. refl) options on cells p

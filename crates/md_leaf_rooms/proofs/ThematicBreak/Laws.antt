@@ -8,7 +8,7 @@ use Rattle.md_leaf_rooms.specs.Leaf.ThematicBreak.{break_leaf}
 use Rattle.md_frame.proofs.LeafLaws.{LeafLaws}
 use Rattle.md_leaf_rooms.proofs.ThematicBreak.Facts.{break-facts, break-set, break-unspanned}
 use Rattle.md_leaf_rooms.proofs.ThematicBreak.Kinds.{break-fits}
-use Rattle.md_leaf_rooms.proofs.ThematicBreak.Runs.{break-adds, break-no_content, break-own}
+use Rattle.md_leaf_rooms.proofs.ThematicBreak.Runs.{break-adds, break-no_content}
 use Rattle.md_leaf_rooms.proofs.ThematicBreak.Trial.{break-looked, break-refused, break-shrinks, break-took}
 use Rattle.md_leaf_rooms.proofs.ThematicBreak.Unturned.{break-alone, break-unturned}
 use Rattle.md_leaf_rooms.specs.Leaf.ThematicBreak.{is_ruled}
@@ -40,7 +40,6 @@ break-laws = record {
   holds_is = λ options leaf r starts. refl;
   not_lazy = λ options on. (λ cells p. refl, λ r. refl);
   no_content = λ wants only options on. break-no_content wants options;
-  own = λ options on cells p none. break-own options cells p;
   lined = λ open_leaf plain options on r p starts lines. absurd (cc);
   unturned = λ ends options on r p starts. break-unturned (rest_line r) p;
   unspanned = λ ends options on r p starts. break-unspanned (rest_line r) p;

@@ -13,7 +13,7 @@ use Rattle.md_frame.proofs.LeafStarts.{start-registers}
 use Rattle.md_frame.proofs.Registers.{Registers, adds}
 
 break-marked : (w : World) (b : ℕ) (one : Bool) → Registers w → Registers (break.marked_code w b one).world
-break-marked w b true h = adds w.events _ w.resolvers refl refl h
+break-marked w b true h = adds w.events _ w.resolvers refl h
 break-marked w b false h = h
 
 break-before : (w : World) (nothing : Bool) (o : Option ℕ) → Registers w →
@@ -26,19 +26,19 @@ break-before w nothing (Some b) h = go (break.is_marker b) refl
     go false e = rw e h
 
 break-at : (w : World) (a b : Bool) → Registers w → Registers (break.at_break_code w a b).world
-break-at w true b h = adds w.events _ w.resolvers refl refl h
-break-at w false true h = adds w.events _ w.resolvers refl refl h
+break-at w true b h = adds w.events _ w.resolvers refl h
+break-at w false true h = adds w.events _ w.resolvers refl h
 break-at w false false h = h
 
 break-sequence : (w : World) (a b : Bool) → Registers w → Registers (break.sequence_code w a b).world
 break-sequence w true b h = h
-break-sequence w false true h = adds w.events _ w.resolvers refl refl h
-break-sequence w false false h = adds w.events _ w.resolvers refl refl h
+break-sequence w false true h = adds w.events _ w.resolvers refl h
+break-sequence w false false h = adds w.events _ w.resolvers refl h
 
 break-one_run : (w : World) (a b : Bool) → Registers w → Registers (break.one_run_code w a b).world
 break-one_run w true b h = h
-break-one_run w false true h = adds w.events _ w.resolvers refl refl h
-break-one_run w false false h = adds w.events _ w.resolvers refl refl h
+break-one_run w false true h = adds w.events _ w.resolvers refl h
+break-one_run w false false h = adds w.events _ w.resolvers refl h
 
 break-one_run_after : (w : World) (a : Bool) → Registers w → Registers (break.one_run_after_code w a).world
 break-one_run_after w true h = h

@@ -22,7 +22,6 @@ use Rattle.md_frame.proofs.ContentFacts.{NoContent}
 use Rattle.md_frame.proofs.EachEvent.{Each}
 use Rattle.md_frame.proofs.MarkRuns.Cells.{line-adds}
 use Rattle.md_frame.proofs.MarkRuns.Each.{Holds, IsNoContent, cell_line-holds, each-no_content}
-use Rattle.md_frame.proofs.OutsideFacts.{AreOutside, IsOutside}
 use Rattle.md_leaf_rooms.proofs.ThematicBreak.Kinds.{break-mark, rule-first}
 use Rattle.md_leaf_rooms.specs.Leaf.ThematicBreak.{is_ruled}
 
@@ -61,9 +60,3 @@ break-no_content wants options cells p =
     each-no_content wants (break_leaf.adds options held_leaf.None cells p)
     (break-each (IsNoContent wants) (λ q. (refl, refl), λ q. (refl, refl)) (λ q. (refl, refl), λ q. (refl, refl))
     (λ q. (refl, refl), λ q. (refl, refl)) options cells p)
-
--- and nothing begins in it that a resolver rewrites
-pub break-own : (options : ParseOptions) (cells : List Cell) (p : Point) →
-    AreOutside (break_leaf.adds options held_leaf.None cells p)
-break-own options cells p =
-    break-each IsOutside (λ q. refl, λ q. refl) (λ q. refl, λ q. refl) (λ q. refl, λ q. refl) options cells p

@@ -7,8 +7,8 @@ use Rattle.md_frame.specs.RestLine.{rest_line}
 use Rattle.md_literal_rooms.specs.Leaf.CodeIndented.{code_further, code_leaf, is_code}
 use Rattle.md_literal_rooms.proofs.CodeIndented.Cells.{code-adds, code-fits, code_further-adds, code_further-fits}
 use Rattle.md_literal_rooms.proofs.CodeIndented.Look.{code-looked, code_further-looked}
-use Rattle.md_literal_rooms.proofs.CodeIndented.Outside.{code-lined, code-no_content, code-own, code_further-lined}
-use Rattle.md_literal_rooms.proofs.CodeIndented.Outside.{code_further-no_content, code_further-own}
+use Rattle.md_literal_rooms.proofs.CodeIndented.Outside.{code-lined, code-no_content, code_further-lined}
+use Rattle.md_literal_rooms.proofs.CodeIndented.Outside.{code_further-no_content}
 use Rattle.md_literal_rooms.proofs.CodeIndented.Trial.{code-refused, code-shrinks, code-took}
 use Rattle.md_literal_rooms.proofs.CodeIndented.Trial.{code_further-refused, code_further-shrinks, code_further-took}
 use Rattle.md_frame.proofs.LeafLaws.{LeafLaws}
@@ -29,7 +29,6 @@ code-laws = record {
   holds_is = λ options leaf r starts. refl;
   not_lazy = λ options on. (λ cells p. refl, λ r. refl);
   no_content = λ wants only. code-no_content wants;
-  own = λ options on cells p none. code-own options on cells p;
   lined = λ stays plain options on r p starts lines. code-lined options on (rest_line r) p;
   unturned = λ ends options on r p starts. absurd (cc);
   set = λ ends options on r p es starts. cc;
@@ -60,7 +59,6 @@ code_further-laws = record {
   holds_is = λ options leaf r starts. refl;
   not_lazy = λ options on. (λ cells p. refl, λ r. refl);
   no_content = λ wants only. code_further-no_content wants only.flow;
-  own = λ options on cells p none. code_further-own options on cells p;
   lined = λ stays plain options on r p starts lines. code_further-lined options on (rest_line r) p;
   unturned = λ ends options on r p starts. absurd (cc);
   set = λ ends options on r p es starts. cc;

@@ -48,20 +48,6 @@ either P false xs ys a b = b
 
 -- No part of it is rewritten.
 
-line-own : (begin : Event) (cells : List Cell) (p : Point) → IsOutside begin → AreOutside (line_adds begin cells p)
-line-own begin cells p is = (is, (refl, (refl, (refl, (refl, (refl, tt))))))
-
-pub code-own : (options : ParseOptions) (on : HeldLeaf) (cells : List Cell) (p : Point) →
-    AreOutside (code_leaf.adds options on cells p)
-code-own options on cells p = line-own (enter n.CodeIndented p) cells p refl
-
-pub code_further-own : (options : ParseOptions) (on : HeldLeaf) (cells : List Cell) (p : Point) →
-    AreOutside (code_further.adds options on cells p)
-code_further-own options on cells p =
-    let begin : Event = enter_link n.CodeIndented p further_link in
-    either AreOutside (is_blank (line_bytes cells)) (blank_adds cells p) (line_adds begin cells p)
-    (inside-outside (blank_adds cells p) (blank-inside cells p)) (line-own begin cells p refl)
-
 -- Its names may stand in a leaf of several lines.
 
 line-lined : (begin : Event) (r : Rest) (p q : Point) → IsLined begin → AreLined (line_parts begin r p q)

@@ -4,7 +4,7 @@ use Rattle.md_frame.specs.RestLine.{rest_line}
 use Rattle.md_literal_rooms.specs.Leaf.Fence.{fence_keeps, fence_leaf}
 use Rattle.md_literal_rooms.proofs.Fence.Adds.{fence-adds}
 use Rattle.md_literal_rooms.proofs.Fence.Cells.{fence-fits, fence-keeps}
-use Rattle.md_literal_rooms.proofs.Fence.Outside.{fence-lazy, fence-lined, fence-no_content, fence-own}
+use Rattle.md_literal_rooms.proofs.Fence.Outside.{fence-lazy, fence-lined, fence-no_content}
 use Rattle.md_literal_rooms.proofs.Fence.Trial.{fence-looked, fence-took, trial-refused, trial-shrinks}
 use Rattle.md_frame.proofs.LeafLaws.{LeafLaws}
 
@@ -25,7 +25,6 @@ fence-laws = record {
   not_lazy = λ options on. (fence-lazy options, λ r. refl);
   no_content = λ wants only options on cells p.
       fence-no_content wants only.string options (fence_keeps options cells p) cells p;
-  own = λ options on cells p none. fence-own options (fence_keeps options cells p) cells p;
   lined = λ open_leaf plain options on r p starts lines. fence-lined (rest_line r) p;
   unturned = λ ends options on r p starts. absurd (cc);
   set = λ ends options on r p es starts. cc;

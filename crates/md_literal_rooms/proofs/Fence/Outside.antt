@@ -19,7 +19,6 @@ use Rattle.md_seam.specs.Spaces.{small_indent}
 use Rattle.md_seam.specs.Substituted.{wanted}
 use Rattle.md_frame.specs.HeldLeaf.{takes_lazy}
 use Rattle.md_literal_rooms.specs.Leaf.Fence.{fence_keeps, fence_line, linked, or_none}
-use Rattle.md_frame.specs.Resolving.{is_own}
 use Rattle.md_frame.proofs.ContentFacts.{NoContent, is_told}
 use Rattle.md_frame.proofs.EachEvent.{Each}
 use Rattle.md_literal_rooms.proofs.Fence.Each.{adds-each, is_block_name, is_fence_name, line-each}
@@ -27,14 +26,6 @@ use Rattle.md_frame.proofs.LinedFacts.{AreLined, IsLined, is_lined}
 use Rattle.md_frame.proofs.OutsideFacts.{AreOutside, IsOutside}
 
 -- Its names.
-
-name-own : (name : Name) → is_fence_name name ≡ true → is_own name ≡ false
-name-own n.SpaceOrTab e = refl
-name-own _ e = cc
-
-block-own : (name : Name) → is_block_name name ≡ true → is_own name ≡ false
-block-own n.CodeFenced e = refl
-block-own _ e = cc
 
 block-content : (name : Name) → is_block_name name ≡ true → is_told name ≡ false
 block-content n.Content e = cc
@@ -47,12 +38,6 @@ name-content n.DefinitionLabelString e = cc
 name-content _ e = refl
 
 -- No part of it is rewritten.
-
-pub fence-own : (options : ParseOptions) (leaf : HeldLeaf) (cells : List Cell) (p : Point) →
-    AreOutside (fence_adds options leaf cells p)
-fence-own options leaf cells p =
-    adds-each IsOutside (λ name is q. (name-own name is, refl)) (λ name is q. (block-own name is, refl))
-    (λ q. (refl, refl)) options leaf cells p
 
 -- Its names may stand in a leaf of several lines.
 

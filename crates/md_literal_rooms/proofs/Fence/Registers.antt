@@ -19,45 +19,42 @@ use Rattle.md_code.specs.Fence.{is_on, may_close, meta_name, sees_refused, seque
 use Rattle.md_meaning.specs.Leaves.{is_fence_marker, least_size}
 use Rattle.md_seam.specs.Events.Nested.{exit, is_exit}
 use Rattle.md_seam.specs.Spaces.{ends_line, is_current, sees_white}
-use Rattle.md_frame.specs.Resolving.{is_own}
 use Rattle.md_frame.proofs.Registers.{Registers, RegistersBy, adds}
 
 -- Names.
 
--- content has none of these names, and no part that a resolver rewrites
-record IsFree (name : Name) : Type 0 where
-  content : is_content name ≡ false
-  own : is_own name ≡ false
+-- content has none of these names
+abbrev IsFree : Name → Type 0
+IsFree name = is_content name ≡ false
 
 either : (x : Bool) (a b : Name) → IsFree a → IsFree b → IsFree (cond x a b)
 either true a b h k = h
 either false a b h k = k
 
 block-free : (m : ℕ) → IsFree (block_name m)
-block-free m = either (m == 36) _ _ (record { content = refl; own = refl }) (record { content = refl; own = refl })
+block-free m = either (m == 36) _ _ refl refl
 
 fence-free : (m : ℕ) → IsFree (fence_name m)
-fence-free m = either (m == 36) _ _ (record { content = refl; own = refl }) (record { content = refl; own = refl })
+fence-free m = either (m == 36) _ _ refl refl
 
 sequence-free : (m : ℕ) → IsFree (sequence_name m)
-sequence-free m = either (m == 36) _ _ (record { content = refl; own = refl }) (record { content = refl; own = refl })
+sequence-free m = either (m == 36) _ _ refl refl
 
 meta-free : (m : ℕ) → IsFree (meta_name m)
-meta-free m = either (m == 36) _ _ (record { content = refl; own = refl }) (record { content = refl; own = refl })
+meta-free m = either (m == 36) _ _ refl refl
 
 chunk-free : (m : ℕ) → IsFree (chunk_name m)
-chunk-free m = either (m == 36) _ _ (record { content = refl; own = refl }) (record { content = refl; own = refl })
+chunk-free m = either (m == 36) _ _ refl refl
 
 -- What is added.
 
 begins : (es : List Event) (e : Event) (names : List ResolveName) → e.kind ≡ Enter → RegistersBy es names →
     RegistersBy (es ++ e ∷ []) names
-begins es e names is h = adds es e names (ap (λ (k : Kind). is_exit k && is_content e.name) is)
-    (ap (λ (k : Kind). is_exit k && is_own e.name) is) h
+begins es e names is h = adds es e names (ap (λ (k : Kind). is_exit k && is_content e.name) is) h
 
 ends : (es : List Event) (name : Name) (p : Point) (names : List ResolveName) → IsFree name → RegistersBy es names →
     RegistersBy (es ++ exit name p ∷ []) names
-ends es name p names free h = adds es (exit name p) names free.content free.own h
+ends es name p names free h = adds es (exit name p) names free h
 
 -- States.
 
@@ -96,8 +93,8 @@ at-info w false false h = begins _ _ w.resolvers refl (begins w.events _ w.resol
 in-info : (w : World) (a b c : Bool) → Registers w → Registers (fence.info_code w a b c).world
 in-info w true b c h =
     at-part _ at.MetaBefore b
-    (ends _ n.CodeFencedFenceInfo w.point w.resolvers (record { content = refl; own = refl })
-    (ends w.events n.Data w.point w.resolvers (record { content = refl; own = refl }) h))
+    (ends _ n.CodeFencedFenceInfo w.point w.resolvers refl
+    (ends w.events n.Data w.point w.resolvers refl h))
 in-info w false b true h = h
 in-info w false b false h = h
 
@@ -109,7 +106,7 @@ at-meta w false false h = begins _ _ w.resolvers refl (begins w.events _ w.resol
 in-meta : (w : World) (a b : Bool) → Registers w → Registers (fence.meta_code w a b).world
 in-meta w true b h =
     ends _ (meta_name w.scratch.marker) w.point w.resolvers (meta-free w.scratch.marker)
-    (ends w.events n.Data w.point w.resolvers (record { content = refl; own = refl }) h)
+    (ends w.events n.Data w.point w.resolvers refl h)
 in-meta w false true h = h
 in-meta w false false h = h
 

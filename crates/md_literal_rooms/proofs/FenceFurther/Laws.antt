@@ -8,7 +8,7 @@ use Rattle.md_frame.specs.OpenSpan.{is_fence}
 use Rattle.md_literal_rooms.specs.Leaf.FenceFurther.{fence_further}
 use Rattle.md_literal_rooms.proofs.FenceFurther.Cells.{further-adds, further-fits, further-keeps}
 use Rattle.md_literal_rooms.proofs.FenceFurther.Definition.{further-held}
-use Rattle.md_literal_rooms.proofs.FenceFurther.Names.{further-lined, further-no_content, further-own}
+use Rattle.md_literal_rooms.proofs.FenceFurther.Names.{further-lined, further-no_content}
 use Rattle.md_literal_rooms.proofs.FenceFurther.Trial.{further-looked, further-not_lazy, further-refused}
 use Rattle.md_literal_rooms.proofs.FenceFurther.Trial.{further-shrinks, further-shut, further-took}
 use Rattle.md_frame.proofs.LeafLaws.{LeafLaws}
@@ -39,7 +39,6 @@ fence_further-laws = record {
   holds_is = further-held;
   not_lazy = further-not_lazy;
   no_content = λ wants only. further-no_content wants only.flow;
-  own = further-own;
   lined = λ open_leaf plain options on r p starts lines. further-lined options on (rest_line r) p;
   unturned = λ ends options on r p starts. absurd (cc);
   set = λ ends options on r p es starts. cc;

@@ -24,14 +24,13 @@ use Rattle.md_literal_rooms.specs.Leaf.FenceFurther.{closing_line, closing_part,
 use Rattle.md_literal_rooms.specs.Leaf.FenceFurther.{chunk_line, further_parts, opening_of}
 use Rattle.md_frame.specs.LineColumns.{past_columns}
 use Rattle.md_frame.specs.LineColumns.{rest_of}
-use Rattle.md_frame.specs.Resolving.{is_own}
 use Rattle.md_frame.proofs.ContentFacts.{NoContent, is_told}
 use Rattle.md_frame.proofs.IndentRemoved.Names.{is_inside}
 use Rattle.md_frame.proofs.EachEvent.{each-append}
 use Rattle.md_frame.proofs.IndentRemoved.Names.{AreInside, More, either-part, inside-lined}
 use Rattle.md_frame.proofs.IndentRemoved.Names.{lost-each, more-no_content, more-outside, over-each}
 use Rattle.md_frame.proofs.LinedFacts.{AreLined, IsLined, is_lined}
-use Rattle.md_frame.proofs.OutsideFacts.{AreOutside, NoEnds}
+use Rattle.md_frame.proofs.OutsideFacts.{AreOutside}
 
 pub either-name : (P : Name → Type 0) (x : Bool) (a b : Name) → P a → P b → P (cond x a b)
 either-name P true a b h k = h
@@ -135,19 +134,8 @@ inside-each P more options on cells p es h = go (closes_here options on cells)
 
 -- What stands in the line has no name of a resolver's, and no content.
 
-block-own : (m : ℕ) → is_own (block_name m) ≡ false
-block-own m = either-name (λ a. is_own a ≡ false) (m == 36) _ _ refl refl
-
 block-content : (m : ℕ) → is_told (block_name m) ≡ false
 block-content m = either-name (λ a. is_told a ≡ false) (m == 36) _ _ refl refl
-
--- Nothing begins in it that a resolver rewrites.
-pub further-own : (options : ParseOptions) (on : HeldLeaf) (cells : List Cell) (p : Point) →
-    NoEnds is_own (fence_further.adds options on cells p) → AreOutside (fence_further.adds options on cells p)
-further-own options on cells p h = (
-  block-own (held_marker on),
-  inside-each AreOutside more-outside options on cells p _ (refl, tt),
-)
 
 -- Its names may stand in a leaf of several lines.
 

@@ -5,8 +5,8 @@ use Rattle.md_literal_rooms.specs.Leaf.HtmlFlow.{html_further, html_leaf}
 use Rattle.md_literal_rooms.proofs.HtmlFlow.Cells.{further-adds, further-fits, further-keeps, html-adds, html-fits}
 use Rattle.md_literal_rooms.proofs.HtmlFlow.Cells.{html-keeps}
 use Rattle.md_literal_rooms.proofs.HtmlFlow.Found.{further-held, further-not_lazy, html-held, html-lines, html-not_lazy}
-use Rattle.md_literal_rooms.proofs.HtmlFlow.Outside.{further-lined, further-no_content, further-own}
-use Rattle.md_literal_rooms.proofs.HtmlFlow.Outside.{html-lined, html-no_content, html-own}
+use Rattle.md_literal_rooms.proofs.HtmlFlow.Outside.{further-lined, further-no_content}
+use Rattle.md_literal_rooms.proofs.HtmlFlow.Outside.{html-lined, html-no_content}
 use Rattle.md_literal_rooms.proofs.HtmlFlow.Trial.{further-looked, further-refused, further-shrinks, further-took}
 use Rattle.md_literal_rooms.proofs.HtmlFlow.Trial.{html-looked, html-refused, html-shrinks, html-took}
 use Rattle.md_frame.proofs.LeafLaws.{LeafLaws}
@@ -27,7 +27,6 @@ html-laws = record {
   holds_is = λ options leaf r starts. html-held options (kind_of_leaf leaf) leaf r;
   not_lazy = html-not_lazy;
   no_content = λ wants only. html-no_content wants;
-  own = λ options on cells p none. html-own options on cells p;
   lined = λ stays plain options on r p starts lines. html-lined options on (rest_line r) p;
   unturned = λ ends options on r p starts. absurd (cc);
   set = λ ends options on r p es starts. cc;
@@ -53,7 +52,6 @@ html_further-laws = record {
   holds_is = λ options leaf r starts. further-held options leaf r;
   not_lazy = further-not_lazy;
   no_content = λ wants only. further-no_content wants only.flow;
-  own = λ options on cells p none. further-own options on cells p;
   lined = λ stays plain options on r p starts lines. further-lined options on (rest_line r) p;
   unturned = λ ends options on r p starts. absurd (cc);
   set = λ ends options on r p es starts. cc;

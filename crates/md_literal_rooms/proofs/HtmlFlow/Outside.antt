@@ -37,14 +37,6 @@ line-outside : (empty : Bool) (p q : Point) → AreOutside (further_line empty p
 line-outside true p q = (refl, (refl, tt))
 line-outside false p q = (refl, (refl, (refl, (refl, tt))))
 
-pub html-own : (options : ParseOptions) (on : HeldLeaf) (cells : List Cell) (p : Point) →
-    AreOutside (html_leaf.adds options on cells p)
-html-own options on cells p = first-outside p (line_end cells p)
-
-pub further-own : (options : ParseOptions) (on : HeldLeaf) (cells : List Cell) (p : Point) →
-    AreOutside (html_further.adds options on cells p)
-further-own options on cells p = line-outside (is_end (line_bytes cells)) p (line_end cells p)
-
 -- Their names may stand in a leaf of several lines.
 
 pub html-lined : (options : ParseOptions) (on : HeldLeaf) (line : List ℕ) (p : Point) →

@@ -23,12 +23,12 @@ moves w Stops h = h
 -- Other states begin and end lines and their texts.
 
 ends-data : (w : World) → Registers w → Registers (data_ended w).world
-ends-data w h = adds w.events (exit n.HtmlFlowData w.point) w.resolvers refl refl h
+ends-data w h = adds w.events (exit n.HtmlFlowData w.point) w.resolvers refl h
 
 starts : (w : World) (b : Bool) → Registers w → Registers (start_code w b).world
 starts w true h =
-    adds (w.events ++ enter n.HtmlFlow w.point ∷ []) (enter n.HtmlFlowData w.point) w.resolvers refl refl
-    (adds w.events (enter n.HtmlFlow w.point) w.resolvers refl refl h)
+    adds (w.events ++ enter n.HtmlFlow w.point ∷ []) (enter n.HtmlFlowData w.point) w.resolvers refl
+    (adds w.events (enter n.HtmlFlow w.point) w.resolvers refl h)
 starts w false h = h
 
 continues : (w : World) (b : Bool) → Registers w → Registers (continuation_code w b).world
@@ -46,12 +46,12 @@ closes w false h = h
 further : (w : World) (b : Bool) → Registers w → Registers (further_code w b).world
 further w true h =
     adds (w.events ++ enter_link n.HtmlFlow w.point further_link ∷ []) (enter n.HtmlFlowData w.point) w.resolvers refl
-    refl (adds w.events (enter_link n.HtmlFlow w.point further_link) w.resolvers refl refl h)
-further w false h = adds w.events (enter_link n.HtmlFlow w.point further_link) w.resolvers refl refl h
+    (adds w.events (enter_link n.HtmlFlow w.point further_link) w.resolvers refl h)
+further w false h = adds w.events (enter_link n.HtmlFlow w.point further_link) w.resolvers refl h
 
 line-before : (w : World) (b : Bool) → Registers w → Registers (line_before_code w b).world
 line-before w true h = h
-line-before w false h = adds w.events (enter n.HtmlFlowData w.point) w.resolvers refl refl h
+line-before w false h = adds w.events (enter n.HtmlFlowData w.point) w.resolvers refl h
 
 -- each of them
 pub html-registers : (state : HtmlState) (w : World) → Registers w → Registers (html_transition state w).world
@@ -63,5 +63,5 @@ html-registers its.ContinuationStartNonLazy w h = h
 html-registers its.ContinuationBefore w h = line-before w (ends_line w.current) h
 html-registers its.ContinuationRawTagOpen w h = opens-raw w (is_current 47 w.current) h
 html-registers its.ContinuationClose w h = closes w (ends_line w.current) h
-html-registers its.ContinuationAfter w h = adds w.events (exit n.HtmlFlow w.point) w.resolvers refl refl h
+html-registers its.ContinuationAfter w h = adds w.events (exit n.HtmlFlow w.point) w.resolvers refl h
 html-registers _ w h = moves w _ h

@@ -180,10 +180,6 @@ of-outside = record {
   };
 }
 
-pub table-own : (options : ParseOptions) (on : HeldLeaf) (cells : List Cell) (p : Point) →
-    AreOutside (table_leaf.adds options on cells p)
-table-own options on cells p = table-adds_each IsOutside of-outside options on cells p
-
 -- none is a text or an underline,
 pub of-unturned : OfTable IsUnturned
 of-unturned = record {

@@ -2,7 +2,7 @@
 use Rattle.std.proofs.Common.{refl}
 use Rattle.md_table_rooms.specs.Leaf.GfmTable.{table_leaf}
 use Rattle.md_table_rooms.proofs.GfmTable.Cells.{table-adds, table-fits}
-use Rattle.md_table_rooms.proofs.GfmTable.Each.{table-no_content, table-own}
+use Rattle.md_table_rooms.proofs.GfmTable.Each.{table-no_content}
 use Rattle.md_table_rooms.proofs.GfmTable.Found.{table-held, table-lines}
 use Rattle.md_table_rooms.proofs.GfmTable.Trial.{table-refused, table-shrinks, table-took}
 use Rattle.md_tables.proofs.GfmTableLook.{table-looked}
@@ -24,7 +24,6 @@ table-laws = record {
   holds_is = table-held;
   not_lazy = λ options on. (λ cells p. refl, λ r. refl);
   no_content = table-no_content;
-  own = λ options on cells p none. table-own options on cells p;
   lined = λ stays plain options on r p starts lines. absurd (cc);
   unturned = λ ends options on r p starts. absurd (cc);
   set = λ ends options on r p es starts. cc;

@@ -45,28 +45,28 @@ behind r w true h = h
 behind r w false h = h
 
 begins : (r : Row) (w : World) → Registers w → Registers (begun r w)
-begins Head w h = adds w.events (enter n.GfmTableRow w.point) w.resolvers refl refl h
+begins Head w h = adds w.events (enter n.GfmTableRow w.point) w.resolvers refl h
 begins Body w h =
     adds (w.events ++ enter_link n.GfmTable w.point further_link ∷ []) (enter n.GfmTableRow w.point) w.resolvers refl
-    refl (adds w.events (enter_link n.GfmTable w.point further_link) w.resolvers refl refl h)
+    (adds w.events (enter_link n.GfmTable w.point further_link) w.resolvers refl h)
 
 shuts : (r : Row) (w : World) → Registers w → Registers (shut r w)
-shuts Head w h = adds w.events (exit n.GfmTableRow w.point) w.resolvers refl refl h
+shuts Head w h = adds w.events (exit n.GfmTableRow w.point) w.resolvers refl h
 shuts Body w h =
-    adds (w.events ++ exit n.GfmTableRow w.point ∷ []) (exit n.GfmTable w.point) w.resolvers refl refl
-    (adds w.events (exit n.GfmTableRow w.point) w.resolvers refl refl h)
+    adds (w.events ++ exit n.GfmTableRow w.point ∷ []) (exit n.GfmTable w.point) w.resolvers refl
+    (adds w.events (exit n.GfmTableRow w.point) w.resolvers refl h)
 
 breaks : (r : Row) (w : World) (x : Piece) → Registers w → Registers (at_break_code r w x).world
 breaks r w row.Ends h = shuts r w h
 breaks r w row.White h = h
 breaks r w row.Divides h =
     adds (w.events ++ enter n.GfmTableCellDivider w.point ∷ []) (exit n.GfmTableCellDivider (taken w).point) w.resolvers
-    refl refl (adds w.events (enter n.GfmTableCellDivider w.point) w.resolvers refl refl h)
-breaks r w row.Escapes h = adds w.events (enter_link n.Data w.point text_link) w.resolvers refl refl h
-breaks r w row.Other h = adds w.events (enter_link n.Data w.point text_link) w.resolvers refl refl h
+    refl (adds w.events (enter n.GfmTableCellDivider w.point) w.resolvers refl h)
+breaks r w row.Escapes h = adds w.events (enter_link n.Data w.point text_link) w.resolvers refl h
+breaks r w row.Other h = adds w.events (enter_link n.Data w.point text_link) w.resolvers refl h
 
 word-ends : (w : World) → Registers w → RegistersBy (w.events ++ exit n.Data w.point ∷ []) w.resolvers
-word-ends w h = adds w.events (exit n.Data w.point) w.resolvers refl refl h
+word-ends w h = adds w.events (exit n.Data w.point) w.resolvers refl h
 
 words : (r : Row) (w : World) (x : Piece) → Registers w → Registers (data_code r w x).world
 words r w row.Ends h = word-ends w h
@@ -99,25 +99,25 @@ whites w max next false h = h
 opens : (w : World) → Registers w → Registers (row_entered w)
 opens w h =
     adds (w.events ++ enter_link n.GfmTable w.point further_link ∷ []) (enter n.GfmTableDelimiterRow w.point)
-    w.resolvers refl refl (adds w.events (enter_link n.GfmTable w.point further_link) w.resolvers refl refl h)
+    w.resolvers refl (adds w.events (enter_link n.GfmTable w.point further_link) w.resolvers refl h)
 
 closes : (w : World) → Registers w → Registers (row_exited w)
 closes w h =
-    adds (w.events ++ exit n.GfmTableDelimiterRow w.point ∷ []) (exit n.GfmTable w.point) w.resolvers refl refl
-    (adds w.events (exit n.GfmTableDelimiterRow w.point) w.resolvers refl refl h)
+    adds (w.events ++ exit n.GfmTableDelimiterRow w.point ∷ []) (exit n.GfmTable w.point) w.resolvers refl
+    (adds w.events (exit n.GfmTableDelimiterRow w.point) w.resolvers refl h)
 
 -- a pipe, and a colon
 divides : (w : World) → Registers w →
     Registers (delimiter.marked w n.GfmTableCellDivider its.HeadDelimiterCellBefore).world
 divides w h =
     adds (w.events ++ enter n.GfmTableCellDivider w.point ∷ []) (exit n.GfmTableCellDivider (taken w).point) w.resolvers
-    refl refl (adds w.events (enter n.GfmTableCellDivider w.point) w.resolvers refl refl h)
+    refl (adds w.events (enter n.GfmTableCellDivider w.point) w.resolvers refl h)
 
 aligns : (w : World) (next : TableState) → Registers w →
     Registers (delimiter.marked w n.GfmTableDelimiterMarker next).world
 aligns w next h =
     adds (w.events ++ enter n.GfmTableDelimiterMarker w.point ∷ []) (exit n.GfmTableDelimiterMarker (taken w).point)
-    w.resolvers refl refl (adds w.events (enter n.GfmTableDelimiterMarker w.point) w.resolvers refl refl h)
+    w.resolvers refl (adds w.events (enter n.GfmTableDelimiterMarker w.point) w.resolvers refl h)
 
 before : (w : World) (x : Mark) → Registers w → Registers (delimiter.before_code w x).world
 before w delimiter.Divides h = divides w h
@@ -128,12 +128,12 @@ value-before w delimiter.Aligns h = aligns w its.HeadDelimiterLeftAlignmentAfter
 value-before w _ h = h
 
 left-after : (w : World) (x : Mark) → Registers w → Registers (delimiter.left_after_code w x).world
-left-after w delimiter.Dash h = adds w.events (enter n.GfmTableDelimiterFiller w.point) w.resolvers refl refl h
+left-after w delimiter.Dash h = adds w.events (enter n.GfmTableDelimiterFiller w.point) w.resolvers refl h
 left-after w _ h = h
 
 dashes-end : (w : World) → Registers w →
     RegistersBy (w.events ++ exit n.GfmTableDelimiterFiller w.point ∷ []) w.resolvers
-dashes-end w h = adds w.events (exit n.GfmTableDelimiterFiller w.point) w.resolvers refl refl h
+dashes-end w h = adds w.events (exit n.GfmTableDelimiterFiller w.point) w.resolvers refl h
 
 dashes : (w : World) (x : Mark) → Registers w → Registers (delimiter.filler_code w x).world
 dashes w delimiter.Dash h = h
