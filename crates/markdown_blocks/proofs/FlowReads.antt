@@ -30,15 +30,17 @@ use Rattle.md_content.specs.Joined.{is_content, joined}
 use Rattle.md_content.specs.Labels.{labels_in}
 use Rattle.md_content.proofs.LabelsLemmas.{labels-none}
 use Rattle.md_content.specs.Resolves.{Resolves, found_in_content}
+use Rattle.md_leaves.specs.HeadingText.{headings_resolved}
 use Rattle.md_leaves.specs.Turned.{turned}
-use Rattle.md_frame.specs.Joins.{lines_joined, tables_set}
+use Rattle.md_tables.specs.Tabled.{tabled}
+use Rattle.md_frame.specs.Joins.{lines_joined}
 use Rattle.md_seam.specs.Substituted.{Substituted}
 use Rattle.markdown_blocks.specs.Fed.{FlowRan}
 use Rattle.markdown_blocks.specs.FlowReads.{FlowReads, has_text}
 use Rattle.md_rows.specs.TextRows.{text_cells, text_rows, text_setting}
 use Rattle.md_frame.specs.Resolved.{resolved_as}
 use Rattle.md_registry.specs.FlowRule.{flow_at}
-use Rattle.md_frame.specs.Resolving.{heads_read, resolved}
+use Rattle.md_frame.specs.Resolving.{heads_read}
 use Rattle.md_frame.specs.Row.{BlankRow, LeafRow, Row, RowKind, TextRow}
 use Rattle.md_rows.specs.Rows.{is_text, leaf_events, row_events}
 use Rattle.md_rows.specs.Rows.{row_events_by, rows_events, tail_events}
@@ -442,23 +444,23 @@ flow-flushed-from bytes options p start to end at found new same all small run f
     (reads_to start n) end at in
     flow-flushed bytes options p end at found new small (subst P same (subst Q all run)) f
 
--- and once ATX headings have their texts, setext headings are set, the lines of leaves are joined, tables have their
--- cells, and lists are put around items
+-- and once the lines of leaves are joined, and lists, headings and tables are set
 pub flow-reads : (bytes : List ℕ) (options : ParseOptions) (p : Point) (found : Found) (items new : World) →
     FlowFlushed bytes options p found items →
     new ≡
     record items {
-      events = listed items.setting.bytes (tables_set options (lines_joined options (turned (resolved items.events))));
+      events = tabled (turned (headings_resolved (listed items.setting.bytes (lines_joined options items.events))));
     } →
     FlowReads bytes options p found new
 flow-reads bytes options p found items new h set =
-    let put : List Event → List Event = λ es. tables_set options (lines_joined options (turned (resolved es))) in
+    let put : List ℕ → List Event → List Event =
+    λ text es. tabled (turned (headings_resolved (listed text (lines_joined options es)))) in
     let text : items.setting.bytes ≡ bytes = ap (λ (x : Setting). x.bytes) h.setting in
     let all : new ≡
-    record h.ended { events = listed bytes (put h.content); resolvers = [] } = set
-    ∙ ap (λ (l : List ℕ). record items { events = listed l (put items.events) }) text
-    ∙ ap (λ (x : World). record x { events = listed bytes (put x.events) }) h.rest in
-    let is : new.events ≡ listed bytes (put h.content) = ap (λ (x : World). x.events) all in
+    record h.ended { events = put bytes h.content; resolvers = [] } = set
+    ∙ ap (λ (l : List ℕ). record items { events = put l items.events }) text
+    ∙ ap (λ (x : World). record x { events = put bytes x.events }) h.rest in
+    let is : new.events ≡ put bytes h.content = ap (λ (x : World). x.events) all in
     record {
       end = h.end;
       ended = h.ended;

@@ -20,6 +20,7 @@ pub mod SpelledRows
 pub mod StandsLemmas
 pub mod TreeRows
 pub mod Parses
+pub mod ContentAre
 pub mod TextBlocks
 pub mod ReadsWith
 pub mod DocumentReads

@@ -14,7 +14,7 @@ use Rattle.md_engine.specs.World.{World}
 use Rattle.md_containers.specs.ItemsHeld.{ItemsHeld}
 use Rattle.md_containers.specs.ItemsStand.{ItemsStand, root}
 use Rattle.md_containers.specs.Listed.{listed}
-use Rattle.md_frame.specs.Joins.{lines_joined, tables_set}
+use Rattle.md_frame.specs.Joins.{lines_joined}
 use Rattle.md_containers.proofs.ListedBlocks.{IsUnlisted, listed-blocks, listed-covers}
 use Rattle.md_containers.proofs.ListedFilled.{listed-plain, plain-inline}
 use Rattle.md_containers.proofs.ListedKept.{listed-placed}
@@ -64,7 +64,9 @@ use Rattle.md_content_rooms.proofs.Labels.Kept.{listed-labels, read-labels}
 use Rattle.md_content_rooms.proofs.Labels.Off.{off-in}
 use Rattle.md_content_rooms.proofs.Labels.Trees.{defined_in, grouped-defined, grouped-noted, noted_in}
 use Rattle.md_rows.proofs.PartedRows.{rows-parted}
-use Rattle.md_rows.proofs.SpannedGroups.{lines-joined}
+use Rattle.md_list_order.proofs.ListsFirst.{lists-first}
+use Rattle.md_leaves.specs.HeadingText.{headings_resolved}
+use Rattle.md_tables.specs.Tabled.{tabled}
 use Rattle.markdown_blocks.proofs.SpelledRows.{rows-outer}
 use Rattle.md_rows.proofs.JoinedLemmas.{EachNoContent, rows_at-no_content}
 use Rattle.md_container_rooms.proofs.ListedOutlined.{listed-outlined}
@@ -78,67 +80,31 @@ use Rattle.md_rows.proofs.PieceRows.{blocks-pieces}
 use Rattle.md_rows.proofs.PlainEvents.{groups-unlisted}
 use Rattle.md_rows.proofs.RowFacts.{AreRows}
 use Rattle.markdown_blocks.proofs.RowLemmas.{fresh-rows}
-use Rattle.md_rows.proofs.TabledGroups.{tables-set}
+use Rattle.md_rows.proofs.AloneGroups.{leaves-alone}
+use Rattle.md_rows.proofs.TabledGroups.{chain}
+use Rattle.markdown_blocks.proofs.ContentAre.{content-are, lines_of, part-of, rows_of, text-are, text-quiet}
 use Rattle.md_rows.proofs.TileCovers.{blocks-cover}
 use Rattle.md_rows.proofs.TileParts.{blocks-chunks, blocks-nested, blocks-stand}
 use Rattle.md_rows.proofs.TileReads.{blocks-empty, end-unread, text-filled}
 use Rattle.md_container_rooms.proofs.ListedFront.{listed-front}
 use Rattle.markdown_blocks.proofs.TreeRows.{body-rows, body-shallow, body_of, tree-body}
 
--- the lines of a text, behind its front
-abbrev pub lines_of : ParseOptions → List ℕ → List (List ℕ)
-lines_of options bytes = split_lines (drop (body_point options bytes).index bytes)
-
-abbrev pub rows_of : ParseOptions → List ℕ → List Row
-rows_of options bytes = text_rows options bytes (body_point options bytes)
-
-pub text-quiet : (options : ParseOptions) (bytes : List ℕ) (p : Point) → EachNoContent (text_rows options bytes p)
-text-quiet options bytes p =
-    rows_at-no_content options (suc (length (text_cells bytes options p))) [] held_leaf.None
-    (text_cells bytes options p) p
-
-pub text-are : (options : ParseOptions) (bytes : List ℕ) → IsWithoutMdx options → length bytes < 2 ^ 61 →
-    AreRows options bytes [] held_leaf.None (body_point options bytes) (lines_of options bytes) (rows_of options bytes)
-text-are options bytes built small =
-    let begins = begun options bytes in
-    fresh-rows options bytes (body_point options bytes) built small begins.index begins.vs begins.column
-
-pub part-of : (options : ParseOptions) (bytes : List ℕ) →
-    FrontPart bytes first_point (body_point options bytes) (front_events options bytes)
-part-of options bytes = (begun options bytes).fronted.part
-
--- The events of a text, once flow and content were read, and heads of tables in front of content.
-content-are : (options : ParseOptions) (bytes : List ℕ) → IsWithoutMdx options → length bytes < 2 ^ 61 →
-    (found : Found) (new : World) → (flow : FlowReads bytes options (body_point options bytes) found new) →
-    flow.content ≡ unread_groups options bytes (groups (rows_of options bytes))
-content-are options bytes built small found new flow =
-    content-read options bytes [] held_leaf.None (body_point options bytes) (lines_of options bytes)
-    (rows_of options bytes)
-    (refl, refl) (text-are options bytes built small) (text-quiet options bytes (body_point options bytes))
-    wants_content (content_readings bytes options) refl content-alone
-    (content-reads options bytes) flow.content
-    (subst (λ (l : List Event). Substituted wants_content (content_readings bytes options) [] 0 l flow.content)
-    (heads-joined options bytes [] held_leaf.None (body_point options bytes) (lines_of options bytes)
-    (rows_of options bytes)
-    (text-are options bytes built small) (text-quiet options bytes (body_point options bytes))) flow.content_read)
-
--- Then the resolvers of leaves ran, setext headings were set, the lines of each leaf of several were joined, tables got
--- their cells, and lists were put around items.
+-- Then the lines of each leaf of several were joined, lists were put around items, and headings and tables were set.
 resolved-are : (options : ParseOptions) (bytes : List ℕ) → IsWithoutMdx options → length bytes < 2 ^ 61 →
     (found : Found) (new : World) → (flow : FlowReads bytes options (body_point options bytes) found new) →
     new.events ≡ listed bytes (tabled_groups options bytes (groups (rows_of options bytes)))
 resolved-are options bytes built small found new flow =
+    let lines : List (List ℕ) = lines_of options bytes in
+    let are = text-are options bytes built small in
+    let quiet : EachNoContent (rows_of options bytes) = text-quiet options bytes (body_point options bytes) in
     flow.events_are
-    ∙ ap (λ (l : List Event). listed bytes (tables_set options (lines_joined options (turned (resolved l)))))
-    (content-are options bytes built small found new flow)
-    ∙ ap (λ (l : List Event). listed bytes (tables_set options l))
-    (lines-joined options bytes [] held_leaf.None (body_point options bytes) (lines_of options bytes)
-    (rows_of options bytes)
-    (refl, refl) (text-are options bytes built small) (text-quiet options bytes (body_point options bytes)))
+    ∙ ap (λ (l : List Event). tabled (turned (headings_resolved (listed bytes (lines_joined options l)))))
+    (content-are options bytes built small flow.content flow.content_read)
+    ∙ lists-first bytes (lines_joined options (unread_groups options bytes (groups (rows_of options bytes))))
+    (leaves-alone options bytes [] held_leaf.None (body_point options bytes) lines (rows_of options bytes) (refl, refl) are
+    quiet)
     ∙ ap (listed bytes)
-    (tables-set options bytes [] held_leaf.None (body_point options bytes) (lines_of options bytes)
-    (rows_of options bytes)
-    (refl, refl) (text-are options bytes built small) (text-quiet options bytes (body_point options bytes)))
+    (chain options bytes [] held_leaf.None (body_point options bytes) lines (rows_of options bytes) (refl, refl) are quiet)
 
 -- The labels that content found are those of the tree.
 labels-are : (options : ParseOptions) (bytes : List ℕ) → IsWithoutMdx options → length bytes < 2 ^ 61 →
@@ -152,7 +118,7 @@ labels-are options bytes built small found new flow =
     let part = part-of options bytes in
     let are : AreRows options bytes [] held_leaf.None p lines rows = text-are options bytes built small in
     flow.definitions
-    ∙ ap (labels_in bytes) (content-are options bytes built small found new flow)
+    ∙ ap (labels_in bytes) (content-are options bytes built small flow.content flow.content_read)
     ∙ rows-labels options bytes (groups rows)
     (groups-are options bytes [] held_leaf.None p lines rows (refl, refl) are (text-quiet options bytes p))
     (rows-outer options bytes p lines rows built are)

@@ -12,14 +12,16 @@ use Rattle.md_content.specs.ContentReads.{content_readings, wants_content}
 use Rattle.md_content.specs.Joined.{joined}
 use Rattle.md_content.specs.Labels.{labels_in}
 use Rattle.md_content.specs.Resolves.{found_in_content}
+use Rattle.md_leaves.specs.HeadingText.{headings_resolved}
 use Rattle.md_leaves.specs.Turned.{turned}
+use Rattle.md_tables.specs.Tabled.{tabled}
 use Rattle.md_seam.specs.Substituted.{Substituted}
 use Rattle.markdown_blocks.specs.Fed.{FlowRan}
-use Rattle.md_frame.specs.Resolving.{heads_read, resolved}
+use Rattle.md_frame.specs.Resolving.{heads_read}
 use Rattle.md_frame.specs.Row.{Row}
 use Rattle.md_rows.specs.Rows.{is_text, rows_events}
 use Rattle.md_rows.specs.TextRows.{text_rows, text_setting}
-use Rattle.md_frame.specs.Joins.{lines_joined, tables_set}
+use Rattle.md_frame.specs.Joins.{lines_joined}
 
 -- whether a line is content
 abbrev pub has_text : List Row → Bool
@@ -37,9 +39,9 @@ pub record FlowReads (bytes : List ℕ) (options : ParseOptions) (p : Point) (fo
   pub content : List Event
   pub content_read : Substituted wants_content (content_readings bytes options) [] 0
       (joined (heads_read options bytes (rows_events (text_rows options bytes p)))) content
-  -- then ATX headings get their texts, setext headings are set, the lines of each leaf of several are joined, tables
-  -- get their cells, and lists are put around items
-  pub events_are : new.events ≡ listed bytes (tables_set options (lines_joined options (turned (resolved content))))
+  -- then the lines of each leaf of several are joined, and lists are put around items, headings get their texts, and
+  -- tables their cells
+  pub events_are : new.events ≡ tabled (turned (headings_resolved (listed bytes (lines_joined options content))))
   -- all else stays, but that no resolver is left to run
   pub rest : new ≡ record ended { events = new.events; resolvers = [] }
   pub setting : new.setting ≡ text_setting bytes options p

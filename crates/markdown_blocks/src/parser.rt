@@ -1,20 +1,17 @@
 // From a text to events.
 
-ghost use Rattle.std.specs.Prelude.{◌≡◌, ◌≤◌, ◌++◌, IfOk, OnOk, [], length, map, string_bytes};
-ghost use Rattle.std.specs.List.{prefix_len};
-ghost use Rattle.md_containers.specs.Listed.{listed};
+ghost use Rattle.std.specs.Prelude.{◌≡◌, ◌++◌, IfOk, OnOk, [], map, string_bytes};
 ghost use Rattle.md_engine.specs.Found.{found_in};
 ghost use Rattle.md_engine.specs.Place.{IsPlaced};
 ghost use Rattle.md_engine.specs.World.{fresh, world};
-ghost use Rattle.md_leaves.specs.Turned.{turned};
 ghost use Rattle.md_seam.specs.TextPart.{IsTextPart, document_of, text_kind, wants_text};
 ghost use Rattle.md_registry.specs.Document.{ReadsFront};
-ghost use Rattle.md_frame.specs.Joins.{lines_joined, tables_set};
+ghost use Rattle.md_front_rooms.specs.Front.{body_point};
+ghost use Rattle.md_frame.specs.Joins.{lines_joined};
 ghost use Rattle.markdown_blocks.specs.FlowReads.{FlowReads};
 ghost use Rattle.md_container_rooms.specs.Footnotes.{footnotes_listed};
 ghost use Rattle.markdown_blocks.specs.Parsed.{IsParsed, IsRead, IsWithoutMdx};
 ghost use Rattle.md_meaning.specs.Wrapped.{IsSmall};
-ghost use Rattle.md_frame.specs.Resolving.{resolved, stays_alone};
 
 use crate::plain::Plain;
 use md_content::footnote_labels::footnote_labels;
@@ -30,9 +27,9 @@ use md_engine::table::{flush, push};
 use md_engine::tokenizer::Tokenizer;
 use md_flow::document::DocumentTable;
 use md_flow::flow::FlowTable;
-use md_flow::resolve;
 use md_leaves::spans;
 use md_registry::choices;
+use md_resolve::pass::pass;
 use md_seam::inline::{Chunk, Inline, PartKind};
 use md_seam::subtokenize::{Reader, subtokenize};
 use std::alloc::Global;
@@ -149,19 +146,6 @@ fn flow_tokenizer<'a>(
     Ok(tokenizer)
 }
 
-/// Gives ATX headings their texts.
-///
-/// An `Err` says that memory ran out.
-fn set_headings(tokenizer: &mut Tokenizer) -> Result<(), Message>
-    requires { (world tokenizer.old).frames ≡ [] }
-    ensures frames { OnOk result ((world tokenizer.new).frames ≡ []) }
-    ensures world { OnOk result
-        (world tokenizer.new ≡ record (world tokenizer.old) { events = resolved (world tokenizer.old).events }) }
-{
-    resolve::call(tokenizer, ResolveName::HeadingAtx)?;
-    Ok(())
-}
-
 /// Joins the lines of each leaf of several, where one may be on.
 ///
 /// An `Err` says that memory ran out.
@@ -177,61 +161,16 @@ fn join_lines(tokenizer: &mut Tokenizer, options: &ParseOptions) -> Result<(), M
     Ok(())
 }
 
-/// Gives tables their heads, bodies and cells, where they are on.
-///
-/// An `Err` says that memory ran out.
-fn set_tables(tokenizer: &mut Tokenizer, options: &ParseOptions) -> Result<(), Message>
-    requires { (world tokenizer.old).frames ≡ [] }
-    ensures frames { OnOk result ((world tokenizer.new).frames ≡ []) }
-    ensures world { OnOk result
-        (world tokenizer.new ≡
-        record (world tokenizer.old) { events = tables_set options.now (world tokenizer.old).events }) }
-{
-    if options.constructs.gfm_table {
-        resolve::call(tokenizer, ResolveName::GfmTable)?;
-    }
-    Ok(())
-}
+/// The resolvers that run in one pass once all content is read.
+const RESOLVERS: [ResolveName; 4] = [
+    ResolveName::ListItem,
+    ResolveName::HeadingAtx,
+    ResolveName::HeadingSetext,
+    ResolveName::GfmTable,
+];
 
-/// How many events stand in front of the first that may not stay as it is where setext headings are set, lines are joined
-/// and lists are put around items.
-fn until_grouped(events: &[Event]) -> usize
-    ensures value { result ≡ prefix_len stays_alone events.now }
-    ensures within { result ≤ length events.now }
-{
-    for (at, event) in events.iter().enumerate() {
-        if !choices::stays_alone(event) {
-            return at;
-        }
-    }
-    events.len()
-}
-
-/// Sets setext headings, joins the lines of each leaf of several, gives tables their cells, and puts lists around items.
-/// Where none of these stands, one look at each event tells so.
-///
-/// An `Err` says that memory ran out.
-fn group_blocks(tokenizer: &mut Tokenizer, options: &ParseOptions) -> Result<(), Message>
-    requires { (world tokenizer.old).frames ≡ [] }
-    ensures { OnOk result
-        (world tokenizer.new ≡
-        record (world tokenizer.old) {
-          events = listed (world tokenizer.old).setting.bytes
-              (tables_set options.now (lines_joined options.now (turned (world tokenizer.old).events)));
-        }) }
-{
-    if until_grouped(&tokenizer.events) == tokenizer.events.len() {
-        return Ok(());
-    }
-    resolve::call(tokenizer, ResolveName::HeadingSetext)?;
-    join_lines(tokenizer, options)?;
-    set_tables(tokenizer, options)?;
-    resolve::call(tokenizer, ResolveName::ListItem)?;
-    Ok(())
-}
-
-/// Reads the lines of a text from a point on by flow, and then its content; sets headings, joins the lines of each leaf of
-/// several, and puts lists around items.
+/// Reads the lines of a text from a point on by flow, and then its content; joins the lines of each leaf of several, and
+/// runs the resolvers of items, headings and tables.
 ///
 /// An `Err` says that memory ran out.
 fn read_flow<'a>(
@@ -241,7 +180,9 @@ fn read_flow<'a>(
     start: Point,
 ) -> Result<(Tokenizer<'a>, Subresult), Message>
     requires small { IsSmall bytes.now }
+    requires built { IsWithoutMdx options.now }
     requires placed { IsPlaced bytes.now start }
+    requires begins { start ≡ body_point options.now bytes.now }
     ensures { IfOk result (λ read. FlowReads bytes.now options.now start (found_in read.1) (world read.0)) }
 {
     let mut tokenizer = flow_tokenizer(alloc, bytes, options, start)?;
@@ -251,8 +192,8 @@ fn read_flow<'a>(
         end => end,
     };
     let found = flush::<FlowTable>(&mut tokenizer, end, true)?;
-    set_headings(&mut tokenizer)?;
-    group_blocks(&mut tokenizer, options)?;
+    join_lines(&mut tokenizer, options)?;
+    pass(&mut tokenizer, &RESOLVERS)?;
     Ok((tokenizer, found))
 }
 

@@ -22,6 +22,12 @@ pub read_flow-requires-clause-placed : goal.read_flow-requires-clause-placed
 read_flow-requires-clause-placed g c =
     rw c.in_ok-front.ensures.bytes_are at c.in_ok-front.front.sound.placed
 
+pub read_flow-requires-clause-built : goal.read_flow-requires-clause-built
+read_flow-requires-clause-built g c = c.requires.built
+
+pub read_flow-requires-clause-begins : goal.read_flow-requires-clause-begins
+read_flow-requires-clause-begins g c = c.in_ok-front.ensures.point
+
 pub subtokenize-requires-clause-placed : goal.subtokenize-requires-clause-placed
 subtokenize-requires-clause-placed g c =
     let events_are = c.deref-2.ensures.value ∙ ap (λ (w : World). w.events) c.take_spare-spare.ensures.same in
