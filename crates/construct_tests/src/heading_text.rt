@@ -2,7 +2,9 @@
 
 use md_engine::event::{Content, Event, Kind, Link, Name, Point};
 use md_engine::message::Message;
-use md_leaves::heading_text::put_texts;
+use md_engine::resolve::Name as ResolveName;
+use md_order::wanted::wanted_of;
+use md_resolve::pass::set_all;
 use std::alloc::{AllocError, Global};
 use std::process::Abort;
 
@@ -66,7 +68,9 @@ fn gives(alloc: Global, list: &str, want: &str) -> Result<bool, Message> {
     let (Ok(events), Ok(want)) = (all(alloc, list), all(alloc, want)) else {
         return Err(Message);
     };
-    Ok(put_texts(events, Vec::new(alloc))?.0 == want)
+    let wanted = wanted_of(&[ResolveName::HeadingAtx]);
+    let (set, _) = set_all(alloc, wanted, &[], events, Vec::new(alloc))?;
+    Ok(set == want)
 }
 
 // A run that is refused memory answers so, and the next run is given it.

@@ -1,12 +1,14 @@
 // Lists around items, on events as the states of items add them, and their outlines.
 
 use markdown_blocks::outline::outline;
-use md_containers::lists::put_lists;
 use md_engine::configuration::ParseOptions;
 use md_engine::event::{Event, Kind, Name, Point};
 use md_engine::message::Message;
 use md_engine::parse_state::ParseState;
+use md_engine::resolve::Name as ResolveName;
 use md_meaning::outline::Word;
+use md_order::wanted::wanted_of;
+use md_resolve::pass::set_all;
 use std::alloc::{AllocError, Global};
 use std::process::Abort;
 
@@ -62,12 +64,19 @@ fn all(alloc: Global, list: &str) -> Result<Vec<Event>, AllocError> {
     Ok(events)
 }
 
+// The events of a text with lists around its items.
+fn listed(alloc: Global, text: &str, events: Vec<Event>) -> Result<Vec<Event>, Message> {
+    let wanted = wanted_of(&[ResolveName::ListItem]);
+    let (set, _) = set_all(alloc, wanted, text.as_bytes(), events, Vec::new(alloc))?;
+    Ok(set)
+}
+
 // Whether the events of a text, listed, are these.
 fn gives(alloc: Global, text: &str, list: &str, want: &str) -> Result<bool, Message> {
     let (Ok(events), Ok(want)) = (all(alloc, list), all(alloc, want)) else {
         return Err(Message);
     };
-    Ok(put_lists(alloc, text.as_bytes(), &events, Vec::new(alloc))? == want)
+    Ok(listed(alloc, text, events)? == want)
 }
 
 // A run that is refused memory answers so, and the next run is given it.
@@ -132,7 +141,7 @@ fn shown(alloc: Global, text: &str, list: &str) -> Result<String, Message> {
     let Ok(events) = all(alloc, list) else {
         return Err(Message);
     };
-    let events = put_lists(alloc, text.as_bytes(), &events, Vec::new(alloc))?;
+    let events = listed(alloc, text, events)?;
     let state = ParseState {
         options: &ParseOptions::NONE,
         bytes: text.as_bytes(),

@@ -1,9 +1,9 @@
 -- Lists around items, event by event.
-use Rattle.std.proofs.Common.{◌≡◌, ℕ, suc, ◌+◌, ◌<◌, Bool, true, false, cond, not, List, [], ◌∷◌, ◌++◌, take, drop, length, get_or}
-use Rattle.std.proofs.Common.{refl, ap, sym, ◌∙◌, append_assoc, append-nil, arith, ◌≤◌}
+use Rattle.std.proofs.Common.{◌≡◌, ℕ, suc, ◌+◌, Bool, true, false, cond, not, List, [], ◌∷◌, ◌++◌, take, drop, length}
+use Rattle.std.proofs.Common.{refl, ap, ◌∙◌, append-nil, arith, ◌≤◌}
 use Rattle.std.specs.Prelude.{Option, if◌then◌else◌}
 use Rattle.std.specs.List.{prefix_len}
-use Rattle.std.proofs.lemmas.List.{drop-drop, drop_all, drop_more, take_all}
+use Rattle.std.proofs.lemmas.List.{drop_all, take_all}
 use Rattle.std.proofs.lemmas.List.Elements.{All-append, All-cons, All-head, All-nil, All-tail}
 use Rattle.std.specs.List.{All}
 use Rattle.md_engine.specs.declared.event.Event.{Event}
@@ -62,39 +62,6 @@ listed-none bytes events all =
     ∙ ap (λ (l : List Event). take (length events) events ++ listed_from bytes outside l)
     (drop_all (length events) events (let le : length events ≤ length events = omega arith in le))
     ∙ append-nil (take (length events) events) ∙ take_all (length events) events (omega arith)
-
--- The walk goes on with events that pass,
-pub walk-copied : (bytes : List ℕ) (place now : Place) (events old new all : List Event) (at many : ℕ) →
-    new ≡ old ++ take many (drop at events) → now ≡ place → many ≡ prefix_len passes (drop at events) →
-    old ++ listed_from bytes place (drop at events) ≡ all →
-    new ++ listed_from bytes now (drop (at + many) events) ≡ all
-walk-copied bytes place now events old new all at many is same count so_far =
-    rw (is, same)
-    (append_assoc old (take many (drop at events)) (listed_from bytes place (drop (at + many) events))
-    ∙ ap (λ (l : List Event). old ++ (take many (drop at events) ++ listed_from bytes place l))
-    (sym (drop-drop many at events))
-    ∙ ap
-    (λ (n : ℕ). old ++ (take n (drop at events) ++ listed_from bytes place (drop n (drop at events)))) count
-    ∙ ap (λ (l : List Event). old ++ l) (sym (listed-passes bytes place (drop at events))) ∙ so_far)
-
--- and with the event behind them
-pub walk-stepped : (bytes : List ℕ) (place now : Place) (events old new all : List Event) (at : ℕ) (d : Event) →
-    at < length events → new ≡ old ++ given bytes place (get_or events at d) (drop (at + 1) events) →
-    now ≡ place_after bytes place (get_or events at d) (drop (at + 1) events) →
-    old ++ listed_from bytes place (drop at events) ≡ all →
-    new ++ listed_from bytes now (drop (at + 1) events) ≡ all
-walk-stepped bytes place now events old new all at d within is there so_far =
-    rw (is, there)
-    (append_assoc old (given bytes place (get_or events at d) (drop (at + 1) events))
-    (listed_from bytes (place_after bytes place (get_or events at d) (drop (at + 1) events)) (drop (at + 1) events))
-    ∙ ap (λ (l : List Event). old ++ listed_from bytes place l) (sym (drop_more events at d within)) ∙ so_far)
-
--- At the end all is given.
-pub walk-done : (bytes : List ℕ) (place : Place) (events given all : List Event) (at : ℕ) → length events ≤ at →
-    given ++ listed_from bytes place (drop at events) ≡ all → given ≡ all
-walk-done bytes place events given all at end so_far =
-    sym (append-nil given)
-    ∙ ap (λ (l : List Event). given ++ listed_from bytes place l) (sym (drop_all at events end)) ∙ so_far
 
 -- Points.
 

@@ -11,7 +11,6 @@ pub mod FootnoteRule
 pub mod FootnotePrefix
 pub mod Listed
 pub mod ItemsStand
-pub mod ListedWalk
 pub mod ItemsHeld
 pub mod PlainBullet
 pub mod PlainItem

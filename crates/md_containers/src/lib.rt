@@ -1,5 +1,4 @@
-// Containers: block quotes, list items with lists around them, and footnote definitions; and frontmatter, which stands
-// in front of all of them.
+// Containers: block quotes, list items and footnote definitions; and frontmatter, which stands in front of all of them.
 #![tactic(auto)]
 
 pub mod block_quote;
@@ -7,5 +6,4 @@ pub mod frontmatter;
 pub mod gfm_footnote_definition;
 mod interrupts;
 pub mod list_item;
-pub mod lists;
 pub mod plain_item;

@@ -34,7 +34,6 @@ ghost use Rattle.md_seam.specs.Stays.{TakesEach};
 ghost use Rattle.md_seam.specs.Transition.{IsAt, NeedsNothing};
 
 use crate::interrupts::interrupts;
-pub use crate::lists::resolve;
 use md_engine::event::Name;
 use md_engine::or_error;
 use md_engine::state::blank_line::State as BlankState;

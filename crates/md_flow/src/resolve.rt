@@ -12,6 +12,7 @@ pub use md_engine::resolve::Name;
 use md_engine::subtokenize::Subresult;
 use md_engine::tokenizer::Tokenizer;
 use md_registry::choices;
+use md_resolve::pass::pass;
 
 /// Runs the resolver of this name; changes nothing for names of the inline layer.
 ///
@@ -27,6 +28,9 @@ pub fn call(tokenizer: &mut Tokenizer, name: Name) -> Result<Option<Subresult>, 
             choices::read_heads(tokenizer)?;
             content::resolve(tokenizer)
         }
-        _ => choices::resolve(tokenizer, name),
+        Name::ListItem | Name::HeadingAtx | Name::HeadingSetext | Name::GfmTable => {
+            pass(tokenizer, &[name])
+        }
+        _ => Ok(None),
     }
 }

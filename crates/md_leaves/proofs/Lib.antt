@@ -18,8 +18,7 @@ pub mod HeadingWords
 pub mod BomMeaning
 pub mod NonLazyTermination
 pub mod NonLazyMeaning
-pub mod HeadingHeldLemmas
-pub mod HeadingWalkLemmas
+pub mod HeadingsPlaced
 pub mod RewrittenLemmas
 pub mod SpannedLemmas
 pub mod SpannedLines

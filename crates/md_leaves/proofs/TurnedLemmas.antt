@@ -1,8 +1,7 @@
 -- Setext headings, event by event.
-use Rattle.std.proofs.Common.{◌≡◌, ℕ, suc, ◌+◌, ◌<◌, ◌≤◌, Bool, true, false, cond, not, ◌&&◌, List, [], ◌∷◌, ◌++◌, take}
-use Rattle.std.proofs.Common.{drop, length, get_or, refl, ap, sym, ◌∙◌, append_assoc, append-nil, arith}
+use Rattle.std.proofs.Common.{◌≡◌, ℕ, ◌+◌, Bool, true, false, cond, not, ◌&&◌, List, [], ◌∷◌, ◌++◌}
+use Rattle.std.proofs.Common.{length, refl, ap, sym, ◌∙◌, append_assoc, arith}
 use Rattle.std.specs.List.{All, prefix_len}
-use Rattle.std.proofs.lemmas.List.{drop-drop, drop_all, drop_more}
 use Rattle.std.proofs.lemmas.List.Elements.{All-append, All-cons, All-head, All-nil, All-tail}
 use Rattle.md_engine.specs.declared.event.Event.{Event}
 use Rattle.md_engine.specs.declared.event.Kind.{Kind}
@@ -55,23 +54,6 @@ pub passes-given : (on : Bool) (e : Event) (es : List Event) → passes e ≡ tr
 passes-given on e es h =
     let parts : (is_paragraph e.name ≡ false) × (is_underline e.name ≡ false) = passes-parts e h in
     by-turn on e es Stays (turn-stays e.kind e.name parts.0 parts.1)
-
--- and so are all in front of the next that does not pass
-turned-run : (on : Bool) (es : List Event) →
-    turned_from on es ≡ take (prefix_len passes es) es ++ turned_from on (drop (prefix_len passes es) es)
-turned-run on [] = refl
-turned-run on (e ∷ es) = go (passes e) refl (turned-run on es)
-  where
-    go : (x : Bool) → passes e ≡ x →
-        turned_from on es ≡ take (prefix_len passes es) es ++ turned_from on (drop (prefix_len passes es) es) →
-        turned_from on (e ∷ es)
-        ≡ take (cond x (1 + prefix_len passes es) 0) (e ∷ es)
-        ++ turned_from on (drop (cond x (1 + prefix_len passes es) 0) (e ∷ es))
-    go false h k = refl
-    go true h k =
-        passes-given on e es h ∙ ap (λ (l : List Event). e ∷ l) k
-        ∙ ap (λ (n : ℕ). take n (e ∷ es) ++ turned_from on (drop n (e ∷ es)))
-        (let one : suc (prefix_len passes es) ≡ 1 + prefix_len passes es = omega arith in one)
 
 -- Events of which none is of an underline.
 
@@ -136,36 +118,6 @@ counted-none (e ∷ es) all = go (is_underline e.name) refl (λ rest. counted-no
 -- where no event is of an underline, all stay as they are
 pub turned-none : (events : List Event) → prefix_len is_no_underline events ≡ length events → turned events ≡ events
 turned-none events all = no_underlines-turned events (counted-none events all)
-
--- The walk goes on with events that pass,
-pub walk-copied : (on now : Bool) (events old new all : List Event) (at many : ℕ) →
-    new ≡ old ++ take many (drop at events) → now ≡ on → many ≡ prefix_len passes (drop at events) →
-    old ++ turned_from on (drop at events) ≡ all → new ++ turned_from now (drop (at + many) events) ≡ all
-walk-copied on now events old new all at many is same count so_far =
-    rw (is, same)
-    (append_assoc old (take many (drop at events)) (turned_from on (drop (at + many) events))
-    ∙ ap (λ (l : List Event). old ++ (take many (drop at events) ++ turned_from on l))
-    (sym (drop-drop many at events))
-    ∙ ap (λ (n : ℕ). old ++ (take n (drop at events) ++ turned_from on (drop n (drop at events)))) count
-    ∙ ap (λ (l : List Event). old ++ l) (sym (turned-run on (drop at events))) ∙ so_far)
-
--- and with the event behind them
-pub walk-stepped : (on now : Bool) (events old new all : List Event) (at : ℕ) (d : Event) → at < length events →
-    new ≡ old ++ given on (get_or events at d) (drop (at + 1) events) →
-    now ≡ on_after on (get_or events at d) (drop (at + 1) events) →
-    old ++ turned_from on (drop at events) ≡ all → new ++ turned_from now (drop (at + 1) events) ≡ all
-walk-stepped on now events old new all at d within is there so_far =
-    rw (is, there)
-    (append_assoc old (given on (get_or events at d) (drop (at + 1) events))
-    (turned_from (on_after on (get_or events at d) (drop (at + 1) events)) (drop (at + 1) events))
-    ∙ ap (λ (l : List Event). old ++ turned_from on l) (sym (drop_more events at d within)) ∙ so_far)
-
--- At the end all is given.
-pub walk-done : (on : Bool) (events given all : List Event) (at : ℕ) → length events ≤ at →
-    given ++ turned_from on (drop at events) ≡ all → given ≡ all
-walk-done on events given all at end so_far =
-    sym (append-nil given)
-    ∙ ap (λ (l : List Event). given ++ turned_from on l) (sym (drop_all at events end)) ∙ so_far
 
 -- Points.
 

@@ -3,10 +3,8 @@ pub mod Bom
 pub mod Break
 pub mod Further
 pub mod Heading
-pub mod HeadingHeld
 pub mod HeadingText
 pub mod HeadingWords
-pub mod HeadingWalk
 pub mod HeadingSetext
 pub mod HeadingSetextRule
 pub mod Turned

@@ -3,14 +3,12 @@
 //     heading_atx ::= small_indent 1*6'#' [ 1*space_or_tab line [ 1*space_or_tab 1*'#' ] ] *space_or_tab
 //
 // The states add `HeadingAtx` around runs of the line: `HeadingAtxSequence`, `SpaceOrTab` and linked `Data`. When all
-// of it is read, `resolve` puts `HeadingAtxText` around what lies behind the opening sequence, up to the last run that
+// of it is read, a resolver puts `HeadingAtxText` around what lies behind the opening sequence, up to the last run that
 // does not close the heading, as one `Data`.
 
-ghost use Rattle.std.specs.Prelude.{◌≡◌, ◌≢◌, [], IfOk, IfSome, None};
-ghost use Rattle.std.specs.Option.{option_map};
+ghost use Rattle.std.specs.Prelude.{◌≡◌, ◌≢◌, IfSome};
 ghost use Rattle.md_leaves.specs.HeadingRule.{HeadingMeans};
 ghost use Rattle.md_engine.specs.Full.{IsFull, OnError};
-ghost use Rattle.md_engine.specs.Found.{found_in};
 ghost use Rattle.md_engine.specs.Going.{SeesOn};
 ghost use Rattle.md_engine.specs.Run.{RunsHere};
 ghost use Rattle.md_engine.specs.World.{world};
@@ -20,22 +18,18 @@ ghost use Rattle.md_engine.specs.declared.state.heading_atx.State.{State as Head
 ghost use Rattle.md_leaves.specs.Heading.{at_break_transition, before_transition, behind_part, data_transition};
 ghost use Rattle.md_leaves.specs.Heading.{heading_transition, may_begin, sequence_further_transition};
 ghost use Rattle.md_leaves.specs.Heading.{sequence_open_transition, start_transition};
-ghost use Rattle.md_leaves.specs.HeadingText.{headings_resolved};
 ghost use Rattle.md_leaves.specs.HeadingWords.{HeadingStep, begins_word};
 ghost use Rattle.md_seam.specs.Look.{may_with};
 ghost use Rattle.md_seam.specs.Spaces.{sees_white};
 ghost use Rattle.md_seam.specs.Stays.{TakesEach};
 ghost use Rattle.md_seam.specs.Transition.{IsAt, NeedsNothing};
 
-use crate::heading_text::put_texts;
 use crate::leaf_start::start_leaf;
 use md_engine::event::{Content, Link, Name};
-use md_engine::message::Message;
 use md_engine::or_error;
 use md_engine::state::heading_atx::State as HeadingState;
 use md_engine::state::{Name as StateName, State};
 use md_engine::stay::Stay;
-use md_engine::subtokenize::Subresult;
 use md_engine::tokenizer::Tokenizer;
 use md_seam::space_or_tab::{is_one_space, is_space_or_tab, space_or_tab, take_one_space};
 
@@ -43,7 +37,7 @@ use md_seam::space_or_tab::{is_one_space, is_space_or_tab, space_or_tab, take_on
 const OPENING: usize = 6;
 
 /// What is text of a heading is read later.
-pub(crate) const TEXT_LINK: Link = Link {
+const TEXT_LINK: Link = Link {
     previous: false,
     next: false,
     content: Content::Text,
@@ -345,23 +339,4 @@ pub fn takes_at_once(state: HeadingState) -> Option<Stay>
         HeadingState::Data => Some(Stay::Word),
         _ => None,
     }
-}
-
-/// Sets the text of each heading: what follows its opening sequence, without a closing one and the whitespace around
-/// it.
-///
-/// After an `Err` the parse has failed, and the tokenizer is only dropped.
-pub fn resolve(tokenizer: &mut Tokenizer) -> Result<Option<Subresult>, Message>
-    requires { (world tokenizer.old).frames ≡ [] }
-    ensures world { IfOk result
-        (λ found.
-        world tokenizer.new ≡
-        record (world tokenizer.old) { events = headings_resolved (world tokenizer.old).events }) }
-    ensures found { IfOk result (λ found. option_map found_in found ≡ None) }
-{
-    let events = tokenizer.take_events();
-    let spare = tokenizer.take_spare();
-    let (with_texts, spare) = put_texts(events, spare)?;
-    tokenizer.set_events(with_texts, spare);
-    Ok(None)
 }

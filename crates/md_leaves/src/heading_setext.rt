@@ -6,13 +6,11 @@
 // A line that is an underline turns the text that is open before it into a heading, or what is left of that behind its
 // definitions. Where nothing is left the line is a line of the text. The states add
 // `HeadingSetextUnderline` around the run, `HeadingSetextUnderlineSequence`, and `SpaceOrTab`. When all of the text is
-// read, `resolve` puts `HeadingSetext` around that and the paragraph in front, which becomes `HeadingSetextText`.
+// read, a resolver puts `HeadingSetext` around that and the paragraph in front, which becomes `HeadingSetextText`.
 
-ghost use Rattle.std.specs.Prelude.{◌≡◌, ◌≢◌, ◌&&◌, [], IfOk, IfSome, None};
-ghost use Rattle.std.specs.Option.{option_map};
+ghost use Rattle.std.specs.Prelude.{◌≡◌, ◌≢◌, ◌&&◌, IfSome};
 ghost use Rattle.md_leaves.specs.HeadingSetextRule.{SetextMeans};
 ghost use Rattle.md_engine.specs.Full.{IsFull, OnError};
-ghost use Rattle.md_engine.specs.Found.{found_in};
 ghost use Rattle.md_engine.specs.Progress.{is_whole};
 ghost use Rattle.md_engine.specs.World.{world};
 ghost use Rattle.md_engine.specs.declared.state.Name.{Name as StateName};
@@ -21,21 +19,17 @@ ghost use Rattle.md_engine.specs.declared.state.heading_setext.State.{State as S
 ghost use Rattle.md_leaves.specs.HeadingSetext.{SetextNeeds, after_transition, before_transition, inside_transition};
 ghost use Rattle.md_leaves.specs.HeadingSetext.{is_marker, may_begin, may_turn, setext_transition, start_transition};
 ghost use Rattle.md_leaves.specs.HeadingSetext.{turns_nothing};
-ghost use Rattle.md_leaves.specs.Turned.{turned};
 ghost use Rattle.md_seam.specs.Look.{may_with};
 ghost use Rattle.md_seam.specs.Stays.{TakesEach};
 ghost use Rattle.md_seam.specs.Transition.{IsAt};
 
 use crate::leaf_start::start_leaf;
-use crate::underlines::{put_headings, until_underline};
 use md_engine::configuration::ParseOptions;
 use md_engine::event::Name;
-use md_engine::message::Message;
 use md_engine::or_error;
 use md_engine::state::heading_setext::State as SetextState;
 use md_engine::state::{Name as StateName, State};
 use md_engine::stay::Stay;
-use md_engine::subtokenize::Subresult;
 use md_engine::tokenizer::{HeldLeaf, Progress, Tokenizer};
 use md_seam::space_or_tab::{is_space_or_tab, space_or_tab_min_max};
 
@@ -229,26 +223,4 @@ pub fn call(tokenizer: &mut Tokenizer, state: SetextState) -> State
         SetextState::Inside => inside(tokenizer),
         SetextState::After => after(tokenizer),
     }
-}
-
-/// Makes a heading of each paragraph that has an underline and that underline. Where no event of an underline stands
-/// nothing is copied.
-///
-/// After an `Err` the parse has failed, and the tokenizer is only dropped.
-pub fn resolve(tokenizer: &mut Tokenizer) -> Result<Option<Subresult>, Message>
-    requires { (world tokenizer.old).frames ≡ [] }
-    ensures world { IfOk result
-        (λ found.
-        world tokenizer.new ≡
-        record (world tokenizer.old) { events = turned (world tokenizer.old).events }) }
-    ensures found { IfOk result (λ found. option_map found_in found ≡ None) }
-{
-    if until_underline(&tokenizer.events) == tokenizer.events.len() {
-        return Ok(None);
-    }
-    let events = tokenizer.take_events();
-    let spare = tokenizer.take_spare();
-    let with_headings = put_headings(&events, spare)?;
-    tokenizer.set_events(with_headings, events);
-    Ok(None)
 }

@@ -74,13 +74,6 @@ impl Rewriting {
         self.read += count;
     }
 
-    /// How many events are held.
-    pub(crate) fn held(&self) -> usize
-        ensures { result ≡ length (held_of self.now) }
-    {
-        self.read - self.done
-    }
-
     /// Leaves out so many of the events that are held, from their front on.
     pub(crate) fn leave_out(&mut self, count: usize)
         requires { count ≤ length (held_of self.old) }

@@ -4,7 +4,7 @@ use Rattle.std.proofs.Common.{append_assoc, append-nil}
 use Rattle.md_engine.specs.declared.event.Event.{Event}
 use Rattle.md_leaves.specs.HeadingText.{Before, Opened, Outside, Place, Within, begins, ends, is_heading, is_run}
 use Rattle.md_leaves.specs.HeadingText.{is_sequence, resolved, text_between}
-use Rattle.md_leaves.specs.HeadingWalk.{Walked, finished_from, stepped_from}
+use Rattle.md_order.specs.HeadingSteps.{Walked, finished_from, stepped_from}
 use Rattle.md_seam.specs.Events.Tiles.{is_data}
 
 -- What one event gives, and where the walk stands behind it.

@@ -6,7 +6,7 @@ use Rattle.md_engine.specs.declared.event.Point.{Point}
 use Rattle.md_containers.specs.Listed.{listed_from}
 use Rattle.md_leaves.specs.HeadingText.{Before, Opened, Outside, Place, Within, begins, ends, is_heading, is_run}
 use Rattle.md_leaves.specs.HeadingText.{is_sequence, resolved, text_between}
-use Rattle.md_leaves.specs.HeadingWalk.{Walked, finished_from, stepped_from}
+use Rattle.md_order.specs.HeadingSteps.{Walked, finished_from, stepped_from}
 use Rattle.md_seam.specs.Events.Tiles.{is_data}
 use Rattle.md_tables.specs.Tabled.{tabled}
 use Rattle.md_order.specs.declared.wanted.Wanted.{Wanted}

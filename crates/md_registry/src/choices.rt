@@ -6,24 +6,21 @@
 //
 // What flow itself is made of (blank lines, content, whitespace) is in its own table.
 
-ghost use Rattle.std.specs.Prelude.{◌≡◌, [], IfOk, None, OnOk, Some, false, true};
+ghost use Rattle.std.specs.Prelude.{◌≡◌, [], OnOk, Some, false, true};
 ghost use Rattle.md_containers.specs.PlainBullet.{IsPlainBullet, bulleted};
 ghost use Rattle.md_engine.specs.declared.tokenizer.container.name.ContainerKind.{ContainerKind};
 ghost use Rattle.std.specs.Option.{is_some, option_map};
-ghost use Rattle.md_engine.specs.Found.{found_in};
 ghost use Rattle.md_engine.specs.World.{World, container_of, world};
-ghost use Rattle.md_engine.specs.declared.resolve.name.Name.{Name as ResolveName};
 ghost use Rattle.md_engine.specs.declared.state.Name.{Name as StateName};
 ghost use Rattle.md_engine.specs.declared.state.flow.State.{State as FlowState};
 ghost use Rattle.md_registry.specs.LineFlags.{asking};
-ghost use Rattle.md_frame.specs.Resolving.{heads_read, joins_lines, stays_alone};
+ghost use Rattle.md_frame.specs.Resolving.{heads_read, joins_lines};
 ghost use Rattle.md_registry.specs.Registry.{bars_containers};
 ghost use Rattle.md_registry.specs.Registry.{goes_on_with, asked_first, leaf};
 ghost use Rattle.md_registry.specs.AtOnce.{HasPrefix, all_asked, content_alone, is_common, opens_none, prefix_taken};
 ghost use Rattle.md_registry.specs.Flow.{leaf_end, row_transition, trial_code};
 ghost use Rattle.md_registry.specs.Registry.{may_go_on, may_open, next_opener, opener_front, openers};
 ghost use Rattle.md_frame.specs.LeafName.{LeafName};
-ghost use Rattle.md_frame.specs.Resolving.{resolved_by};
 ghost use Rattle.md_registry.specs.Registry.{front_of, next_of, opens_with, row, trials, tried_at};
 ghost use Rattle.md_meaning.specs.Rest.{is_white};
 ghost use Rattle.md_literal_rooms.specs.Leaf.CodeIndented.{is_code};
@@ -31,12 +28,10 @@ ghost use Rattle.md_seam.specs.Look.{looks_behind, may_with};
 ghost use Rattle.md_seam.specs.Spaces.{sees_white};
 
 use md_code::{code_indented, raw_flow};
-use md_containers::{block_quote, gfm_footnote_definition, list_item, lists, plain_item};
+use md_containers::{block_quote, gfm_footnote_definition, list_item, plain_item};
 use md_engine::class::is_white;
 use md_engine::configuration::ParseOptions;
-use md_engine::event::Event;
 use md_engine::message::Message;
-use md_engine::resolve::Name as ResolveName;
 use md_engine::state::Name as StateName;
 use md_engine::state::block_quote::State as QuoteState;
 use md_engine::state::code_indented::State as CodeState;
@@ -50,13 +45,11 @@ use md_engine::state::html_flow::State as HtmlState;
 use md_engine::state::list_item::State as ItemState;
 use md_engine::state::raw_flow::State as RawState;
 use md_engine::state::thematic_break::State as BreakState;
-use md_engine::subtokenize::Subresult;
 use md_engine::tokenizer::{Container, ContainerKind, HeldLeaf, Tokenizer};
 use md_html::html_flow;
-use md_leaves::spans::{self, Place};
-use md_leaves::{heading_atx, heading_setext, thematic_break, underlines};
+use md_leaves::{heading_atx, heading_setext, thematic_break};
 use md_seam::space_or_tab::look_behind;
-use md_tables::{gfm_table, heads, tables};
+use md_tables::{gfm_table, heads};
 
 /// The state of the document in front of the first container that may open.
 #[inline(always)]
@@ -468,39 +461,6 @@ pub fn joins_lines(options: &ParseOptions) -> bool
         || options.constructs.code_indented
         || options.constructs.html_flow
         || options.constructs.gfm_table
-}
-
-/// Whether an event stays as it is where setext headings are set, lines are joined and lists are put around items: it is of
-/// no underline, of no leaf of several lines, and of no item.
-#[inline(always)]
-pub fn stays_alone(event: &Event) -> bool
-    ensures { result ≡ stays_alone event.now }
-{
-    spans::passes(Place::Outside, event)
-        && !lists::is_item(event.name)
-        && !underlines::is_underline(event.name)
-}
-
-/// Runs the resolver of a construct; one that has none changes nothing.
-///
-/// After an `Err`, which says that memory ran out, the parse has failed and the tokenizer is only dropped.
-pub fn resolve(tokenizer: &mut Tokenizer, name: ResolveName) -> Result<Option<Subresult>, Message>
-    requires { (world tokenizer.old).frames ≡ [] }
-    ensures frames { OnOk result ((world tokenizer.new).frames ≡ []) }
-    ensures finds { IfOk result (λ found. option_map found_in found ≡ None) }
-    ensures resolves { OnOk result
-        (world tokenizer.new ≡
-        record (world tokenizer.old) {
-          events = resolved_by (world tokenizer.old).setting.bytes name (world tokenizer.old).events;
-        }) }
-{
-    match name {
-        ResolveName::HeadingAtx => heading_atx::resolve(tokenizer),
-        ResolveName::HeadingSetext => heading_setext::resolve(tokenizer),
-        ResolveName::GfmTable => tables::resolve(tokenizer),
-        ResolveName::ListItem => lists::resolve(tokenizer),
-        _ => Ok(None),
-    }
 }
 
 /// Reads lines of text again that are heads of tables, before content is read.

@@ -1,17 +1,16 @@
 -- The walk over an ATX heading, from its begin to its end.
-use Rattle.std.proofs.Common.{◌≡◌, ◌⊎◌, inl, inr, ◌<◌, ◌≤◌, ℕ, Bool, true, false, List, [], ◌∷◌, ◌++◌, ◌&&◌, drop, take, length}
-use Rattle.std.proofs.Common.{refl, ap, sym, ◌∙◌, subst, append_assoc, append-nil, arith}
+use Rattle.std.proofs.Common.{◌≡◌, ◌⊎◌, inl, inr, ◌<◌, ℕ, Bool, true, false, List, [], ◌∷◌, ◌++◌, ◌&&◌, drop, take, length}
+use Rattle.std.proofs.Common.{refl, ap, sym, ◌∙◌, subst, arith}
 use Rattle.md_engine.specs.declared.event.Event.{Event}
 use Rattle.md_engine.specs.declared.event.Kind.{Kind}
 use Rattle.md_engine.specs.declared.event.Kind.TheVariants.{Enter, Exit}
 use Rattle.md_engine.specs.declared.event.Name.{Name}
 use Rattle.md_engine.specs.declared.event.Name.TheVariants as n
-use Rattle.md_containers.specs.Listed.{Place as ListPlace}
 use Rattle.md_leaves.specs.HeadingText.{Before, Opened, Outside, Place as HeadPlace, Within, begins, ends, is_heading}
 use Rattle.md_leaves.specs.HeadingText.{is_run, is_sequence}
-use Rattle.md_leaves.specs.HeadingWalk.{Walked, finished, finished_from, stepped, stepped_from}
+use Rattle.md_order.specs.HeadingSteps.{Walked, finished, finished_from, stepped, stepped_from}
 use Rattle.md_order.specs.Alone.{InHeading, Open, is_set, opened_by}
-use Rattle.md_order.specs.Left.{MayBeLeft, MayStay, Standing, left_in}
+use Rattle.md_order.specs.Left.{MayBeLeft, MayStay, left_in}
 use Rattle.md_order.specs.Quiet.{HeldQuiet, IsQuiet}
 use Rattle.md_order.specs.declared.wanted.Wanted.{Wanted}
 use Rattle.md_order.proofs.Held.{head-end, head-step}

@@ -1,11 +1,11 @@
 -- Events that stay as they are, and where all events stand.
-use Rattle.std.proofs.Common.{◌≡◌, ℕ, Bool, true, false, cond, not, ◌&&◌, ◌||◌, List, [], ◌∷◌, length, refl, ap, sym, ◌∙◌, arith, suc, ◌+◌}
+use Rattle.std.proofs.Common.{◌≡◌, ℕ, Bool, true, false, not, ◌&&◌, ◌||◌, List, [], ◌∷◌, length, refl, ap, sym, ◌∙◌, arith, suc, ◌+◌}
 use Rattle.std.specs.List.{prefix_len}
 use Rattle.md_engine.specs.declared.event.Event.{Event}
 use Rattle.md_containers.specs.Listed.{is_item, listed, passes as is_no_item}
 use Rattle.md_containers.proofs.ListedLemmas.{listed-are_placed, listed-none}
-use Rattle.md_leaves.specs.HeadingText.{Before, Outside, begins, headings_resolved, is_heading, is_outside, resolved}
-use Rattle.md_leaves.proofs.HeadingWalkLemmas.{headings-placed}
+use Rattle.md_leaves.specs.HeadingText.{begins, headings_resolved, is_heading, is_outside}
+use Rattle.md_leaves.proofs.HeadingsPlaced.{headings-placed}
 use Rattle.md_leaves.specs.Turned.{is_no_underline, is_underline, turned}
 use Rattle.md_leaves.proofs.TurnedLemmas.{turned-none, turned-placed}
 use Rattle.md_order.specs.InOrder.{in_order, set_if}

@@ -2,7 +2,7 @@
 use Rattle.std.specs.Prelude.{List, ◌++◌, take, drop}
 use Rattle.md_engine.specs.declared.event.Event.{Event}
 use Rattle.md_leaves.specs.HeadingText.{Before, Opened, Outside, Place, Within}
-use Rattle.md_leaves.specs.HeadingWalk.{Walked}
+use Rattle.md_order.specs.HeadingSteps.{Walked}
 use Rattle.md_resolve.specs.declared.heading_text.Stage.{Stage}
 use Rattle.md_resolve.specs.declared.heading_text.Stage.TheVariants as stage
 use Rattle.md_resolve.specs.declared.heading_text.Text.{Text}

@@ -140,7 +140,7 @@ pub struct Walk {
 }
 
 impl Walk {
-    ghost use Rattle.md_leaves.specs.HeadingWalk.{finished, stepped};
+    ghost use Rattle.md_order.specs.HeadingSteps.{finished, stepped};
     ghost use Rattle.md_resolve.specs.HeadingWalk.{walk_of};
 
     /// Goes on with an event outside of headings.

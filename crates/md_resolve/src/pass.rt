@@ -7,12 +7,12 @@
 // It looks ahead from the begin of an item to its marker, from the end of one to the next block, and from the begin of a
 // paragraph to the underline behind it; so no event is looked at more than three times, and the walk is linear.
 
-ghost use Rattle.std.specs.Prelude.{◌≡◌, ◌≤◌, ◌<◌, ◌&&◌, ◌∷◌, ◌++◌, IfOk, None, OnOk, List, ℕ, [], drop, length, not, take, false, true};
+ghost use Rattle.std.specs.Prelude.{◌≡◌, ◌≤◌, ◌<◌, ◌&&◌, ◌++◌, IfOk, None, OnOk, List, ℕ, [], drop, length, not, take, false, true};
 ghost use Rattle.std.specs.List.{prefix_len};
 ghost use Rattle.std.specs.Option.{option_map};
 ghost use Rattle.md_engine.specs.Found.{found_in};
 ghost use Rattle.md_engine.specs.World.{world};
-ghost use Rattle.md_containers.specs.Listed.{Place as ListPlace, given, given_by, is_item, place_after, place_by};
+ghost use Rattle.md_containers.specs.Listed.{given, given_by, is_item, place_after, place_by};
 ghost use Rattle.md_containers.specs.Listed.{Begins, Ends, outside};
 ghost use Rattle.md_leaves.specs.HeadingText.{begins, is_heading};
 ghost use Rattle.md_leaves.specs.Turned.{is_turned, on_by, turn};
@@ -25,19 +25,18 @@ ghost use Rattle.md_seam.specs.Parts.{ArePlaced};
 ghost use Rattle.md_tables.specs.Tabled.{begins_table, bound_of, tabled};
 ghost use Rattle.md_order.specs.Left.{ends_table, table_len};
 ghost use Rattle.md_resolve.specs.PassWalk.{given_of, items_of, rest_of, whole_of};
-ghost use Rattle.md_resolve.specs.Rewritten.{IsFirst, held_of, left_of, written_of};
+ghost use Rattle.md_resolve.specs.Rewritten.{IsFirst};
 
 use crate::heading_text;
 use crate::heading_text::{Stage, Text, begins_heading};
 use crate::items::{goes_on, is_item, list_event, marker_ahead, next_item};
 use crate::rewriting::Rewriting;
-use crate::underlines::{enter, exit, is_turned};
+use crate::underlines::{self, enter, exit, is_turned};
 use md_engine::event::{Event, Kind, Name};
 use md_engine::message::Message;
 use md_engine::resolve::Name as ResolveName;
 use md_engine::subtokenize::Subresult;
 use md_engine::tokenizer::Tokenizer;
-use md_leaves::underlines;
 use md_order::wanted::{Wanted, wanted_of};
 use md_seam::walks::{Test, passing};
 use md_tables::tables::put_tables;

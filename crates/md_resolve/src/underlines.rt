@@ -1,7 +1,7 @@
 // Paragraphs, and the underlines behind them.
 
 ghost use Rattle.std.specs.Prelude.{◌≡◌, ◌&&◌};
-ghost use Rattle.md_leaves.specs.Turned.{has_underline, is_paragraph, is_turned, is_underline, underline_behind};
+ghost use Rattle.md_leaves.specs.Turned.{has_underline, is_paragraph, is_turned, is_underline, passes, underline_behind};
 ghost use Rattle.md_seam.specs.Events.Inline.{is_line_ending};
 ghost use Rattle.md_seam.specs.Events.Nested.{enter, exit};
 
@@ -18,7 +18,7 @@ fn is_paragraph(name: Name) -> bool
 
 /// Whether these events are of an underline.
 #[inline(always)]
-fn is_underline(name: Name) -> bool
+pub(crate) fn is_underline(name: Name) -> bool
     ensures { result ≡ is_underline name }
 {
     matches!(name, Name::HeadingSetextUnderline)
@@ -29,6 +29,14 @@ fn is_line_ending(name: Name) -> bool
     ensures { result ≡ is_line_ending name }
 {
     matches!(name, Name::LineEnding)
+}
+
+/// Whether an event passes as it is: it is of no paragraph, and of no underline.
+#[inline(always)]
+pub(crate) fn passes(event: &Event) -> bool
+    ensures { result ≡ passes event.now }
+{
+    !is_paragraph(event.name) && !is_underline(event.name)
 }
 
 /// Whether an underline begins behind container prefixes.

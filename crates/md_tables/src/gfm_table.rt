@@ -29,7 +29,6 @@ pub use crate::delimiter::{
     head_delimiter_right_alignment_after, head_delimiter_start, head_delimiter_value_before,
 };
 use crate::row::{self, Place, Row};
-pub use crate::tables::resolve;
 use md_engine::configuration::ParseOptions;
 use md_engine::state::gfm_table::State as TableState;
 use md_engine::state::{Name as StateName, State};

@@ -8,13 +8,10 @@
 //         GfmTableRow ..
 //
 // The walk looks at each event as it passes it, and in a row at up to four behind it. Outside of tables the events up
-// to the next table are copied at once, and where no table stands nothing is.
+// to the next table are copied at once.
 
-ghost use Rattle.std.specs.Prelude.{◌≡◌, ℕ, ◌≤◌, ◌<◌, ◌++◌, [], IfOk, List, None, OnOk, drop, false, length, true};
+ghost use Rattle.std.specs.Prelude.{◌≡◌, ℕ, ◌≤◌, ◌<◌, ◌++◌, [], IfOk, List, OnOk, drop, false, length, true};
 ghost use Rattle.std.specs.List.{prefix_len};
-ghost use Rattle.std.specs.Option.{option_map};
-ghost use Rattle.md_engine.specs.Found.{found_in};
-ghost use Rattle.md_engine.specs.World.{world};
 ghost use Rattle.md_seam.specs.Parts.{ArePlaced};
 ghost use Rattle.md_engine.specs.declared.event.Kind.{Kind};
 ghost use Rattle.md_tables.specs.declared.tables.Bound.{Bound};
@@ -26,8 +23,6 @@ use crate::cells::{Stage, plain};
 use crate::giving::give;
 use md_engine::event::{Event, Kind, Name};
 use md_engine::message::Message;
-use md_engine::subtokenize::Subresult;
-use md_engine::tokenizer::Tokenizer;
 use md_seam::moving::append;
 use md_seam::walks::{Test, passing};
 
@@ -286,25 +281,4 @@ pub fn put_tables(events: &[Event], spare: Vec<Event>) -> Result<Vec<Event>, Mes
     }
     let Walk { rows, .. } = walk;
     Ok(rows.given)
-}
-
-/// Gives tables their heads, bodies and cells. Where no table stands nothing is copied.
-///
-/// After an `Err` the parse has failed, and the tokenizer is only dropped.
-pub fn resolve(tokenizer: &mut Tokenizer) -> Result<Option<Subresult>, Message>
-    requires { (world tokenizer.old).frames ≡ [] }
-    ensures world { IfOk result
-        (λ found.
-        world tokenizer.new ≡
-        record (world tokenizer.old) { events = tabled (world tokenizer.old).events }) }
-    ensures found { IfOk result (λ found. option_map found_in found ≡ None) }
-{
-    if until_other(Section::Outside, &tokenizer.events) == tokenizer.events.len() {
-        return Ok(None);
-    }
-    let events = tokenizer.take_events();
-    let spare = tokenizer.take_spare();
-    let with_tables = put_tables(&events, spare)?;
-    tokenizer.set_events(with_tables, events);
-    Ok(None)
 }

@@ -2,7 +2,7 @@ use Rattle.std.proofs.Common.{◌≡◌, List, length, ap, sym, ◌∙◌}
 use Rattle.std.specs.List.{prefix_len}
 use Rattle.md_engine.specs.declared.event.Event.{Event}
 use Rattle.md_engine.specs.World.{World, world}
-use Rattle.md_order.specs.InOrder.{in_order, wanted_of}
+use Rattle.md_order.specs.InOrder.{wanted_of}
 use Rattle.md_order.specs.Left.{is_same}
 use Rattle.md_order.specs.declared.wanted.Wanted.{Wanted}
 use Rattle.md_resolve.proofs.Same.{in_order-same}

@@ -1,6 +1,4 @@
 use Rattle.std.proofs.Common.{sym, subst, ◌∙◌}
-use Rattle.md_order.proofs.Stay.{stay-first}
-use Rattle.md_order.specs.InOrder.{in_order}
 use Rattle.md_seam.specs.Parts.{ArePlaced}
 use Rattle.md_resolve.proofs.PassLaws.{now_of, passed-done}
 use Rattle.md_resolve.proofs.Same.{in_order-placed}

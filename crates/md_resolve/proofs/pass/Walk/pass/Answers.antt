@@ -1,4 +1,4 @@
-use Rattle.std.proofs.Common.{ℕ, ap, refl, sym, subst, ◌∙◌}
+use Rattle.std.proofs.Common.{ap, refl, sym, subst, ◌∙◌}
 use Rattle.std.specs.List.{prefix_len}
 use Rattle.md_order.specs.Left.{MayStay, is_passed}
 use Rattle.md_order.proofs.Stay.{stay-drop}

@@ -1,0 +1,27 @@
+// The resolver of tables.
+
+ghost use Rattle.std.specs.Prelude.{◌≡◌, [], IfOk, None};
+ghost use Rattle.std.specs.Option.{option_map};
+ghost use Rattle.md_engine.specs.Found.{found_in};
+ghost use Rattle.md_engine.specs.World.{world};
+ghost use Rattle.md_tables.specs.Tabled.{tabled};
+
+use crate::pass::pass;
+use md_engine::message::Message;
+use md_engine::resolve::Name;
+use md_engine::subtokenize::Subresult;
+use md_engine::tokenizer::Tokenizer;
+
+/// Gives tables their heads, bodies and cells. Where no table stands nothing is copied.
+///
+/// After an `Err` the parse has failed, and the tokenizer is only dropped.
+pub fn resolve(tokenizer: &mut Tokenizer) -> Result<Option<Subresult>, Message>
+    requires { (world tokenizer.old).frames ≡ [] }
+    ensures world { IfOk result
+        (λ found.
+        world tokenizer.new ≡
+        record (world tokenizer.old) { events = tabled (world tokenizer.old).events }) }
+    ensures found { IfOk result (λ found. option_map found_in found ≡ None) }
+{
+    pass(tokenizer, &[Name::GfmTable])
+}

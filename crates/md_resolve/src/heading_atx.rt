@@ -1,0 +1,28 @@
+// The resolver of ATX headings.
+
+ghost use Rattle.std.specs.Prelude.{◌≡◌, [], IfOk, None};
+ghost use Rattle.std.specs.Option.{option_map};
+ghost use Rattle.md_engine.specs.Found.{found_in};
+ghost use Rattle.md_engine.specs.World.{world};
+ghost use Rattle.md_leaves.specs.HeadingText.{headings_resolved};
+
+use crate::pass::pass;
+use md_engine::message::Message;
+use md_engine::resolve::Name;
+use md_engine::subtokenize::Subresult;
+use md_engine::tokenizer::Tokenizer;
+
+/// Sets the text of each heading: what follows its opening sequence, without a closing one and the whitespace around
+/// it.
+///
+/// After an `Err` the parse has failed, and the tokenizer is only dropped.
+pub fn resolve(tokenizer: &mut Tokenizer) -> Result<Option<Subresult>, Message>
+    requires { (world tokenizer.old).frames ≡ [] }
+    ensures world { IfOk result
+        (λ found.
+        world tokenizer.new ≡
+        record (world tokenizer.old) { events = headings_resolved (world tokenizer.old).events }) }
+    ensures found { IfOk result (λ found. option_map found_in found ≡ None) }
+{
+    pass(tokenizer, &[Name::HeadingAtx])
+}
