@@ -2,3 +2,4 @@ pub mod HeadLaws
 pub mod PassLaws
 pub mod RewrittenLemmas
 pub mod Same
+pub mod Unset

@@ -17,7 +17,7 @@ ghost use Rattle.md_containers.specs.Listed.{Begins, Ends, outside};
 ghost use Rattle.md_leaves.specs.HeadingText.{begins, is_heading};
 ghost use Rattle.md_leaves.specs.Turned.{is_turned, on_by, turn};
 ghost use Rattle.md_leaves.specs.Turned as setext;
-ghost use Rattle.md_order.specs.Alone.{MayPass};
+ghost use Rattle.md_order.specs.Alone.{MayPass, is_set};
 ghost use Rattle.md_order.specs.InOrder.{in_order, wanted_of};
 ghost use Rattle.md_order.specs.Left.{MayStay, is_passed, is_same};
 ghost use Rattle.md_seam.specs.Events.Spelled.{role};
@@ -51,11 +51,29 @@ fn begins_table(event: &Event) -> bool
     matches!(event.kind, Kind::Enter) && matches!(event.name, Name::GfmTable)
 }
 
+/// Whether events of this name are of an item, an ATX heading, a paragraph, an underline or a table; all others pass.
+#[inline(always)]
+fn is_set(name: Name) -> bool
+    ensures { result ≡ is_set name }
+{
+    matches!(
+        name,
+        Name::ListItem
+            | Name::HeadingAtx
+            | Name::Paragraph
+            | Name::HeadingSetextUnderline
+            | Name::GfmTable
+    )
+}
+
 /// Whether an event passes as it is outside of ATX headings.
 #[inline(always)]
 fn is_passed(wanted: Wanted, event: &Event) -> bool
     ensures { result ≡ is_passed wanted event.now }
 {
+    if !is_set(event.name) {
+        return true;
+    }
     !(wanted.items && is_item(event.name)
         || wanted.atx && begins_heading(event)
         || wanted.setext && !underlines::passes(event)
@@ -457,6 +475,9 @@ pub fn set_all(
 fn is_same(wanted: Wanted, event: &Event) -> bool
     ensures { result ≡ is_same wanted event.now }
 {
+    if !is_set(event.name) {
+        return true;
+    }
     !(wanted.items && is_item(event.name)
         || wanted.atx && begins_heading(event)
         || wanted.setext && underlines::is_underline(event.name)

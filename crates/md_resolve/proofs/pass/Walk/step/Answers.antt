@@ -8,6 +8,7 @@ use Rattle.md_order.proofs.Stay.{stay-drop}
 use Rattle.md_engine.specs.declared.event.Event.{Event}
 use Rattle.md_seam.specs.Events.Spelled.{role}
 use Rattle.md_tables.specs.Tabled.{begins_table, bound_of}
+use Rattle.md_resolve.proofs.Unset.{off, passed-by}
 use Rattle.md_resolve.proofs.PassLaws.{Now, held-given, item-whole, now_of, one-whole, rest_of, table-whole, text-whole}
 use Rattle.md_resolve.proofs.pass.Walk.step.Goals as goal
 use Rattle.md_resolve.proofs.pass.Walk.step.Goals.{else-wanted-2-via-else-wanted-2, else-wanted-2-via-then-wanted-2+else-begins_heading}
@@ -41,15 +42,6 @@ returns-then-begins_table-clause-stay c =
     subst (MayStay c.args.wanted) (sym c.in_ok-table.ensures.rest)
     (stay-drop c.args.wanted (rest_of (now_of c.args.self.now)) c.requires.stay
     (table_len (rest_of (now_of c.args.self.now))))
-
--- an event that is of none of them passes
-passed-by : (w : Wanted) (e : Event) → (w.items && is_item (role e.name)) ≡ false →
-    (w.atx && begins is_heading e) ≡ false → (w.setext && not (is_unturned e)) ≡ false →
-    (w.tables && begins_table (bound_of e)) ≡ false → is_passed w e ≡ true
-passed-by w e a b c d = rw (a, b, c, d) refl
-
-off : (x y : Bool) → x ≡ false → (x && y) ≡ false
-off x y h = rw h refl
 
 other : (x y : Bool) → y ≡ false → (x && y) ≡ false
 other true y h = h
