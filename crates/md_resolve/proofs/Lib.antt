@@ -1,4 +1,5 @@
 pub mod HeadLaws
+pub mod NoUnderline
 pub mod PassLaws
 pub mod RewrittenLemmas
 pub mod Same

@@ -15,7 +15,7 @@ ghost use Rattle.md_engine.specs.World.{world};
 ghost use Rattle.md_containers.specs.Listed.{given, given_by, is_item, place_after, place_by};
 ghost use Rattle.md_containers.specs.Listed.{Begins, Ends, outside};
 ghost use Rattle.md_leaves.specs.HeadingText.{begins, is_heading};
-ghost use Rattle.md_leaves.specs.Turned.{is_turned, on_by, turn};
+ghost use Rattle.md_leaves.specs.Turned.{is_no_underline, is_turned, on_by, turn};
 ghost use Rattle.md_leaves.specs.Turned as setext;
 ghost use Rattle.md_order.specs.Alone.{MayPass, is_set};
 ghost use Rattle.md_order.specs.InOrder.{in_order, wanted_of};
@@ -445,8 +445,8 @@ impl Walk {
     }
 }
 
-/// The events with what is wanted set, written into `spare`, which is empty; and the list of the events.
-pub fn set_all(
+/// The events with what is wanted set by one walk, written into `spare`, which is empty; and the list of the events.
+fn walk_all(
     alloc: Global,
     wanted: Wanted,
     bytes: &[u8],
@@ -505,6 +505,61 @@ fn until_changed(wanted: Wanted, events: &[Event]) -> usize
     ensures within { result ≤ length events.now }
 {
     passing(&IsSame { wanted }, events)
+}
+
+/// Whether no underline stands at an event.
+struct IsNoUnderline;
+
+impl Test for IsNoUnderline {
+    ghost passes = { λ test. is_no_underline };
+
+    #[inline(always)]
+    fn passes(&self, event: &Event) -> bool {
+        !underlines::is_underline(event.name)
+    }
+}
+
+/// How many events stand in front of the first of an underline.
+fn until_underline(events: &[Event]) -> usize
+    ensures value { result ≡ prefix_len is_no_underline events.now }
+    ensures within { result ≤ length events.now }
+{
+    passing(&IsNoUnderline, events)
+}
+
+/// What is wanted of these events: no setext heading where no underline stands, so that paragraphs are passed.
+fn wanted_here(wanted: Wanted, events: &[Event]) -> Wanted
+    ensures order { (bytes : List ℕ) → in_order result bytes events.now ≡ in_order wanted bytes events.now }
+    ensures may { MayPass wanted events.now → MayPass result events.now }
+{
+    if until_underline(events) < events.len() {
+        return wanted;
+    }
+    Wanted {
+        items: wanted.items,
+        atx: wanted.atx,
+        setext: false,
+        tables: wanted.tables,
+    }
+}
+
+/// The events with what is wanted set, written into `spare`, which is empty; and the list of the events.
+pub fn set_all(
+    alloc: Global,
+    wanted: Wanted,
+    bytes: &[u8],
+    events: Vec<Event>,
+    spare: Vec<Event>,
+) -> Result<(Vec<Event>, Vec<Event>), Message>
+    requires empty { spare.items ≡ [] }
+    requires may { MayPass wanted events.items }
+    ensures events { IfOk result (λ lists. lists.0.items ≡ in_order wanted bytes.now events.items) }
+    ensures placed { IfOk result
+        (λ lists. (text : List ℕ) → ArePlaced text events.items → ArePlaced text lists.0.items) }
+{
+    let here = wanted_here(wanted, &events);
+    let (set, spare) = walk_all(alloc, here, bytes, events, spare)?;
+    Ok((set, spare))
 }
 
 /// Runs the resolvers of these names in one pass: those of items, of ATX headings, of setext headings and of tables, as if

@@ -1,7 +1,7 @@
 use Rattle.std.proofs.Common.{length}
 use Rattle.md_resolve.specs.PassWalk.{rest_of}
 use Rattle.md_resolve.proofs.PassLaws.{HasPassed, now_of}
-use Rattle.md_resolve.proofs.pass.set_all.Given as goal
+use Rattle.md_resolve.proofs.pass.walk_all.Given as goal
 
 abbrev pub invariant-loop-event : goal.invariant-loop-event
 invariant-loop-event l = HasPassed l.fn.wanted l.fn.bytes l.fn.events.items (now_of l.walk)

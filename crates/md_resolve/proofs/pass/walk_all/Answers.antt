@@ -1,0 +1,14 @@
+use Rattle.std.proofs.Common.{sym, subst, ◌∙◌}
+use Rattle.md_seam.specs.Parts.{ArePlaced}
+use Rattle.md_resolve.proofs.PassLaws.{now_of, passed-done}
+use Rattle.md_resolve.proofs.Same.{in_order-placed}
+use Rattle.md_resolve.proofs.pass.walk_all.Goals as goal
+
+pub returns-clause-placed : goal.returns-clause-placed
+returns-clause-placed c = λ text h.
+    subst (ArePlaced text)
+    (sym
+    (c.finish.ensures ∙ c.in_ok-give.ensures.written
+    ∙ passed-done c.args.wanted c.args.bytes.now c.args.events.items (now_of c.loop-event.walk) c.loop-event.invariant
+    c.in_default.ensures.none))
+    (in_order-placed text c.args.wanted c.args.bytes.now c.args.events.items h)
