@@ -12,7 +12,7 @@ pub use md_engine::resolve::Name;
 use md_engine::subtokenize::Subresult;
 use md_engine::tokenizer::Tokenizer;
 use md_registry::choices;
-use md_resolve::pass::pass;
+pub use md_resolve::pass::pass;
 
 /// Runs the resolver of this name; changes nothing for names of the inline layer.
 ///

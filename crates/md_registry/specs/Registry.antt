@@ -158,8 +158,6 @@ tries_of l = ranked (suc (weight l)) (low_weight l).1
 
 -- Lines of text.
 
--- Resolvers, behind that of content. One is run if it was registered, and behind it always that of lists.
-
 -- Containers: those of the line definition, built or not, and what the events tell of one.
 
 -- Containers that are built, by the kind as which the tokenizer holds them.
