@@ -21,6 +21,7 @@ pub mod StandsLemmas
 pub mod TreeRows
 pub mod Parses
 pub mod ContentAre
+pub mod StaysAlone
 pub mod TextBlocks
 pub mod ReadsWith
 pub mod DocumentReads

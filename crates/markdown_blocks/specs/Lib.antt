@@ -1,3 +1,4 @@
+pub mod Alone
 pub mod Parsed
 pub mod Fed
 pub mod FlowReads

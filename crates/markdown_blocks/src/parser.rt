@@ -1,6 +1,7 @@
 // From a text to events.
 
-ghost use Rattle.std.specs.Prelude.{◌≡◌, ◌++◌, IfOk, OnOk, [], map, string_bytes};
+ghost use Rattle.std.specs.Prelude.{◌≡◌, ◌≤◌, ◌++◌, IfOk, OnOk, [], length, map, string_bytes};
+ghost use Rattle.std.specs.List.{prefix_len};
 ghost use Rattle.md_engine.specs.Found.{found_in};
 ghost use Rattle.md_engine.specs.Place.{IsPlaced};
 ghost use Rattle.md_engine.specs.World.{fresh, world};
@@ -8,7 +9,10 @@ ghost use Rattle.md_seam.specs.TextPart.{IsTextPart, document_of, text_kind, wan
 ghost use Rattle.md_registry.specs.Document.{ReadsFront};
 ghost use Rattle.md_front_rooms.specs.Front.{body_point};
 ghost use Rattle.md_frame.specs.Joins.{lines_joined};
+ghost use Rattle.markdown_blocks.specs.Alone.{all_wanted, stays_alone};
 ghost use Rattle.markdown_blocks.specs.FlowReads.{FlowReads};
+ghost use Rattle.md_order.specs.Alone.{MayPass};
+ghost use Rattle.md_order.specs.InOrder.{in_order};
 ghost use Rattle.md_container_rooms.specs.Footnotes.{footnotes_listed};
 ghost use Rattle.markdown_blocks.specs.Parsed.{IsParsed, IsRead, IsWithoutMdx};
 ghost use Rattle.md_meaning.specs.Wrapped.{IsSmall};
@@ -28,10 +32,13 @@ use md_engine::tokenizer::Tokenizer;
 use md_flow::document::DocumentTable;
 use md_flow::flow::FlowTable;
 use md_leaves::spans;
+use md_leaves::spans::Place;
+use md_order::wanted::Wanted;
 use md_registry::choices;
-use md_resolve::pass::pass;
+use md_resolve::pass::{is_same, pass};
 use md_seam::inline::{Chunk, Inline, PartKind};
 use md_seam::subtokenize::{Reader, subtokenize};
+use md_seam::walks::{Test, passing};
 use std::alloc::Global;
 
 /// The most bytes that a text may have: an eighth of what an index can be, so that nothing that is counted of a text wraps.
@@ -169,6 +176,56 @@ const RESOLVERS: [ResolveName; 4] = [
     ResolveName::GfmTable,
 ];
 
+/// All of them.
+const ALL: Wanted = Wanted {
+    items: true,
+    atx: true,
+    setext: true,
+    tables: true,
+};
+
+/// Whether an event stays as it is where lines are joined and the resolvers run.
+struct StaysAlone;
+
+impl Test for StaysAlone {
+    ghost passes = { λ test. stays_alone };
+
+    #[inline(always)]
+    fn passes(&self, event: &Event) -> bool {
+        spans::passes(Place::Outside, event) && is_same(ALL, event)
+    }
+}
+
+/// How many events stand in front of the first that may not stay as it is.
+fn until_changed(events: &[Event]) -> usize
+    ensures value { result ≡ prefix_len stays_alone events.now }
+    ensures within { result ≤ length events.now }
+{
+    passing(&StaysAlone, events)
+}
+
+/// Joins the lines of each leaf of several, and runs the resolvers of items, headings and tables. Where none of these
+/// stands, one test of each event shows that nothing changes.
+///
+/// An `Err` says that memory ran out.
+fn resolve_blocks(tokenizer: &mut Tokenizer, options: &ParseOptions) -> Result<(), Message>
+    requires frames { (world tokenizer.old).frames ≡ [] }
+    requires may { MayPass all_wanted (lines_joined options.now (world tokenizer.old).events) }
+    ensures { OnOk result
+        (world tokenizer.new ≡
+        record (world tokenizer.old) {
+          events = in_order all_wanted (world tokenizer.old).setting.bytes
+              (lines_joined options.now (world tokenizer.old).events);
+        }) }
+{
+    if until_changed(&tokenizer.events) == tokenizer.events.len() {
+        return Ok(());
+    }
+    join_lines(tokenizer, options)?;
+    pass(tokenizer, &RESOLVERS)?;
+    Ok(())
+}
+
 /// Reads the lines of a text from a point on by flow, and then its content; joins the lines of each leaf of several, and
 /// runs the resolvers of items, headings and tables.
 ///
@@ -192,8 +249,7 @@ fn read_flow<'a>(
         end => end,
     };
     let found = flush::<FlowTable>(&mut tokenizer, end, true)?;
-    join_lines(&mut tokenizer, options)?;
-    pass(&mut tokenizer, &RESOLVERS)?;
+    resolve_blocks(&mut tokenizer, options)?;
     Ok((tokenizer, found))
 }
 

@@ -472,7 +472,7 @@ fn walk_all(
 
 /// Whether an event stays where all do: no item, heading, underline or table that is to be set begins there.
 #[inline(always)]
-fn is_same(wanted: Wanted, event: &Event) -> bool
+pub fn is_same(wanted: Wanted, event: &Event) -> bool
     ensures { result ≡ is_same wanted event.now }
 {
     if !is_set(event.name) {
