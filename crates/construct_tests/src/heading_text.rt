@@ -69,7 +69,7 @@ fn gives(alloc: Global, list: &str, want: &str) -> Result<bool, Message> {
         return Err(Message);
     };
     let wanted = wanted_of(&[ResolveName::HeadingAtx]);
-    let (set, _) = set_all(alloc, wanted, &[], events, Vec::new(alloc))?;
+    let set = set_all(alloc, wanted, &[], events)?;
     Ok(set == want)
 }
 

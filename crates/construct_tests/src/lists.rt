@@ -67,7 +67,7 @@ fn all(alloc: Global, list: &str) -> Result<Vec<Event>, AllocError> {
 // The events of a text with lists around its items.
 fn listed(alloc: Global, text: &str, events: Vec<Event>) -> Result<Vec<Event>, Message> {
     let wanted = wanted_of(&[ResolveName::ListItem]);
-    let (set, _) = set_all(alloc, wanted, text.as_bytes(), events, Vec::new(alloc))?;
+    let set = set_all(alloc, wanted, text.as_bytes(), events)?;
     Ok(set)
 }
 

@@ -1,6 +1,7 @@
 -- The walk over an ATX heading, from its begin to its end.
-use Rattle.std.proofs.Common.{◌≡◌, ◌⊎◌, inl, inr, ◌<◌, ℕ, Bool, true, false, List, [], ◌∷◌, ◌++◌, ◌&&◌, drop, take, length}
-use Rattle.std.proofs.Common.{refl, ap, sym, ◌∙◌, subst, arith}
+use Rattle.std.proofs.Common.{◌≡◌, ◌⊎◌, inl, inr, ◌<◌, ◌≤◌, ℕ, Bool, true, false, List, [], ◌∷◌, ◌++◌, ◌&&◌, drop, take, length}
+use Rattle.std.proofs.Common.{refl, ap, sym, ◌∙◌, subst, arith, length-drop}
+use Rattle.std.proofs.lemmas.List.{drop-append-le, take-append-le}
 use Rattle.md_engine.specs.declared.event.Event.{Event}
 use Rattle.md_engine.specs.declared.event.Kind.{Kind}
 use Rattle.md_engine.specs.declared.event.Kind.TheVariants.{Enter, Exit}
@@ -11,17 +12,19 @@ use Rattle.md_leaves.specs.HeadingText.{is_run, is_sequence}
 use Rattle.md_order.specs.HeadingSteps.{Walked, finished, finished_from, stepped, stepped_from}
 use Rattle.md_order.specs.Alone.{InHeading, Open, is_set, opened_by}
 use Rattle.md_order.specs.Left.{MayBeLeft, MayStay, left_in}
-use Rattle.md_order.specs.Quiet.{HeldQuiet, IsQuiet}
+use Rattle.md_order.specs.Quiet.{AreQuiet, HeldQuiet, IsQuiet, MayHoldQuiet}
 use Rattle.md_order.specs.declared.wanted.Wanted.{Wanted}
-use Rattle.md_order.proofs.Held.{head-end, head-step}
+use Rattle.md_order.proofs.Held.{head-end, head-step, quiet-append}
+use Rattle.md_order.proofs.HeldMany.{head-held, heading-run, quiet-run}
 use Rattle.md_order.proofs.Stay.{heading-on, quiet-begin, quiet-inside, stay-drop, stay-opens}
 use Rattle.md_seam.specs.Events.Nested.{is_enter, is_exit}
 use Rattle.md_seam.specs.Events.Tiles.{is_data}
-use Rattle.md_resolve.specs.HeadingWalk.{place_of}
-use Rattle.md_resolve.specs.Rewritten.{IsFirst, held_of}
+use Rattle.md_resolve.specs.HeadingWalk.{given_of as given_at, place_of}
+use Rattle.md_resolve.specs.Rewritten.{IsFirst, held_of, left_of, written_of}
 use Rattle.md_resolve.specs.declared.heading_text.Stage.{Stage}
 use Rattle.md_resolve.specs.declared.heading_text.Stage.TheVariants as stage
 use Rattle.md_resolve.specs.declared.heading_text.Text.{Text}
+use Rattle.md_resolve.specs.declared.rewriting.Rewriting.{Rewriting}
 use Rattle.md_resolve.proofs.PassLaws.{IsOut, Now, at, given_of, head-out, head_of, rest_of, whole-of, whole_of}
 
 abbrev pub walked : Now → Walked
@@ -141,6 +144,75 @@ head-next w bytes old now new e wanted h within first walked_is rest_is items_is
             (ap (λ (x : Walked). x.place) walked_is
             ∙ ends-out (given_of now) (head_of now) e is
             (λ p. within (stage-out now.stage now.text (held_of now.all) p))))
+
+-- many at once within a text
+pub head-held-whole : (w : Wanted) (bytes : List ℕ) (old now : Now) (all : Rewriting) (n : ℕ) → w.atx ≡ true →
+    HeadWalked w bytes old now → now.stage ≡ stage.Within → now.text.closing ≤ length (held_of now.all) →
+    MayHoldQuiet n (rest_of now) → written_of all ≡ written_of now.all →
+    held_of all ≡ held_of now.all ++ take n (rest_of now) → left_of all ≡ drop n (rest_of now) →
+    HeadWalked w bytes old (record now { all = all })
+head-held-whole w bytes old now all n wanted h within counted may written_is held_is rest_is = go h.inside
+  where
+    text : Text
+    text = now.text
+
+    es : List Event
+    es = rest_of now
+
+    front : List Event
+    front = take n es
+
+    closing : List Event
+    closing = take text.closing (held_of now.all)
+
+    since : List Event
+    since = drop text.closing (held_of now.all)
+
+    new : Now
+    new = record now { all = all }
+
+    place : HeadPlace
+    place = Within text.first text.after text.last closing since
+
+    there : HeadPlace
+    there = Within text.first text.after text.last closing (since ++ front)
+
+    place-is : head_of now ≡ place
+    place-is = ap (λ (s : Stage). place_of s text (held_of now.all)) within
+
+    there-is : head_of new ≡ there
+    there-is =
+        ap (λ (s : Stage). place_of s text (held_of all)) within
+        ∙ ap
+        (λ (l : List Event). Within text.first text.after text.last (take text.closing l) (drop text.closing l)) held_is
+        ∙ ap
+        (λ (l : List Event). Within text.first text.after text.last l (drop text.closing (held_of now.all ++ front)))
+        (take-append-le text.closing (held_of now.all) front counted)
+        ∙ ap (Within text.first text.after text.last closing)
+        (drop-append-le text.closing (held_of now.all) front counted)
+
+    given-is : given_of new ≡ given_of now
+    given-is =
+        ap (λ (s : Stage). given_at s (written_of all) (held_of all)) within ∙ written_is
+        ∙ sym (ap (λ (s : Stage). given_at s (written_of now.all) (held_of now.all)) within)
+
+    go : MayBeLeft w InHeading es ⊎ IsOut now → HeadWalked w bytes old new
+    go (inr out) = absurd (let bad : stage.Outside ≡ stage.Within = sym out ∙ within in cc)
+    go (inl left) =
+        let quiet : AreQuiet w front = quiet-run w n es wanted left may.0 in
+        let held : HeldQuiet w place = subst (HeldQuiet w) place-is h.quiet in
+        record {
+          whole = whole-of w bytes (given_of new) (given_of now) now.items now.items (head_of new) there now.on now.on
+              (left_of all) (drop n es) given-is refl there-is refl rest_is
+              ∙ sym
+              (head-held w bytes (at now.items (head_of now) now.on) (given_of now) text.first text.after text.last
+              closing since es n wanted place-is may quiet)
+              ∙ h.whole;
+          quiet = subst (HeldQuiet w) (sym there-is) (held.0, quiet-append w since front held.1 quiet);
+          inside = inl (subst (MayBeLeft w InHeading) (sym rest_is) (heading-run w n es left may.0));
+          stay = subst (MayStay w) (sym rest_is) (stay-drop w es h.stay n);
+          fewer = omega (arith, ap length rest_is, length-drop n es, h.fewer);
+        }
 
 -- one that is open at the end is closed
 pub head-closed : (w : Wanted) (bytes : List ℕ) (old now new : Now) → w.atx ≡ true → HeadWalked w bytes old now →

@@ -1,7 +1,10 @@
 -- A list of events that is rewritten in its own place.
-use Rattle.std.proofs.Common.{◌≡◌, ℕ, ◌+◌, ◌-◌, ◌≤◌, List, [], ◌∷◌, ◌++◌, take, drop, sym, ◌∙◌, ap, arith}
+use Rattle.std.proofs.Common.{◌≡◌, ℕ, ◌+◌, ◌-◌, ◌≤◌, List, [], ◌∷◌, ◌++◌, take, drop, length, sym, ◌∙◌, ap, arith}
+use Rattle.std.proofs.Common.{append_assoc, append-nil, length-append, length-drop}
+use lib.Seq.{paste}
 use Rattle.std.proofs.Math.Seq.{take-add}
-use Rattle.std.proofs.lemmas.List.{drop-drop, drop-take}
+use Rattle.std.proofs.lemmas.List.{drop-append-le, drop-drop, drop-take, drop_all, drop_at, length-take-le, take-append-le}
+use Rattle.std.proofs.lemmas.List.{take-append-drop, take-take, take_all, take_at}
 use Rattle.md_engine.specs.declared.event.Event.{Event}
 
 -- one event more is held
@@ -36,3 +39,57 @@ held-fewer events done read count le =
     (ap (λ (n : ℕ). drop count (take n (drop done events))) (omega arith)
     ∙ drop-take count m (drop done events)
     ∙ ap (take m) (drop-drop count done events ∙ ap (λ (n : ℕ). drop n events) (omega arith)))
+
+-- so many events more are written
+pub piece-written : (events old new all : List Event) (at many : ℕ) → new ≡ old ++ take many (drop at events) →
+    old ++ drop at events ≡ all → new ++ drop (at + many) events ≡ all
+piece-written events old new all at many is so_far =
+    rw is
+    (append_assoc old (take many (drop at events)) (drop (at + many) events)
+    ∙ ap (λ (l : List Event). old ++ (take many (drop at events) ++ l)) (sym (drop-drop many at events))
+    ∙ ap (λ (l : List Event). old ++ l) (take-append-drop many (drop at events)) ∙ so_far)
+
+-- A list is made longer, and what stands from `done` on is moved up by so many places.
+
+pub made-longer : (events more : List Event) (end many : ℕ) → end ≡ length events →
+    take (end + many) events ++ more ≡ events ++ more
+made-longer events more end many is = ap (λ (l : List Event). l ++ more) (take_all (end + many) events (omega arith))
+
+-- it stands there,
+pub moved-up : (events more : List Event) (done many : ℕ) → done ≤ length events → length more ≡ many →
+    drop (done + many) (paste (events ++ more) (done + many) (drop done (events ++ more)) (length events - done))
+    ≡ drop done events
+moved-up events more done many within size =
+    let all : List Event = events ++ more in
+    let to = done + many in
+    let n = length events - done in
+    let long : length all ≡ length events + many = length-append events more ∙ ap (λ (k : ℕ). length events + k) size in
+    ap (drop to) (append_assoc (take to all) (take n (drop done all)) (drop (to + n) all))
+    ∙ drop_at (take to all) (take n (drop done all) ++ drop (to + n) all) to (length-take-le to all (omega (arith, long)))
+    ∙ ap (λ (l : List Event). take n (drop done all) ++ l) (drop_all (to + n) all (omega (arith, long)))
+    ∙ append-nil (take n (drop done all))
+    ∙ ap (take n) (drop-append-le done events more within)
+    ∙ take_at (drop done events) more n (length-drop done events)
+
+-- also what stands behind it,
+pub moved-behind : (events new : List Event) (done read many : ℕ) → done ≤ read →
+    drop (done + many) new ≡ drop done events → drop (read + many) new ≡ drop read events
+moved-behind events new done read many le moved =
+    ap (λ (n : ℕ). drop n new) (omega arith)
+    ∙ sym (drop-drop (read - done) (done + many) new)
+    ∙ ap (drop (read - done)) moved
+    ∙ drop-drop (read - done) done events
+    ∙ ap (λ (n : ℕ). drop n events) (omega arith)
+
+-- and what stands in front stays
+pub unmoved : (events more back : List Event) (written done many n : ℕ) → written ≤ done → done ≤ length events →
+    length more ≡ many → take written (paste (events ++ more) (done + many) back n) ≡ take written events
+unmoved events more back written done many n le within size =
+    let all : List Event = events ++ more in
+    let to = done + many in
+    let long : length all ≡ length events + many = length-append events more ∙ ap (λ (k : ℕ). length events + k) size in
+    let front : length (take to all) ≡ to = length-take-le to all (omega (arith, long)) in
+    ap (take written) (append_assoc (take to all) (take n back) (drop (to + n) all))
+    ∙ take-append-le written (take to all) (take n back ++ drop (to + n) all) (omega (arith, front))
+    ∙ take-take written to all (omega arith)
+    ∙ take-append-le written events more (omega arith)

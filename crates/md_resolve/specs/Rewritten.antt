@@ -1,11 +1,11 @@
--- A list of events that is rewritten.
+-- A list of events that is rewritten in its own place.
 use Rattle.std.specs.Prelude.{◌≡◌, ◌-◌, List, ◌∷◌, take, drop}
 use Rattle.md_engine.specs.declared.event.Event.{Event}
 use Rattle.md_resolve.specs.declared.rewriting.Rewriting.{Rewriting}
 
 -- what was written, what was read and is held, and what is left to be read
 abbrev pub written_of : Rewriting → List Event
-written_of r = r.written.items
+written_of r = take r.written r.events.items
 
 abbrev pub held_of : Rewriting → List Event
 held_of r = take (r.read - r.done) (drop r.done r.events.items)

@@ -5,6 +5,7 @@ ghost use Rattle.md_resolve.specs.Counted.{counted};
 ghost use Rattle.md_resolve.specs.Rewritten.{IsFirst, held_of, left_of, written_of};
 ghost use Rattle.md_leaves.specs.HeadingText.{begins, ends, is_heading, is_run};
 ghost use Rattle.md_leaves.specs.HeadingText.{is_sequence, text_between};
+ghost use Rattle.md_order.specs.Quiet.{MayHoldQuiet};
 ghost use Rattle.md_seam.specs.Events.Tiles.{is_data};
 
 use crate::rewriting::Rewriting;
@@ -51,6 +52,24 @@ fn ends_data(event: &Event) -> bool
     ensures { result ≡ ends is_data event.now }
 {
     matches!(event.kind, Kind::Exit) && matches!(event.name, Name::Data)
+}
+
+/// How many of the events that are left in a heading, from its first further run on, may be held at once: those in
+/// front of the last end of text before the next end of a run of `#` or of the heading, or all in front of that one
+/// where no text ends before it.
+pub(crate) fn until_end(events: &[Event]) -> usize
+    ensures holds { MayHoldQuiet result events.now }
+    ensures within { result ≤ length events.now }
+{
+    let mut text = None;
+    for (at, event) in events.iter().enumerate() {
+        if ends_data(event) {
+            text = Some(at);
+        } else if ends_sequence(event) || ends_heading(event) {
+            return text.unwrap_or(at);
+        }
+    }
+    text.unwrap_or(events.len())
 }
 
 /// An event without a link.
@@ -172,11 +191,11 @@ impl Walk {
     }
 
     /// Goes on with an event of a heading between its opening sequence and a further run.
-    fn step_opened(&mut self, event: Event) -> Result<(), Message>
+    fn step_opened(&mut self, event: Event)
         requires stage { self.old.stage ≡ Stage.Opened }
         requires first { IsFirst event (left_of self.old.all) }
-        ensures left { OnOk result (left_of self.new.all ≡ drop 1 (left_of self.old.all)) }
-        ensures walked { OnOk result (walk_of self.new ≡ stepped (walk_of self.old) event) }
+        ensures left { left_of self.new.all ≡ drop 1 (left_of self.old.all) }
+        ensures walked { walk_of self.new ≡ stepped (walk_of self.old) event }
     {
         if begins_run(&event) {
             self.stage = Stage::Within;
@@ -186,12 +205,11 @@ impl Walk {
                 last: None,
                 closing: 0,
             };
-            self.all.give()?;
+            self.all.give();
         } else if ends_heading(&event) {
             self.stage = Stage::Outside;
         }
         self.all.hold(event);
-        Ok(())
     }
 
     /// Goes on with an event of a heading from its first further run on.
@@ -240,7 +258,10 @@ impl Walk {
                 self.step_before(event);
                 Ok(())
             }
-            Stage::Opened => self.step_opened(event),
+            Stage::Opened => {
+                self.step_opened(event);
+                Ok(())
+            }
             Stage::Within => self.step_within(event),
         }
     }
@@ -255,7 +276,7 @@ impl Walk {
             let Text { first, after, .. } = self.text;
             self.text = Text::NONE;
             push_text(&mut self.all, first, after)?;
-            self.all.give()?;
+            self.all.give();
         }
         self.stage = Stage::Outside;
         Ok(())

@@ -1,11 +1,12 @@
 // One pass for the resolvers of items, headings and tables.
 //
-// The walk goes over the events from left to right and writes a new list. Events that are of no block that is set are
-// copied at once, as many as stand together. Leaf blocks hold no block, so an ATX heading and a table are set from their
-// begin to their end, and nothing else is set there.
+// The walk goes over the events from left to right, and writes over those that it has read. Events that are of no block
+// that is set are moved at once, as many as stand together. Leaf blocks hold no block, so an ATX heading and a table are
+// set from their begin to their end, and nothing else is set there.
 //
-// It looks ahead from the begin of an item to its marker, from the end of one to the next block, and from the begin of a
-// paragraph to the underline behind it; so no event is looked at more than three times, and the walk is linear.
+// It looks ahead from the begin of an item to its marker, from the end of one to the next block, from the begin of a
+// paragraph to the underline behind it, and within the text of an ATX heading to what may close that; so no event is
+// looked at more than three times, and the walk is linear.
 
 ghost use Rattle.std.specs.Prelude.{◌≡◌, ◌≤◌, ◌<◌, ◌&&◌, ◌++◌, IfOk, None, OnOk, List, ℕ, [], drop, length, not, take, false, true};
 ghost use Rattle.std.specs.List.{prefix_len};
@@ -152,8 +153,7 @@ pub struct Walk {
 
 impl Walk {
     /// Begins to go over these events.
-    fn new(alloc: Global, events: Vec<Event>, spare: Vec<Event>) -> Walk
-        requires { spare.items ≡ [] }
+    fn new(alloc: Global, events: Vec<Event>) -> Walk
         ensures given { given_of result ≡ [] }
         ensures items { items_of result ≡ outside }
         ensures on { result.on ≡ false }
@@ -162,7 +162,7 @@ impl Walk {
     {
         Walk {
             heads: heading_text::Walk {
-                all: Rewriting::new(events, spare),
+                all: Rewriting::new(events),
                 stage: Stage::Outside,
                 text: Text::NONE,
             },
@@ -200,7 +200,7 @@ impl Walk {
         ensures outside { OnOk result (self.new.heads.stage ≡ Stage.Outside) }
     {
         if !self.items.within {
-            self.heads.all.give()?;
+            self.heads.all.give();
             self.heads
                 .all
                 .push(list_event(Kind::Enter, marker, event.point))?;
@@ -232,7 +232,7 @@ impl Walk {
         if self.items.within {
             return Ok(());
         }
-        self.heads.all.give()?;
+        self.heads.all.give();
         self.heads
             .all
             .push(list_event(Kind::Exit, marker, event.point))
@@ -279,6 +279,10 @@ impl Walk {
                 return Ok(());
             }
             self.heads.step(next)?;
+            if let Stage::Within = self.heads.stage {
+                let many = heading_text::until_end(self.heads.all.left());
+                self.heads.all.hold_many(many);
+            }
         }
         self.heads.close()?;
         Ok(())
@@ -301,7 +305,7 @@ impl Walk {
             self.heads.all.hold(event);
             return Ok(());
         }
-        self.heads.all.give()?;
+        self.heads.all.give();
         self.heads.all.hold(event);
         self.heads.all.leave_out(1);
         self.heads
@@ -327,7 +331,7 @@ impl Walk {
             self.heads.all.hold(event);
             return Ok(());
         }
-        self.heads.all.give()?;
+        self.heads.all.give();
         self.heads.all.hold(event);
         self.heads.all.leave_out(1);
         self.heads
@@ -351,7 +355,7 @@ impl Walk {
             return Ok(());
         }
         self.on = false;
-        self.heads.all.give()?;
+        self.heads.all.give();
         self.heads.all.push(exit(Name::HeadingSetext, event.point))
     }
 
@@ -397,14 +401,14 @@ impl Walk {
         self.cells.clear();
         let list = mem::replace(&mut self.cells, Vec::new(alloc));
         let all = &mut self.heads.all;
-        all.give()?;
+        all.give();
         let left = all.left();
         let end = until_end(left);
         let many = if end < left.len() { end + 1 } else { end };
         let cells = put_tables(&left[..many], list)?;
-        all.push_all(&cells)?;
         all.hold_many(many);
         all.leave_out(many);
+        all.push_all(&cells)?;
         self.cells = cells;
         Ok(())
     }
@@ -445,27 +449,25 @@ impl Walk {
     }
 }
 
-/// The events with what is wanted set by one walk, written into `spare`, which is empty; and the list of the events.
+/// The events with what is wanted set by one walk, in the list of the events.
 fn walk_all(
     alloc: Global,
     wanted: Wanted,
     bytes: &[u8],
     events: Vec<Event>,
-    spare: Vec<Event>,
-) -> Result<(Vec<Event>, Vec<Event>), Message>
-    requires empty { spare.items ≡ [] }
+) -> Result<Vec<Event>, Message>
     requires may { MayPass wanted events.items }
-    ensures events { IfOk result (λ lists. lists.0.items ≡ in_order wanted bytes.now events.items) }
+    ensures events { IfOk result (λ all. all.items ≡ in_order wanted bytes.now events.items) }
     ensures placed { IfOk result
-        (λ lists. (text : List ℕ) → ArePlaced text events.items → ArePlaced text lists.0.items) }
+        (λ all. (text : List ℕ) → ArePlaced text events.items → ArePlaced text all.items) }
 {
-    let mut walk = Walk::new(alloc, events, spare);
+    let mut walk = Walk::new(alloc, events);
     walk.pass(wanted, bytes);
     while let Some(event) = walk.heads.all.first() {
         walk.step(alloc, wanted, bytes, event)?;
         walk.pass(wanted, bytes);
     }
-    walk.heads.all.give()?;
+    walk.heads.all.give();
     let Walk { heads, .. } = walk;
     Ok(heads.all.finish())
 }
@@ -543,27 +545,25 @@ fn wanted_here(wanted: Wanted, events: &[Event]) -> Wanted
     }
 }
 
-/// The events with what is wanted set, written into `spare`, which is empty; and the list of the events.
+/// The events with what is wanted set, in the list of the events.
 pub fn set_all(
     alloc: Global,
     wanted: Wanted,
     bytes: &[u8],
     events: Vec<Event>,
-    spare: Vec<Event>,
-) -> Result<(Vec<Event>, Vec<Event>), Message>
-    requires empty { spare.items ≡ [] }
+) -> Result<Vec<Event>, Message>
     requires may { MayPass wanted events.items }
-    ensures events { IfOk result (λ lists. lists.0.items ≡ in_order wanted bytes.now events.items) }
+    ensures events { IfOk result (λ all. all.items ≡ in_order wanted bytes.now events.items) }
     ensures placed { IfOk result
-        (λ lists. (text : List ℕ) → ArePlaced text events.items → ArePlaced text lists.0.items) }
+        (λ all. (text : List ℕ) → ArePlaced text events.items → ArePlaced text all.items) }
 {
     let here = wanted_here(wanted, &events);
-    let (set, spare) = walk_all(alloc, here, bytes, events, spare)?;
-    Ok((set, spare))
+    let set = walk_all(alloc, here, bytes, events)?;
+    Ok(set)
 }
 
 /// Runs the resolvers of these names in one pass: those of items, of ATX headings, of setext headings and of tables, as if
-/// they ran one behind the other, in this order. Other names change nothing. Where nothing is to be set nothing is copied.
+/// they ran one behind the other, in this order. Other names change nothing. Where nothing is to be set nothing is moved.
 ///
 /// Of more than one name it asks that leaf blocks hold no block. After an `Err`, which says that memory ran out, the parse
 /// has failed, and the tokenizer is only dropped.
@@ -585,7 +585,7 @@ pub fn pass(tokenizer: &mut Tokenizer, names: &[ResolveName]) -> Result<Option<S
     let alloc = tokenizer.alloc;
     let events = tokenizer.take_events();
     let spare = tokenizer.take_spare();
-    let (set, spare) = set_all(alloc, wanted, tokenizer.bytes, events, spare)?;
+    let set = set_all(alloc, wanted, tokenizer.bytes, events)?;
     tokenizer.set_events(set, spare);
     Ok(None)
 }

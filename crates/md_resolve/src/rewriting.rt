@@ -1,22 +1,51 @@
-// A list of events that is rewritten.
+// A list of events that is rewritten in its own place.
 
-ghost use Rattle.std.specs.Prelude.{◌≡◌, ◌≤◌, [], ◌∷◌, ◌++◌, IfNone, IfSome, OnOk, drop, length, take};
+ghost use Rattle.std.specs.Prelude.{◌≡◌, ◌≤◌, ◌<◌, ◌+◌, [], ◌∷◌, ◌++◌, IfNone, IfSome, OnOk, drop, length, take};
 
-use md_engine::event::Event;
+use md_engine::event::{Event, Kind, Name, Point};
 use md_engine::message::Message;
-use md_seam::moving::append;
+use md_seam::moving::move_down;
 
-/// A list that is read from its front on, and written again. What was read is held before it is written, so that many
-/// events are written at once.
+/// So many events at least are made room for at once.
+const LEAST: usize = 16;
+
+/// So many events are written at once: the C library copies larger pieces by an instruction that goes byte by byte.
+const PIECE: usize = 48;
+
+/// What stands in a place that nothing was written to yet.
+const NOTHING: Event = Event {
+    kind: Kind::Enter,
+    name: Name::Data,
+    point: Point {
+        line: 0,
+        column: 0,
+        index: 0,
+        vs: 0,
+    },
+    link: None,
+};
+
+/// How many events to make room for where `need` are written, and `behind` others have to be moved: at least an eighth of
+/// these, so that in all the moves are linear in what is written.
+fn room_for(need: usize, behind: usize) -> usize
+    ensures { need ≤ result }
+{
+    need.max(behind / 8).max(LEAST)
+}
+
+/// A list that is read from its front on, and written again in the places that were read. What was read is held before
+/// it is written, so that many events are written at once. Where more is written than was read, all that is not written
+/// yet is moved up.
 #[derive(Drop)]
 pub struct Rewriting {
     events: Vec<Event>,
-    /// How many of the events were written or left out. Those behind them, up to what was read, are held.
+    /// In how many places stands what was written. Those behind it, up to the first that is held, are free.
+    written: usize,
+    /// Where the events begin that are held: those in front of them were written or left out.
     done: usize,
-    /// How many of the events were read.
+    /// Where the events begin that are left: those in front of them were read.
     read: usize,
-    written: Vec<Event>,
-    ghost within: { (done ≤ read) × (read ≤ length events.items) },
+    ghost within: { (written ≤ done) × (done ≤ read) × (read ≤ length events.items) },
 }
 
 impl Rewriting {
@@ -79,14 +108,71 @@ impl Rewriting {
     }
 
     /// Writes the events that are held.
-    pub(crate) fn give(&mut self) -> Result<(), Message>
-        ensures left { OnOk result (left_of self.new ≡ left_of self.old) }
-        ensures held { OnOk result (held_of self.new ≡ []) }
-        ensures written { OnOk result (written_of self.new ≡ written_of self.old ++ held_of self.old) }
+    pub(crate) fn give(&mut self)
+        ensures left { left_of self.new ≡ left_of self.old }
+        ensures held { held_of self.new ≡ [] }
+        ensures written { written_of self.new ≡ written_of self.old ++ held_of self.old }
     {
-        append(&mut self.written, &self.events[self.done..self.read])?;
+        move_down(&mut self.events, self.written, self.done, self.read);
+        self.written += self.read - self.done;
         self.done = self.read;
+    }
+
+    /// Makes room for so many events, and for more if many others have to be moved. An `Err` says that memory ran out.
+    fn widen(&mut self, need: usize) -> Result<(), Message>
+        ensures left { left_of self.new ≡ left_of self.old }
+        ensures held { held_of self.new ≡ held_of self.old }
+        ensures written { written_of self.new ≡ written_of self.old }
+        ensures room { OnOk result (self.new.written + need ≤ self.new.done) }
+    {
+        let end = self.events.len();
+        let many = room_for(need, end - self.done);
+        let Some(new_end) = end.checked_add(many) else {
+            return Err(Message);
+        };
+        if self.events.resize(new_end, NOTHING).is_err() {
+            return Err(Message);
+        }
+        self.events.copy_within(self.done..end, self.done + many);
+        self.done += many;
+        self.read += many;
         Ok(())
+    }
+
+    /// Makes room for so many events, where there is less.
+    fn make_room(&mut self, need: usize) -> Result<(), Message>
+        ensures left { left_of self.new ≡ left_of self.old }
+        ensures held { held_of self.new ≡ held_of self.old }
+        ensures written { written_of self.new ≡ written_of self.old }
+        ensures room { OnOk result (self.new.written + need ≤ self.new.done) }
+    {
+        if self.done - self.written < need {
+            return self.widen(need);
+        }
+        Ok(())
+    }
+
+    /// Writes these events at once where there is room.
+    fn put_piece(&mut self, piece: &[Event])
+        requires { self.old.written + length piece.now ≤ self.old.done }
+        ensures left { left_of self.new ≡ left_of self.old }
+        ensures held { held_of self.new ≡ held_of self.old }
+        ensures written { written_of self.new ≡ written_of self.old ++ piece.now }
+        ensures room { (self.new.written ≡ self.old.written + length piece.now) × (self.new.done ≡ self.old.done) }
+    {
+        self.events[self.written..self.written + piece.len()].copy_from_slice(piece);
+        self.written += piece.len();
+    }
+
+    /// Writes an event where there is room.
+    fn put(&mut self, event: Event)
+        requires { self.old.written < self.old.done }
+        ensures left { left_of self.new ≡ left_of self.old }
+        ensures held { held_of self.new ≡ held_of self.old }
+        ensures written { written_of self.new ≡ written_of self.old ++ event ∷ [] }
+    {
+        self.events[self.written] = event;
+        self.written += 1;
     }
 
     /// Writes an event, in front of those that are held.
@@ -95,9 +181,8 @@ impl Rewriting {
         ensures held { held_of self.new ≡ held_of self.old }
         ensures written { OnOk result (written_of self.new ≡ written_of self.old ++ event ∷ []) }
     {
-        if self.written.push(event).is_err() {
-            return Err(Message);
-        }
+        self.make_room(1)?;
+        self.put(event);
         Ok(())
     }
 
@@ -107,33 +192,40 @@ impl Rewriting {
         ensures held { held_of self.new ≡ held_of self.old }
         ensures written { OnOk result (written_of self.new ≡ written_of self.old ++ events.now) }
     {
-        append(&mut self.written, events)
+        self.make_room(events.len())?;
+        let mut at = 0;
+        while at < events.len() {
+            let many = PIECE.min(events.len() - at);
+            self.put_piece(&events[at..][..many]);
+            at += many;
+        }
+        Ok(())
     }
 
-    /// Begins to read these events, and writes into a list that is empty.
-    pub(crate) fn new(events: Vec<Event>, written: Vec<Event>) -> Rewriting
-        requires { written.items ≡ [] }
+    /// Begins to read these events.
+    pub(crate) fn new(events: Vec<Event>) -> Rewriting
         ensures left { left_of result ≡ events.items }
         ensures held { held_of result ≡ [] }
         ensures written { written_of result ≡ [] }
     {
         Rewriting {
             events,
+            written: 0,
             done: 0,
             read: 0,
-            written,
         }
     }
 
-    /// What was written, and the list that was read.
-    pub(crate) fn finish(self) -> (Vec<Event>, Vec<Event>)
-        ensures { result.0.items ≡ written_of self }
+    /// What was written.
+    pub(crate) fn finish(self) -> Vec<Event>
+        ensures { result.items ≡ written_of self }
     {
         let Rewriting {
-            events,
+            mut events,
             written,
             ..
         } = self;
-        (written, events)
+        events.truncate(written);
+        events
     }
 }

@@ -8,7 +8,7 @@ pub returns-clause-placed : goal.returns-clause-placed
 returns-clause-placed c = λ text h.
     subst (ArePlaced text)
     (sym
-    (c.finish.ensures ∙ c.in_ok-give.ensures.written
+    (c.finish.ensures ∙ c.give.ensures.written
     ∙ passed-done c.args.wanted c.args.bytes.now c.args.events.items (now_of c.loop-event.walk) c.loop-event.invariant
     c.in_default.ensures.none))
     (in_order-placed text c.args.wanted c.args.bytes.now c.args.events.items h)

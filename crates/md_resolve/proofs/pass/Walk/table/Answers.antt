@@ -17,7 +17,7 @@ many-is : (c : goal.After-drop-self) →
     ≡ drop (table_len (rest_of (now_of c.args.self.now))) (rest_of (now_of c.args.self.now)))
 many-is c =
     let left : c.left-left.result.now ≡ rest_of (now_of c.args.self.now) =
-    c.left-left.ensures ∙ c.in_ok-give.ensures.left in
+    c.left-left.ensures ∙ c.give.ensures.left in
     slice-many (rest_of (now_of c.args.self.now)) c.until_end-end.result c.if-end-left.many
     (c.until_end-end.ensures.value ∙ ap (prefix_len _) left)
     (elim c.if-end-left.branch [
@@ -31,31 +31,33 @@ many-is c =
 pub returns-clause-given : goal.returns-clause-given
 returns-clause-given c =
     let old : Now = now_of c.args.self.now in
-    let new : Now = record old { all = c.leave_out.new.self } in
+    let new : Now = record old { all = c.push_all.new.self } in
     let r : List Event = rest_of old in
     let cells : c.in_ok-cells.cells.items ≡ tabled (take (table_len r) r) =
     c.in_ok-cells.ensures.events
-    ∙ ap (λ (l : List Event). tabled (take c.if-end-left.many l)) (c.left-left.ensures ∙ c.in_ok-give.ensures.left)
+    ∙ ap (λ (l : List Event). tabled (take c.if-end-left.many l)) (c.left-left.ensures ∙ c.give.ensures.left)
     ∙ ap tabled (many-is c).0 in
-    let written : written_of c.leave_out.new.self
+    let written : written_of c.push_all.new.self
     ≡ (written_of old.all ++ held_of old.all) ++ tabled (take (table_len r) r) =
-    c.leave_out.ensures.written ∙ c.hold_many.ensures.written ∙ c.in_ok-push_all.ensures.written
-    ∙ ap₂ (λ (a b : List Event). a ++ b) c.in_ok-give.ensures.written (c.deref.ensures.value ∙ cells) in
+    c.in_ok-push_all.ensures.written
+    ∙ ap₂ (λ (a b : List Event). a ++ b)
+    (c.leave_out.ensures.written ∙ c.hold_many.ensures.written ∙ c.give.ensures.written)
+    (c.deref.ensures.value ∙ cells) in
     out-given new c.requires.outside
     ∙ ap₂ (λ (a b : List Event). a ++ b) written (none c)
     ∙ append-nil ((written_of old.all ++ held_of old.all) ++ tabled (take (table_len r) r))
     ∙ ap (λ (l : List Event). l ++ tabled (take (table_len r) r)) (sym (out-given old c.requires.outside))
   where
-    none : (c : goal.After-drop-self) → held_of c.leave_out.new.self ≡ []
+    none : (c : goal.After-drop-self) → held_of c.push_all.new.self ≡ []
     none c =
         let many : ℕ = c.if-end-left.many in
-        let l : List Event = left_of c.push_all.new.self in
+        let l : List Event = left_of c.give.new.self in
         let held : held_of c.hold_many.new.self ≡ take many l = c.hold_many.ensures.held
-        ∙ ap (λ (x : List Event). x ++ take many l) (c.push_all.ensures.held ∙ c.in_ok-give.ensures.held) in
-        c.leave_out.ensures.held ∙ ap (drop many) held
+        ∙ ap (λ (x : List Event). x ++ take many l) c.give.ensures.held in
+        c.in_ok-push_all.ensures.held ∙ c.leave_out.ensures.held ∙ ap (drop many) held
         ∙ drop_all many (take many l) (omega (arith, length-take many l))
 
 pub returns-clause-rest : goal.returns-clause-rest
 returns-clause-rest c =
-    c.leave_out.ensures.left ∙ c.hold_many.ensures.left
-    ∙ ap (drop c.if-end-left.many) (c.in_ok-push_all.ensures.left ∙ c.in_ok-give.ensures.left) ∙ (many-is c).1
+    c.in_ok-push_all.ensures.left ∙ c.leave_out.ensures.left ∙ c.hold_many.ensures.left
+    ∙ ap (drop c.if-end-left.many) c.give.ensures.left ∙ (many-is c).1
