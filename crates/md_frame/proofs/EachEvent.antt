@@ -4,9 +4,7 @@ use Rattle.std.proofs.Common.{ℕ, zero, suc, Bool, true, false, cond, ◌&&◌,
 use Rattle.md_engine.specs.declared.event.Event.{Event}
 use Rattle.md_engine.specs.declared.event.Point.{Point}
 use Rattle.md_content.specs.ContentReads.{is_piece_end, settled}
-use Rattle.md_content.specs.Joined.{goes_on, is_content, joined}
 use Rattle.md_seam.specs.declared.inline.Chunk.{Chunk}
-use Rattle.md_seam.specs.Events.Nested.{is_exit}
 
 -- of each event this holds
 abbrev pub Each : (Event → Type 0) → List Event → Type 0
@@ -46,21 +44,6 @@ each-drop P (suc k) [] o = tt
 each-drop P (suc k) (e ∷ es) o = each-drop P k es o.1
 
 -- What holds of each wherever it stands goes on to hold.
-
--- once lines are joined
-pub joined-each : (P : Event → Type 0) → ((e : Event) (q : Point) → P e → P (record e { point = q })) →
-    (es : List Event) → Each P es → Each P (joined es)
-joined-each P moves [] h = tt
-joined-each P moves (e ∷ []) h = h
-joined-each P moves (e ∷ f ∷ []) h = h
-joined-each P moves (e ∷ f ∷ g ∷ es) h =
-    go (is_exit e.kind && is_content e.name && goes_on (f ∷ g ∷ es)) (joined-each P moves es h.1.1.1)
-    (joined-each P moves (f ∷ g ∷ es) h.1)
-  where
-    go : (x : Bool) → Each P (joined es) → Each P (joined (f ∷ g ∷ es)) →
-        Each P (cond x (record e { point = g.point } ∷ joined es) (e ∷ joined (f ∷ g ∷ es)))
-    go true k l = (moves e g.point h.0, k)
-    go false k l = (h.0, l)
 
 -- once lines end where their chunks do
 pub settled-each : (P : Event → Type 0) → ((e : Event) (q : Point) → P e → P (record e { point = q })) →

@@ -1,5 +1,5 @@
 -- What stands in the places of parts, part by part.
-use Rattle.std.proofs.Common.{◌≡◌, ℕ, ◌+◌, zero, suc, Bool, true, false, cond, List, [], ◌∷◌, ◌++◌, length, take, drop}
+use Rattle.std.proofs.Common.{◌≡◌, ℕ, ◌+◌, suc, Bool, true, false, cond, List, [], ◌∷◌, ◌++◌, length, take, drop}
 use Rattle.std.proofs.Common.{refl, ap, sym, ◌∙◌, subst, append_assoc, arith}
 use Rattle.std.specs.Prelude.{Option, Some, None}
 use Rattle.std.specs.List.{prefix_len}
@@ -20,7 +20,6 @@ use Rattle.md_seam.specs.Events.Prefix.{is_prefix}
 use Rattle.md_seam.proofs.SubstitutedLemmas.{SubstitutedBy}
 use Rattle.md_frame.specs.Row.{Row, behind_row, chunks_of}
 use Rattle.md_frame.specs.UnreadText.{linked_lines}
-use Rattle.md_frame.proofs.EachEvent.{Each, each-append, each-drop, each-take}
 use Rattle.md_frame.proofs.PartFacts.{NoLinks}
 use Rattle.md_frame.proofs.PrefixNames.{ArePrefixes}
 
@@ -69,37 +68,6 @@ keeps wants reads left chunks (e ∷ []) h = refl
 keeps wants reads left chunks (e ∷ f ∷ es) h =
     subst (SubstitutedBy wants reads left chunks e f es (e ∷ f ∷ es)) (sym h.0)
     (f ∷ es, refl, keeps wants reads left chunks (f ∷ es) h.1)
-
--- What holds of the events that are left and of each that may be read holds of those that come out, if it held of those
--- that went in.
-pub keeps-each : (P : Event → Type 0) (wants : Content → Bool) (reads : Readings) →
-    ((content : Content) (chunks : List Chunk) (answer : List Event) → reads content chunks answer → Each P answer) →
-    (left : List Event) (chunks : ℕ) (es out : List Event) → Each P left → Each P es →
-    Substituted wants reads left chunks es out → Each P out
-keeps-each P wants reads read left chunks [] out h k s = subst (Each P) (sym s) tt
-keeps-each P wants reads read left chunks (e ∷ []) out h k s = subst (Each P) (sym s) k
-keeps-each P wants reads read left chunks (e ∷ f ∷ es) out h k s =
-    go (wanted wants e) chunks (λ left chunks rest h s. keeps-each P wants reads read left chunks (f ∷ es) rest h k.1 s)
-    (λ left chunks rest h s. keeps-each P wants reads read left chunks es rest h k.1.1 s) s
-  where
-    Below : List Event → Type 0
-    Below es =
-        (left : List Event) (chunks : ℕ) (rest : List Event) → Each P left →
-        Substituted wants reads left chunks es rest → Each P rest
-
-    joins : (n : ℕ) (now rest : List Event) → Each P now → out ≡ take n now ++ rest → Each P rest → Each P out
-    joins n now rest h is more = subst (Each P) (sym is) (each-append P (take n now) rest (each-take P n now h) more)
-
-    go : (x : Option Content) (chunks : ℕ) → Below (f ∷ es) → Below es →
-        SubstitutedBy wants reads left chunks e f es out x → Each P out
-    go None chunks next behind s = subst (Each P) (sym s.1) (k.0, next left chunks s.0 h s.2)
-    go (Some x) zero next behind s =
-        let n : ℕ = share (length (chunks_behind wants es)) s.0 f.point.index in
-        let now : Each P s.0 = read x (chunk_of e f ∷ chunks_behind wants es) s.0 s.2 in
-        joins n s.0 s.1 now s.3 (behind (drop n s.0) (length (chunks_behind wants es)) s.1 (each-drop P n s.0 now) s.4)
-    go (Some x) (suc more) next behind s =
-        let n : ℕ = share more left f.point.index in
-        joins n left s.0 h s.1 (behind (drop n left) more s.0 (each-drop P n left h) s.2)
 
 -- what is left of a part stands in the places of its further chunks, however it is shared
 abbrev pub Rest : (Content → Bool) → Readings → List Event → List Event → List Event → Type 0

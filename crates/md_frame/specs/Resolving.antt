@@ -1,15 +1,13 @@
 -- What resolvers make of the events of a text, and which events they leave as they are.
-use Rattle.std.specs.Prelude.{◌&&◌, Bool, ℕ, if◌then◌else◌, ◌||◌, List, []}
+use Rattle.std.specs.Prelude.{Bool, ℕ, ◌||◌, List, []}
 use Rattle.md_engine.specs.declared.configuration.ParseOptions.{ParseOptions}
 use Rattle.md_engine.specs.declared.event.Event.{Event}
 use Rattle.md_engine.specs.declared.event.Name.{Name}
 use Rattle.md_engine.specs.declared.resolve.name.Name.{Name as ResolveName}
 use Rattle.md_engine.specs.declared.resolve.name.Name.TheVariants as r
-use Rattle.md_containers.specs.Listed.{listed, passes as passes_lists}
+use Rattle.md_containers.specs.Listed.{listed}
 use Rattle.md_leaves.specs.HeadingText.{headings_resolved, is_heading}
-use Rattle.md_leaves.specs.Spanned.{passes}
-use Rattle.md_leaves.specs.Turned.{is_no_underline, turned}
-use Rattle.md_leaves.specs.declared.spans.Place.TheVariants.{Outside}
+use Rattle.md_leaves.specs.Turned.{turned}
 use Rattle.md_tables.specs.Heads.{headed}
 use Rattle.md_tables.specs.Tabled.{tabled}
 
@@ -18,10 +16,6 @@ unfoldable pub joins_lines : ParseOptions → Bool
 joins_lines options =
     options.constructs.code_fenced || options.constructs.math_flow || options.constructs.code_indented
     || options.constructs.html_flow || options.constructs.gfm_table
-
--- whether an event stays as it is where headings are set, lines are joined and lists are put around items
-abbrev pub stays_alone : Event → Bool
-stays_alone e = passes Outside e && passes_lists e && is_no_underline e
 
 abbrev pub resolver : ResolveName
 resolver = r.HeadingAtx

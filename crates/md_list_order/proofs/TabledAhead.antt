@@ -70,9 +70,6 @@ no-and false = refl
 item-row : (name : Name) → is_item (role name) ≡ true → is_row name ≡ false
 item-row = by-item (λ (name : Name). is_row name ≡ false) refl
 
-list-row : (marker : ℕ) → is_row (list_name marker) ≡ false
-list-row = by-list (λ (name : Name). is_row name ≡ false) refl refl
-
 row-blind : Blind ends_row
 row-blind = record { item = λ e h. rw (item-row e.name h) (no-and (is_exit e.kind)); begin = λ marker p. refl }
 

@@ -13,14 +13,11 @@ use Rattle.md_seam.specs.Events.Inline.{is_line_ending}
 use Rattle.md_seam.specs.Events.Nested.{is_enter, is_exit}
 use Rattle.md_tables.specs.Heads.{is_table}
 use Rattle.md_order.specs.declared.wanted.Wanted.{Wanted}
-use Rattle.md_order.specs.Alone.{HoldNoBlock, InEnding, InHeading, InParagraph, InTable, InUnderline, MayPass, MayStand}
+use Rattle.md_order.specs.Alone.{HoldNoBlock, InEnding, InHeading, InParagraph, InTable, InUnderline, MayStand}
 use Rattle.md_order.specs.Alone.{Nothing, Open, closed_by, closes, is_one, is_set, open_behind, opened_by}
 use Rattle.md_order.specs.Left.{MayBeLeft, MayStay}
 use Rattle.md_order.specs.Quiet.{IsQuiet}
 use Rattle.md_order.proofs.Names.{bare-unturned, tableless, unset-bare, unset-item}
-
-pub stay-first : (w : Wanted) (es : List Event) → MayPass w es → MayStay w es
-stay-first w es h = (Nothing, h)
 
 -- one event further
 stay-next : (w : Wanted) (e : Event) (es : List Event) → MayStay w (e ∷ es) → MayStay w es

@@ -1,9 +1,9 @@
 -- What one pass gives for the events that are left, where it stands.
-use Rattle.std.specs.Prelude.{◌≡◌, ◌⊎◌, ℕ, suc, Bool, true, false, ◌||◌, ◌&&◌, not, List}
+use Rattle.std.specs.Prelude.{◌≡◌, ◌⊎◌, ℕ, suc, Bool, true, ◌||◌, ◌&&◌, not, List}
 use Rattle.std.specs.List.{prefix_len}
 use Rattle.md_engine.specs.declared.event.Event.{Event}
-use Rattle.md_containers.specs.Listed.{Place as ListPlace, is_item, listed_from, outside}
-use Rattle.md_leaves.specs.HeadingText.{Outside, Place as HeadPlace, begins, is_heading, resolved}
+use Rattle.md_containers.specs.Listed.{Place as ListPlace, is_item, listed_from}
+use Rattle.md_leaves.specs.HeadingText.{Place as HeadPlace, begins, is_heading, resolved}
 use Rattle.md_leaves.specs.Turned.{is_underline, passes as is_unturned, turned_from}
 use Rattle.md_seam.specs.Events.Nested.{is_exit}
 use Rattle.md_seam.specs.Events.Spelled.{role}
@@ -18,9 +18,6 @@ pub record Standing : Type 0 where
   pub items : ListPlace
   pub head : HeadPlace
   pub on : Bool
-
-abbrev pub at_first : Standing
-at_first = record { items = outside; head = Outside; on = false }
 
 abbrev pub left_in : Wanted → List ℕ → Standing → List Event → List Event
 left_in w bytes at es =

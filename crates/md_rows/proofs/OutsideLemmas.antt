@@ -1,5 +1,5 @@
 -- What stands around the leaves of a text is outside of what resolvers rewrite.
-use Rattle.std.proofs.Common.{◌≡◌, ℕ, false, List, [], ◌∷◌, ◌++◌, refl, ap, sym, ◌∙◌, append_assoc, append-nil}
+use Rattle.std.proofs.Common.{◌≡◌, ℕ, false, List, [], ◌∷◌, ◌++◌, refl, ap, sym, ◌∙◌, append_assoc}
 use Rattle.std.specs.Prelude.{Option, Some, None, Bool, true}
 use Rattle.std.proofs.lemmas.Bool.{and_right}
 use Rattle.md_engine.specs.declared.event.Event.{Event}
@@ -20,10 +20,6 @@ use Rattle.md_frame.proofs.OutsideFacts.{AreOutside, outside-append, IsOutside}
 use Rattle.md_registry.proofs.Registry.{front-own, outside-passes}
 use Rattle.md_frame.proofs.SubstitutedLemmas.{EachPrefixed}
 use Rattle.md_frame.proofs.PrefixNames.{AreFront, prefixes-front, IsFrontEvent}
-
--- where nothing is their own, resolvers change nothing
-pub outside-same : (es : List Event) → AreOutside es → resolved es ≡ es
-outside-same es h = ap resolved (sym (append-nil es)) ∙ outside-passes es [] h ∙ append-nil es
 
 -- what stands in front of a line
 pub front-outside : (es : List Event) → AreFront es → AreOutside es

@@ -41,9 +41,6 @@ tabled-passes [] es h = refl
 tabled-passes (e ∷ xs) es h =
     passes-given e (xs ++ es) h.0 ∙ ap (λ (l : List Event). e ∷ l) (tabled-passes xs es h.1)
 
-pub tabled-same : (es : List Event) → AreUntabled es → tabled es ≡ es
-tabled-same es h = ap tabled (sym (append-nil es)) ∙ tabled-passes es [] h ∙ append-nil es
-
 -- Names.
 
 -- whether events are of a table, or of a row of one

@@ -9,14 +9,12 @@ use Rattle.md_engine.specs.declared.event.Name.{Name}
 use Rattle.md_engine.specs.declared.event.Name.TheVariants as n
 use Rattle.md_engine.specs.declared.event.Point.{Point}
 use Rattle.md_meaning.specs.Rest.{Rest, indent, lose}
-use Rattle.md_seam.specs.Events.Nested.{is_enter, pair}
+use Rattle.md_seam.specs.Events.Nested.{pair}
 use Rattle.md_seam.specs.Substituted.{wanted}
 use Rattle.md_frame.specs.RestLine.{rest_line}
 use Rattle.md_frame.specs.LineColumns.{lost_line, part_over, past_columns}
-use Rattle.md_frame.specs.Resolving.{is_own}
 use Rattle.md_frame.proofs.ContentFacts.{NoContent, is_told}
 use Rattle.md_frame.proofs.LinedFacts.{AreLined, is_lined}
-use Rattle.md_frame.proofs.OutsideFacts.{AreOutside}
 
 -- An event of a part.
 
@@ -85,22 +83,6 @@ AreInside es = (P : List Event → Type 0) → P [] → More P → P es
 pub lost-inside : (name : Name) (lost : ℕ) (r : Rest) (p q : Point) → is_inside name ≡ true →
     AreInside (lost_line name lost r p q)
 lost-inside name lost r p q e = λ P none more. lost-each P none more name lost r p q e
-
--- A resolver rewrites none of them.
-
-inside-own : (name : Name) → is_inside name ≡ true → is_own name ≡ false
-inside-own n.SpaceOrTab e = refl
-inside-own _ e = cc
-
-and-false : (x : Bool) → (x && false) ≡ false
-and-false true = refl
-and-false false = refl
-
-pub more-outside : More AreOutside
-more-outside kind name x es e k = (rw (inside-own name e) (and-false (is_enter kind)), k)
-
-pub inside-outside : (es : List Event) → AreInside es → AreOutside es
-inside-outside es all = all AreOutside tt more-outside
 
 -- They may stand in a leaf of several lines.
 

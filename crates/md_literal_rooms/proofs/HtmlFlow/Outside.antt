@@ -12,30 +12,17 @@ use Rattle.md_engine.specs.Meaning.{Cell}
 use Rattle.md_meaning.specs.Bytes.{is_end}
 use Rattle.md_leaves.specs.Further.{further_link}
 use Rattle.md_seam.specs.Ahead.{line_bytes, line_end}
-use Rattle.md_seam.specs.Events.Nested.{around, enter_link, exit, pair}
+use Rattle.md_seam.specs.Events.Nested.{enter_link, exit, pair}
 use Rattle.md_seam.specs.Events.Places.{past_text}
 use Rattle.md_literal_rooms.specs.Leaf.HtmlFlow.{html_further, html_leaf}
 use Rattle.md_frame.proofs.ContentFacts.{NoContent}
 use Rattle.md_frame.proofs.LinedFacts.{AreLined}
-use Rattle.md_frame.proofs.OutsideFacts.{AreOutside}
 
 -- A first line between two points, and a further one, by whether it is empty.
-
-abbrev first_line : Point → Point → List Event
-first_line p q = around n.HtmlFlow p q (pair n.HtmlFlowData p q)
 
 abbrev further_line : Bool → Point → Point → List Event
 further_line empty p q =
     enter_link n.HtmlFlow p further_link ∷ cond empty [] (pair n.HtmlFlowData p q) ++ exit n.HtmlFlow q ∷ []
-
--- No part of them is rewritten.
-
-first-outside : (p q : Point) → AreOutside (first_line p q)
-first-outside p q = (refl, (refl, (refl, (refl, tt))))
-
-line-outside : (empty : Bool) (p q : Point) → AreOutside (further_line empty p q)
-line-outside true p q = (refl, (refl, tt))
-line-outside false p q = (refl, (refl, (refl, (refl, tt))))
 
 -- Their names may stand in a leaf of several lines.
 

@@ -12,10 +12,9 @@ use Rattle.md_tables.specs.GfmTableLine.{head_line, row_runs}
 use Rattle.md_tables.specs.RowRule.{Apart}
 use Rattle.md_frame.proofs.EachEvent.{Each, each-append}
 use Rattle.md_frame.proofs.ContentFacts.{NoContent, WantsContent}
-use Rattle.md_table_rooms.proofs.GfmTable.Each.{OfRow, of-no_content, of-outside, row-bytes}
+use Rattle.md_table_rooms.proofs.GfmTable.Each.{OfRow, of-no_content, row-bytes}
 use Rattle.md_table_rooms.proofs.GfmTable.Span.{IsNoLine, each-no_lines, of-no_line}
 use Rattle.md_frame.proofs.MarkRuns.Each.{IsNoContent, each-no_content}
-use Rattle.md_frame.proofs.OutsideFacts.{AreOutside, IsOutside}
 use Rattle.md_frame.proofs.SpanLaws.{IsSpanned}
 use Rattle.md_frame.proofs.SpannedFacts.{AreUnspanned}
 
@@ -42,9 +41,6 @@ head-each P of begins ends line p =
     )
 
 -- No part of it is rewritten.
-
-pub head-outside : (line : List ℕ) (p : Point) → AreOutside (head_line line p)
-head-outside line p = head-each IsOutside of-outside.of (λ q. refl) (λ q. refl) line p
 
 -- Nor does content stand in it.
 pub head-no_content : (wants : Content → Bool) → WantsContent wants → (line : List ℕ) (p : Point) →
