@@ -21,21 +21,21 @@ REQUESTS = 60
 
 # How many parts of a text must be read within the steps, and how many within the requests.
 MOST: dict[str, tuple[int, int]] = {
-    "paragraphs of long lines": (7, 12),
-    "one long line": (98, 130),
-    "headings of some words": (35, 42),
-    "setext headings": (28, 21),
+    "paragraphs of long lines": (7, 18),
+    "one long line": (98, 195),
+    "headings of some words": (35, 63),
+    "setext headings": (27, 40),
     "quotes of long lines": (34, 512),
-    "quotes in quotes in quotes": (29, 512),
-    "fences of some words": (35, 5_492),
-    "lines of an open fence": (66, 5_492),
-    "lines of indented code": (72, 5_492),
-    "HTML": (18, 5_492),
-    "definitions": (14, 3),
-    "blank lines": (582, 5_492),
-    "one line of tabs": (500, 5_492),
-    "one line of spaces": (2_500, 5_492),
-    "one line of `*`": (1_950, 5_492),
+    "quotes in quotes in quotes": (31, 512),
+    "fences of some words": (38, 8_238),
+    "lines of an open fence": (72, 8_238),
+    "lines of indented code": (75, 8_238),
+    "HTML": (21, 8_238),
+    "definitions": (15, 4),
+    "blank lines": (611, 8_238),
+    "one line of tabs": (750, 8_238),
+    "one line of spaces": (4_668, 8_238),
+    "one line of `*`": (1_950, 8_238),
 }
 
 
