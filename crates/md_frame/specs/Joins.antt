@@ -1,5 +1,5 @@
 -- What the resolver of leaves of several lines makes of the events of a text, where such may be on.
-use Rattle.std.specs.Prelude.{List}
+use Rattle.std.specs.Prelude.{if◌then◌else◌, List}
 use Rattle.md_engine.specs.declared.configuration.ParseOptions.{ParseOptions}
 use Rattle.md_engine.specs.declared.event.Event.{Event}
 use Rattle.md_leaves.specs.Spanned.{spanned}

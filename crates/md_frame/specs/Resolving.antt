@@ -1,5 +1,5 @@
 -- What resolvers make of the events of a text, and which events they leave as they are.
-use Rattle.std.specs.Prelude.{Bool, ℕ, ◌||◌, List, []}
+use Rattle.std.specs.Prelude.{Bool, ℕ, ◌||◌, if◌then◌else◌, List, []}
 use Rattle.md_engine.specs.declared.configuration.ParseOptions.{ParseOptions}
 use Rattle.md_engine.specs.declared.event.Event.{Event}
 use Rattle.md_engine.specs.declared.event.Name.{Name}
