@@ -1,7 +1,7 @@
 -- What stands in a text before its text parts are read, where the constructs of MDX are off: its block list, which
 -- tiles it and spells its tree, and its labels. No inline layer changes that.
 use Rattle.md_engine.specs.declared.tokenizer.held_leaf.HeldLeaf.TheVariants as held_leaf
-use Rattle.std.proofs.Common.{◌≡◌, ◌^◌, ◌<◌, ℕ, Bool, true, suc, List, [], ◌++◌, length, drop, refl, ap}
+use Rattle.std.proofs.Common.{◌≡◌, ◌^◌, ◌<◌, ℕ, Bool, true, List, [], ◌++◌, length, refl, ap}
 use Rattle.std.proofs.Common.{sym, ◌∙◌, subst, cond, false}
 use Rattle.std.specs.Prelude.{IsTrue}
 use Rattle.std.specs.Str.{IsUtf8}
@@ -19,7 +19,6 @@ use Rattle.md_containers.proofs.ListedBlocks.{IsUnlisted, listed-blocks, listed-
 use Rattle.md_containers.proofs.ListedFilled.{listed-plain, plain-inline}
 use Rattle.md_containers.proofs.ListedKept.{listed-placed}
 use Rattle.md_containers.proofs.ListedReads.{listed-spelled}
-use Rattle.md_content.specs.ContentReads.{content_readings, wants_content}
 use Rattle.md_content.specs.FootnoteLabels.{footnote_labels_in}
 use Rattle.md_content.specs.Labels.{labels_in}
 use Rattle.md_meaning.specs.Grouped.{grouped}
@@ -30,8 +29,6 @@ use Rattle.md_meaning.specs.Meaning.{tree, with_frontmatter}
 use Rattle.md_seam.specs.Events.Nested.{Nested}
 use Rattle.md_seam.specs.Events.Places.{are_placed}
 use Rattle.md_seam.specs.Events.Spelled.{spelled}
-use Rattle.md_seam.specs.Substituted.{Substituted}
-use Rattle.md_meaning.specs.Texts.{split_lines}
 use Rattle.md_seam.specs.Events.Tiles.{IsBlockList, end_point, parts, plain_lists, plain_read}
 use Rattle.md_outline.specs.HeadingDepths.{are_shallow}
 use Rattle.md_outline.specs.Outlined.{IsOutlined}
@@ -40,10 +37,8 @@ use Rattle.md_seam.proofs.OnLemmas.{tree-on}
 use Rattle.md_rows.specs.BlockList.{block_list}
 use Rattle.md_front_rooms.specs.Front.{body_point, front_events}
 use Rattle.markdown_blocks.specs.FlowReads.{FlowReads}
-use Rattle.md_rows.specs.TextRows.{text_cells, text_rows}
 use Rattle.md_container_rooms.specs.Footnotes.{footnotes_listed}
 use Rattle.markdown_blocks.specs.Parsed.{IsWithoutMdx}
-use Rattle.md_frame.specs.Resolving.{resolved}
 use Rattle.md_frame.specs.Row.{Row}
 use Rattle.md_rows.specs.Rows.{groups, groups_events}
 use Rattle.md_rows.specs.BlockList.{tabled_groups}
@@ -53,11 +48,7 @@ use Rattle.md_rows.proofs.EndingRows.{blocks-endings}
 use Rattle.md_rows.proofs.GrammarRows.{blocks-grammar}
 use Rattle.md_rows.proofs.HeldRows.{blocks-held, events-held}
 use Rattle.md_rows.proofs.StandRows.{events-stand, rows-stand}
-use Rattle.md_frame.proofs.ContentFacts.{content-alone}
-use Rattle.md_rows.proofs.ContentCut.{content-reads}
-use Rattle.md_rows.proofs.GroupLemmas.{content-read}
 use Rattle.md_rows.proofs.GroupsAre.{groups-are}
-use Rattle.md_rows.proofs.HeadJoined.{heads-joined}
 use Rattle.markdown_blocks.proofs.Labels.Rows.{rows-labels}
 use Rattle.md_content_rooms.proofs.Labels.Footnotes.{stand-labels}
 use Rattle.md_content_rooms.proofs.Labels.Kept.{listed-labels, read-labels}
@@ -68,18 +59,16 @@ use Rattle.md_list_order.proofs.ListsFirst.{lists-first}
 use Rattle.md_leaves.specs.HeadingText.{headings_resolved}
 use Rattle.md_tables.specs.Tabled.{tabled}
 use Rattle.markdown_blocks.proofs.SpelledRows.{rows-outer}
-use Rattle.md_rows.proofs.JoinedLemmas.{EachNoContent, rows_at-no_content}
+use Rattle.md_rows.proofs.JoinedLemmas.{EachNoContent}
 use Rattle.md_container_rooms.proofs.ListedOutlined.{listed-outlined}
 use Rattle.md_rows.proofs.Begun.{begun, front-nested, front-spelled, front-unlisted, fronts-defined}
 use Rattle.md_rows.proofs.Begun.{fronts-grouped, fronts-noted, fronts-shallow}
 use Rattle.md_frame.proofs.FillFacts.{fill-same}
 use Rattle.md_frame.proofs.PartsStand.{stands-outside}
-use Rattle.md_front_rooms.proofs.Frontmatter.Whole.{FrontPart}
 use Rattle.md_rows.proofs.NestedRows.{Nests, rows-nest}
 use Rattle.md_rows.proofs.PieceRows.{blocks-pieces}
 use Rattle.md_rows.proofs.PlainEvents.{groups-unlisted}
 use Rattle.md_rows.proofs.RowFacts.{AreRows}
-use Rattle.markdown_blocks.proofs.RowLemmas.{fresh-rows}
 use Rattle.md_rows.proofs.AloneGroups.{leaves-alone}
 use Rattle.md_rows.proofs.TabledGroups.{chain}
 use Rattle.markdown_blocks.proofs.ContentAre.{content-are, lines_of, part-of, rows_of, text-are, text-quiet}

@@ -1,5 +1,5 @@
 -- Where no underline stands, no setext heading is set.
-use Rattle.std.proofs.Common.{◌≡◌, ◌⊎◌, inl, inr, ℕ, Bool, true, false, cond, not, ◌&&◌, ◌||◌, List, [], ◌∷◌, ◌++◌, length, refl, ap, sym, ◌∙◌, arith}
+use Rattle.std.proofs.Common.{◌≡◌, inl, inr, ℕ, Bool, true, false, cond, not, ◌&&◌, ◌||◌, List, [], ◌∷◌, ◌++◌, length, refl, ap, sym, ◌∙◌, arith}
 use Rattle.std.proofs.Common.{suc, ◌+◌}
 use Rattle.std.specs.Prelude.{Option, Some, None}
 use Rattle.std.specs.List.{prefix_len}
@@ -12,7 +12,7 @@ use Rattle.md_leaves.specs.HeadingText.{Before, Opened, Outside, Place, Within, 
 use Rattle.md_leaves.specs.HeadingText.{is_sequence, resolved, text_between}
 use Rattle.md_leaves.specs.Turned.{is_no_underline, is_underline, turned}
 use Rattle.md_leaves.proofs.TurnedLemmas.{NoUnderlines, no_underlines-turned}
-use Rattle.md_order.specs.Alone.{HoldNoBlock, MayPass, Nothing, is_one}
+use Rattle.md_order.specs.Alone.{MayPass, is_one}
 use Rattle.md_order.specs.InOrder.{in_order, set_if}
 use Rattle.md_order.specs.declared.wanted.Wanted.{Wanted}
 use Rattle.md_seam.specs.Events.Nested.{exit}

@@ -24,9 +24,7 @@ use Rattle.md_literal_rooms.proofs.CodeIndented.Parts.{code-inside}
 use Rattle.md_frame.proofs.ContentFacts.{NoContent, is_told}
 use Rattle.md_frame.proofs.EachEvent.{each-append}
 use Rattle.md_frame.proofs.IndentRemoved.Names.{AreInside, More, either-part, inside-lined, inside-no_content}
-use Rattle.md_frame.proofs.IndentRemoved.Names.{inside-outside}
 use Rattle.md_frame.proofs.LinedFacts.{AreLined, IsLined}
-use Rattle.md_frame.proofs.OutsideFacts.{AreOutside, IsOutside}
 
 -- On a blank line whitespace stands, and a part of a leaf.
 blank-inside : (cells : List Cell) (p : Point) → AreInside (blank_adds cells p)

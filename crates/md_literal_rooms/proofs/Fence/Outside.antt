@@ -23,7 +23,6 @@ use Rattle.md_frame.proofs.ContentFacts.{NoContent, is_told}
 use Rattle.md_frame.proofs.EachEvent.{Each}
 use Rattle.md_literal_rooms.proofs.Fence.Each.{adds-each, is_block_name, is_fence_name, line-each}
 use Rattle.md_frame.proofs.LinedFacts.{AreLined, IsLined, is_lined}
-use Rattle.md_frame.proofs.OutsideFacts.{AreOutside, IsOutside}
 
 -- Its names.
 

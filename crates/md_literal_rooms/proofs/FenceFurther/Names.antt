@@ -28,9 +28,8 @@ use Rattle.md_frame.proofs.ContentFacts.{NoContent, is_told}
 use Rattle.md_frame.proofs.IndentRemoved.Names.{is_inside}
 use Rattle.md_frame.proofs.EachEvent.{each-append}
 use Rattle.md_frame.proofs.IndentRemoved.Names.{AreInside, More, either-part, inside-lined}
-use Rattle.md_frame.proofs.IndentRemoved.Names.{lost-each, more-no_content, more-outside, over-each}
+use Rattle.md_frame.proofs.IndentRemoved.Names.{lost-each, more-no_content, over-each}
 use Rattle.md_frame.proofs.LinedFacts.{AreLined, IsLined, is_lined}
-use Rattle.md_frame.proofs.OutsideFacts.{AreOutside}
 
 pub either-name : (P : Name → Type 0) (x : Bool) (a b : Name) → P a → P b → P (cond x a b)
 either-name P true a b h k = h

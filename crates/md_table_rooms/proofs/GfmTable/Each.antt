@@ -25,7 +25,7 @@ use Rattle.md_table_rooms.specs.Leaf.GfmTable.{table_leaf}
 use Rattle.md_frame.proofs.ContentFacts.{NoContent, WantsContent}
 use Rattle.md_frame.proofs.EachEvent.{Each, each-append}
 use Rattle.md_frame.proofs.MarkRuns.Each.{Holds, IsNoContent, each-no_content}
-use Rattle.md_frame.proofs.OutsideFacts.{AreOutside, IsOutside}
+use Rattle.md_frame.proofs.OutsideFacts.{IsOutside}
 use Rattle.md_frame.proofs.SpanLemmas.{either}
 use Rattle.md_frame.proofs.UnturnedFacts.{IsUnturned}
 

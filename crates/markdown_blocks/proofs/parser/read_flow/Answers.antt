@@ -1,4 +1,4 @@
-use Rattle.std.proofs.Common.{arith, inr, refl, subst, sym}
+use Rattle.std.proofs.Common.{arith, inr, refl, subst}
 use Rattle.md_engine.specs.Found.{Found, found_in}
 use Rattle.md_engine.specs.World.{World, world}
 use Rattle.md_engine.specs.declared.event.Point.{Point}

@@ -1,6 +1,4 @@
-use Rattle.std.proofs.Common.{◌≡◌, arith, length, sym, ◌∙◌}
-use Rattle.std.specs.List.{prefix_len}
-use Rattle.md_leaves.specs.Turned.{is_no_underline}
+use Rattle.std.proofs.Common.{arith, sym, ◌∙◌}
 use Rattle.md_resolve.proofs.NoUnderline.{pass-less, setext-none}
 use Rattle.md_resolve.proofs.pass.wanted_here.Goals as goal
 

@@ -1,13 +1,8 @@
 use Rattle.std.proofs.Common.{◌≡◌, Bool, false, true, not, refl, sym, subst, ap, ◌∙◌, ◌&&◌, ◌∷◌, []}
 use Rattle.md_containers.specs.Listed.{is_item}
-use Rattle.md_leaves.specs.HeadingText.{begins, is_heading}
-use Rattle.md_leaves.specs.Turned.{passes as is_unturned}
 use Rattle.md_order.specs.Left.{MayStay, is_passed, table_len}
-use Rattle.md_order.specs.declared.wanted.Wanted.{Wanted}
 use Rattle.md_order.proofs.Stay.{stay-drop}
-use Rattle.md_engine.specs.declared.event.Event.{Event}
-use Rattle.md_seam.specs.Events.Spelled.{role}
-use Rattle.md_tables.specs.Tabled.{begins_table, bound_of}
+use Rattle.md_tables.specs.Tabled.{begins_table}
 use Rattle.md_resolve.proofs.Unset.{off, passed-by}
 use Rattle.md_resolve.proofs.PassLaws.{Now, held-given, item-whole, now_of, one-whole, rest_of, table-whole, text-whole}
 use Rattle.md_resolve.proofs.pass.Walk.step.Goals as goal
