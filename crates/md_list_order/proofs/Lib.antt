@@ -1,12 +1,4 @@
-pub mod Walks
-pub mod ItemNames
-pub mod Around
-pub mod HeadingAround
-pub mod TurnedAhead
-pub mod TurnedAround
-pub mod TabledAhead
-pub mod TabledAround
-pub mod LeavesAlone
-pub mod HeadingsKeep
-pub mod SetextAlone
+pub mod Plain
+pub mod Ahead
+pub mod Awaited
 pub mod ListsFirst
