@@ -1,6 +1,6 @@
 // From a text to events.
 
-ghost use Rattle.std.specs.Prelude.{◌≡◌, ◌≤◌, ◌++◌, IfOk, OnOk, [], length, map, string_bytes};
+ghost use Rattle.std.specs.Prelude.{◌≡◌, ◌≤◌, ◌++◌, IfOk, OnOk, [], false, length, map, string_bytes};
 ghost use Rattle.std.specs.List.{prefix_len};
 ghost use Rattle.md_engine.specs.Found.{found_in};
 ghost use Rattle.md_engine.specs.Place.{IsPlaced};
@@ -9,10 +9,12 @@ ghost use Rattle.md_seam.specs.TextPart.{IsTextPart, document_of, text_kind, wan
 ghost use Rattle.md_registry.specs.Document.{ReadsFront};
 ghost use Rattle.md_front_rooms.specs.Front.{body_point};
 ghost use Rattle.md_frame.specs.Joins.{lines_joined};
-ghost use Rattle.markdown_blocks.specs.Alone.{all_wanted, stays_alone};
+ghost use Rattle.md_leaves.specs.Spanned.{passes_on};
+ghost use Rattle.md_leaves.specs.Turned.{HoldNoUnderline};
+ghost use Rattle.markdown_blocks.specs.Alone.{stays_alone};
 ghost use Rattle.markdown_blocks.specs.FlowReads.{FlowReads};
 ghost use Rattle.md_order.specs.Alone.{MayPass};
-ghost use Rattle.md_order.specs.InOrder.{in_order};
+ghost use Rattle.md_order.specs.InOrder.{every, in_order};
 ghost use Rattle.md_container_rooms.specs.Footnotes.{footnotes_listed};
 ghost use Rattle.markdown_blocks.specs.Parsed.{IsParsed, IsRead, IsWithoutMdx};
 ghost use Rattle.md_meaning.specs.Wrapped.{IsSmall};
@@ -23,7 +25,6 @@ use md_engine::configuration::ParseOptions;
 use md_engine::event::{Content, Event, Point};
 use md_engine::message::Message;
 pub use md_engine::parse_state::ParseState;
-use md_engine::resolve::Name as ResolveName;
 use md_engine::state::document::State as DocumentState;
 use md_engine::state::{Name as StateName, State};
 use md_engine::subtokenize::Subresult;
@@ -35,7 +36,7 @@ use md_leaves::spans;
 use md_leaves::spans::Place;
 use md_order::wanted::Wanted;
 use md_registry::choices;
-use md_resolve::pass::{is_same, pass};
+use md_resolve::pass::{is_same, pass_all};
 use md_seam::inline::{Chunk, Inline, PartKind};
 use md_seam::subtokenize::{Reader, subtokenize};
 use md_seam::walks::{Test, passing};
@@ -96,7 +97,7 @@ impl<I: Inline> Reader for TextReader<'_, '_, I> {
     }
 }
 
-/// Takes the byte order mark and the frontmatter at the front of a text, if they stand there.
+/// Takes the byte order mark and the frontmatter at the front of a text, if they are there.
 ///
 /// An `Err` says that memory ran out.
 fn read_front<'a>(
@@ -134,7 +135,7 @@ fn with_room(alloc: Global, bytes: &[u8]) -> Result<Vec<Event>, Message>
     }
 }
 
-/// A tokenizer at a point, whose lists of events have room.
+/// A tokenizer at a point, whose list of events has room.
 ///
 /// An `Err` says that memory ran out.
 fn flow_tokenizer<'a>(
@@ -148,35 +149,36 @@ fn flow_tokenizer<'a>(
 {
     let mut tokenizer = Tokenizer::new(alloc, start, bytes, options);
     let events = with_room(alloc, bytes)?;
-    let spare = with_room(alloc, bytes)?;
-    tokenizer.set_events(events, spare);
+    tokenizer.set_events(events);
     Ok(tokenizer)
 }
 
-/// Joins the lines of each leaf of several, where one may be on.
+/// Joins the lines of each leaf of several, where one may be on. It is known of the first `many` events that they pass as
+/// they are. Returns whether there may be an underline of a heading among the events.
 ///
 /// An `Err` says that memory ran out.
-fn join_lines(tokenizer: &mut Tokenizer, options: &ParseOptions) -> Result<(), Message>
-    requires { (world tokenizer.old).frames ≡ [] }
-    ensures { OnOk result
+fn join_lines(
+    tokenizer: &mut Tokenizer,
+    options: &ParseOptions,
+    many: usize,
+) -> Result<bool, Message>
+    requires frames { (world tokenizer.old).frames ≡ [] }
+    requires many { many ≤ prefix_len (passes_on Place.Outside) (world tokenizer.old).events }
+    ensures world { OnOk result
         (world tokenizer.new ≡
         record (world tokenizer.old) { events = lines_joined options.now (world tokenizer.old).events }) }
+    ensures underlines { IfOk result
+        (λ underlines.
+        underlines ≡ false → HoldNoUnderline (lines_joined options.now (world tokenizer.old).events)) }
 {
     if choices::joins_lines(options) {
-        spans::resolve(tokenizer)?;
+        let underlines = spans::join_all(tokenizer, many)?;
+        return Ok(underlines);
     }
-    Ok(())
+    Ok(true)
 }
 
-/// The resolvers that run in one pass once all content is read.
-const RESOLVERS: [ResolveName; 4] = [
-    ResolveName::ListItem,
-    ResolveName::HeadingAtx,
-    ResolveName::HeadingSetext,
-    ResolveName::GfmTable,
-];
-
-/// All of them.
+/// All four resolvers.
 const ALL: Wanted = Wanted {
     items: true,
     atx: true,
@@ -196,7 +198,7 @@ impl Test for StaysAlone {
     }
 }
 
-/// How many events stand in front of the first that may not stay as it is.
+/// How many events are in front of the first that may not stay as it is.
 fn until_changed(events: &[Event]) -> usize
     ensures value { result ≡ prefix_len stays_alone events.now }
     ensures within { result ≤ length events.now }
@@ -204,25 +206,26 @@ fn until_changed(events: &[Event]) -> usize
     passing(&StaysAlone, events)
 }
 
-/// Joins the lines of each leaf of several, and runs the resolvers of items, headings and tables. Where none of these
-/// stands, one test of each event shows that nothing changes.
+/// Joins the lines of each leaf of several, and runs the resolvers of items, headings and tables. Where there is
+/// none of these, one test of each event shows that nothing changes.
 ///
 /// An `Err` says that memory ran out.
 fn resolve_blocks(tokenizer: &mut Tokenizer, options: &ParseOptions) -> Result<(), Message>
     requires frames { (world tokenizer.old).frames ≡ [] }
-    requires may { MayPass all_wanted (lines_joined options.now (world tokenizer.old).events) }
+    requires may { MayPass every (lines_joined options.now (world tokenizer.old).events) }
     ensures { OnOk result
         (world tokenizer.new ≡
         record (world tokenizer.old) {
-          events = in_order all_wanted (world tokenizer.old).setting.bytes
+          events = in_order every (world tokenizer.old).setting.bytes
               (lines_joined options.now (world tokenizer.old).events);
         }) }
 {
-    if until_changed(&tokenizer.events) == tokenizer.events.len() {
+    let many = until_changed(&tokenizer.events);
+    if many == tokenizer.events.len() {
         return Ok(());
     }
-    join_lines(tokenizer, options)?;
-    pass(tokenizer, &RESOLVERS)?;
+    let underlines = join_lines(tokenizer, options, many)?;
+    pass_all(tokenizer, underlines)?;
     Ok(())
 }
 
@@ -302,7 +305,7 @@ pub fn parse_with<'a, I: Inline>(
 {
     let bytes = value.as_bytes();
     let front = read_front(alloc, bytes, options)?;
-    let (mut tokenizer, found) = read_flow(alloc, bytes, options, front.point)?;
+    let (tokenizer, found) = read_flow(alloc, bytes, options, front.point)?;
     let footnotes = footnotes_of(alloc, bytes, options, &tokenizer.events)?;
     let state = ParseState {
         options,
@@ -314,8 +317,7 @@ pub fn parse_with<'a, I: Inline>(
         inline,
         state: &state,
     };
-    let spare = tokenizer.take_spare();
-    let body = subtokenize(alloc, &reader, &tokenizer.events, spare)?;
+    let body = subtokenize(alloc, &reader, tokenizer.events)?;
     let events = behind_front(front.events, body)?;
     Ok((events, state))
 }

@@ -56,7 +56,7 @@ use md_link_definitions::{definition, destination, label, space_or_tab_eol, titl
 use md_seam::inline::Chunk;
 use md_seam::moving::move_down;
 use md_seam::space_or_tab;
-use md_seam::subtokenize::{Reader, is_prefix, subtokenize_list};
+use md_seam::subtokenize::{Reader, is_prefix, subtokenize};
 use md_seam::walks::{Test, passing};
 use std::alloc::Global;
 use std::mem;
@@ -297,7 +297,7 @@ impl ContentReader<'_> {
         let mut tokenizer = Tokenizer::new(alloc, chunks[0].first, self.bytes, self.options);
         events.clear();
         let list = mem::replace(events, Vec::new(alloc));
-        tokenizer.set_events(list, Vec::new(alloc));
+        tokenizer.set_events(list);
         for chunk in chunks {
             tokenizer.define_skip(chunk.first)?;
         }
@@ -503,11 +503,10 @@ pub fn resolve(tokenizer: &mut Tokenizer) -> Result<Option<Subresult>, Message>
     };
     let mut events = tokenizer.take_events();
     join(&mut events);
-    let spare = tokenizer.take_spare();
-    let (read, spare) = subtokenize_list(alloc, &reader, events, spare)?;
+    let read = subtokenize(alloc, &reader, events)?;
     let done = is_done(&read);
     let definitions = labels(alloc, tokenizer.bytes, &read)?;
-    tokenizer.set_events(read, spare);
+    tokenizer.set_events(read);
     Ok(Some(Subresult {
         done,
         gfm_footnote_definitions: Vec::new(alloc),

@@ -133,8 +133,6 @@ pub struct Tokenizer<'a> {
     /// What stands at the point: a byte, `\n` for each line ending, or nothing at the end.
     pub current: Option<u8>,
     pub events: Vec<Event>,
-    /// A list for the next walk over all events to write to; what stands there means nothing.
-    pub spare: Vec<Event>,
     pub frames: Vec<Frame>,
     pub scratch: Scratch,
     pub flags: Flags,
@@ -305,7 +303,6 @@ impl<'a> Tokenizer<'a> {
             point,
             current: None,
             events: Vec::new(alloc),
-            spare: Vec::new(alloc),
             frames: Vec::new(alloc),
             scratch: Scratch::REST,
             flags: Flags {
@@ -765,24 +762,13 @@ impl<'a> Tokenizer<'a> {
         mem::replace(&mut self.events, Vec::new(self.alloc))
     }
 
-    /// Takes the spare list, emptied, for a walk to write to.
-    pub fn take_spare(&mut self) -> Vec<Event>
-        ensures empty { result.items ≡ [] }
-        ensures same { world self.new ≡ world self.old }
-    {
-        let mut spare = mem::replace(&mut self.spare, Vec::new(self.alloc));
-        spare.clear();
-        spare
-    }
-
-    /// Sets the events that a walk has given, and keeps another list as the spare one for the next walk.
-    pub fn set_events(&mut self, events: Vec<Event>, spare: Vec<Event>)
+    /// Sets the events that a walk has given.
+    pub fn set_events(&mut self, events: Vec<Event>)
         requires frames { (world self.old).frames ≡ [] }
         requires placed { All (λ e. IsPlaced (world self.old).setting.bytes e.point) events.items }
         ensures { world self.new ≡ record (world self.old) { events = events.items } }
     {
         self.events = events;
-        self.spare = spare;
     }
 
     /// Takes the resolvers that were registered.

@@ -19,7 +19,6 @@ pub mod BomMeaning
 pub mod NonLazyTermination
 pub mod NonLazyMeaning
 pub mod HeadingsPlaced
-pub mod RewrittenLemmas
 pub mod SpannedLemmas
 pub mod SpannedLines
 pub mod TitleRuns

@@ -10,7 +10,7 @@ use Rattle.md_engine.specs.declared.event.Name.{Name}
 use Rattle.md_engine.specs.declared.event.Name.TheVariants as n
 use Rattle.md_engine.specs.declared.event.Point.{Point}
 use Rattle.md_engine.specs.Place.{IsPlaced}
-use Rattle.md_leaves.specs.Turned.{BeginsText, EndsText, EndsUnderline, Stays, Turn, given, given_by, has_underline}
+use Rattle.md_leaves.specs.Turned.{BeginsText, HoldNoUnderline, EndsText, EndsUnderline, Stays, Turn, given, given_by, has_underline}
 use Rattle.md_leaves.specs.Turned.{is_no_underline, is_paragraph, is_turned, is_underline, on_after, on_by, passes}
 use Rattle.md_leaves.specs.Turned.{turn, turn_by, turned, turned_from, underline_behind}
 use Rattle.md_leaves.proofs.SpannedLemmas.{AtPoint, one-point}
@@ -57,12 +57,8 @@ passes-given on e es h =
 
 -- Events of which none is of an underline.
 
-abbrev pub NoUnderlines : List Event → Type 0
-NoUnderlines [] = Unit {0}
-NoUnderlines (e ∷ es) = (is_underline e.name ≡ false) × NoUnderlines es
-
 -- none stands behind prefixes,
-none-behind : (es : List Event) → NoUnderlines es → underline_behind es ≡ false
+none-behind : (es : List Event) → HoldNoUnderline es → underline_behind es ≡ false
 none-behind [] h = refl
 none-behind (e ∷ es) h = rw h.0 (go (is_prefix e.name) (is_enter e.kind) (none-behind es h.1))
   where
@@ -72,7 +68,7 @@ none-behind (e ∷ es) h = rw h.0 (go (is_prefix e.name) (is_enter e.kind) (none
     go false false k = refl
 
 -- nor behind the end of a paragraph,
-none-has : (es : List Event) → NoUnderlines es → has_underline es ≡ false
+none-has : (es : List Event) → HoldNoUnderline es → has_underline es ≡ false
 none-has [] h = refl
 none-has (e ∷ []) h = refl
 none-has (e ∷ f ∷ es) h = rw (none-behind es h.1.1) (go (is_line_ending e.name))
@@ -82,7 +78,7 @@ none-has (e ∷ f ∷ es) h = rw (none-behind es h.1.1) (go (is_line_ending e.na
     go false = refl
 
 -- nor behind the next paragraph
-none-turned : (es : List Event) → NoUnderlines es → is_turned es ≡ false
+none-turned : (es : List Event) → HoldNoUnderline es → is_turned es ≡ false
 none-turned [] h = refl
 none-turned (e ∷ es) h = go (is_exit e.kind && is_paragraph e.name) (none-turned es h.1)
   where
@@ -91,7 +87,7 @@ none-turned (e ∷ es) h = go (is_exit e.kind && is_paragraph e.name) (none-turn
     go false k = k
 
 -- so they stay as they are
-pub no_underlines-turned : (es : List Event) → NoUnderlines es → turned es ≡ es
+pub no_underlines-turned : (es : List Event) → HoldNoUnderline es → turned es ≡ es
 no_underlines-turned [] h = refl
 no_underlines-turned (e ∷ es) h =
     by-turn false e es (turn e) refl
@@ -106,12 +102,12 @@ no_underlines-turned (e ∷ es) h =
     go Stays = refl
 
 -- whether they are so, by a count
-counted-none : (es : List Event) → prefix_len is_no_underline es ≡ length es → NoUnderlines es
+counted-none : (es : List Event) → prefix_len is_no_underline es ≡ length es → HoldNoUnderline es
 counted-none [] all = tt
 counted-none (e ∷ es) all = go (is_underline e.name) refl (λ rest. counted-none es rest) all
   where
-    go : (x : Bool) → is_underline e.name ≡ x → (prefix_len is_no_underline es ≡ length es → NoUnderlines es) →
-        cond (not x) (1 + prefix_len is_no_underline es) 0 ≡ length (e ∷ es) → NoUnderlines (e ∷ es)
+    go : (x : Bool) → is_underline e.name ≡ x → (prefix_len is_no_underline es ≡ length es → HoldNoUnderline es) →
+        cond (not x) (1 + prefix_len is_no_underline es) 0 ≡ length (e ∷ es) → HoldNoUnderline (e ∷ es)
     go true here more all = absurd (let no : 0 ≡ length (e ∷ es) = all in cc)
     go false here more all = (here, more (omega (arith, all)))
 

@@ -10,7 +10,6 @@ pub mod HeadingSetextRule
 pub mod Turned
 pub mod LeafStart
 pub mod MarkRuns
-pub mod Rewritten
 pub mod Spanned
 pub mod SpannedWalk
 pub mod NonLazy

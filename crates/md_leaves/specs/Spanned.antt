@@ -17,6 +17,7 @@ use Rattle.md_engine.specs.declared.event.Name.{Name}
 use Rattle.md_engine.specs.declared.event.Name.TheVariants as n
 use Rattle.md_leaves.specs.declared.spans.Place.{Place}
 use Rattle.md_leaves.specs.declared.spans.Place.TheVariants.{Between, Inside, Outside}
+use Rattle.md_leaves.specs.Turned.{is_no_underline}
 use Rattle.md_seam.specs.Events.Blocks.{is_block}
 use Rattle.md_seam.specs.Events.Nested.{is_enter}
 use Rattle.md_seam.specs.Events.Spelled.{OfCode, OfFence, OfHtml, OfMath, OfTable, LeafRole, Role, role}
@@ -117,6 +118,10 @@ place_after place e es = place_by (turn e) place (goes_on es)
 -- whether an event passes a place as it is
 abbrev pub passes : Place → Event → Bool
 passes place e = not (has_lines (role e.name)) && not (is_renamed place e.name)
+
+-- whether it does, and is of no underline
+abbrev pub passes_on : Place → Event → Bool
+passes_on place e = passes place e && is_no_underline e
 
 -- what is given for the events from a place on
 abbrev pub spanned_from : Place → List Event → List Event

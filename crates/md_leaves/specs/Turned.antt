@@ -3,7 +3,7 @@
 -- At first the text of such a heading stands as a paragraph, and its underline behind the ending of that and the
 -- prefixes of containers. Where an underline follows a paragraph so, both are one heading: the paragraph is its text,
 -- and the heading ends with the underline.
-use Rattle.std.specs.Prelude.{Bool, true, false, ◌&&◌, not, if◌then◌else◌, List, [], ◌∷◌, ◌++◌}
+use Rattle.std.specs.Prelude.{◌≡◌, Bool, true, false, ◌&&◌, not, if◌then◌else◌, List, [], ◌∷◌, ◌++◌}
 use Rattle.md_engine.specs.declared.event.Event.{Event}
 use Rattle.md_engine.specs.declared.event.Kind.{Kind}
 use Rattle.md_engine.specs.declared.event.Kind.TheVariants.{Enter, Exit}
@@ -96,3 +96,8 @@ turned_from on (e ∷ es) = given on e es ++ turned_from (on_after on e es) es
 -- the events, with each paragraph that has an underline and that underline as a heading
 abbrev pub turned : List Event → List Event
 turned events = turned_from false events
+
+-- whether no event of some is of an underline
+abbrev pub HoldNoUnderline : List Event → Type 0
+HoldNoUnderline [] = Unit {0}
+HoldNoUnderline (e ∷ es) = (is_underline e.name ≡ false) × HoldNoUnderline es

@@ -8,6 +8,5 @@ pub mod heading_setext;
 mod leaf_start;
 pub mod partial_bom;
 pub mod partial_non_lazy_continuation;
-mod rewriting;
 pub mod spans;
 pub mod thematic_break;

@@ -1,28 +1,30 @@
 // Leaf blocks of several lines, whose lines are joined in one walk over the events.
 //
-// At first each line stands as a block by itself. The walk looks at each event as it passes it, and else at most once
+// At first each line is a block by itself. The walk looks at each event as it passes it, and else at most once
 // from an end of a block in front of it that asks for the next one. So it is linear. It only leaves out events and
 // renames some, so the events are moved down in their own list.
 
-ghost use Rattle.std.specs.Prelude.{◌≡◌, ℕ, ◌≤◌, ◌<◌, ◌++◌, ◌∷◌, [], IfOk, List, None, OnOk, drop};
+ghost use Rattle.std.specs.Prelude.{◌≡◌, ℕ, ◌≤◌, ◌<◌, ◌++◌, ◌∷◌, ◌||◌, [], IfOk, List, None, OnOk, drop};
 ghost use Rattle.std.specs.Prelude.{false, length, take, true};
 ghost use Rattle.std.specs.List.{prefix_len};
 ghost use Rattle.std.specs.Option.{option_map};
 ghost use Rattle.md_engine.specs.Found.{found_in};
 ghost use Rattle.md_engine.specs.World.{world};
-ghost use Rattle.md_leaves.specs.Rewritten.{IsFirst, held_of};
+ghost use Rattle.md_seam.specs.Rewritten.{IsFirst, held_of};
 ghost use Rattle.md_leaves.specs.Spanned.{Ends, begins_further, given, given_by, goes_on, has_lines, is_blank_ending};
-ghost use Rattle.md_leaves.specs.Spanned.{is_code_line, is_renamed, links_back, passes, place_after, place_by};
+ghost use Rattle.md_leaves.specs.Spanned.{is_code_line, is_renamed, links_back, passes, passes_on, place_after};
+ghost use Rattle.md_leaves.specs.Spanned.{place_by};
+ghost use Rattle.md_leaves.specs.Turned.{HoldNoUnderline, is_underline};
 ghost use Rattle.md_leaves.specs.Spanned.{renamed, spanned, turn_by};
 ghost use Rattle.md_seam.specs.Events.Spelled.{role};
 ghost use Rattle.md_seam.specs.Parts.{ArePlaced};
 
-use crate::rewriting::Rewriting;
 use md_engine::event::{Event, Kind, Link, Name};
 use md_engine::message::Message;
 use md_engine::subtokenize::Subresult;
 use md_engine::tokenizer::Tokenizer;
 use md_seam::names::is_block;
+use md_seam::rewriting::Rewriting;
 use md_seam::walks::{Test, passing};
 
 /// Whether these events are of a leaf block of several lines.
@@ -34,6 +36,14 @@ fn has_lines(name: Name) -> bool
         name,
         Name::CodeIndented | Name::CodeFenced | Name::MathFlow | Name::HtmlFlow | Name::GfmTable
     )
+}
+
+/// Whether these events are of an underline.
+#[inline(always)]
+fn is_underline(name: Name) -> bool
+    ensures { result ≡ is_underline name }
+{
+    matches!(name, Name::HeadingSetextUnderline)
 }
 
 /// Whether these events are of a line of code.
@@ -84,7 +94,7 @@ fn goes_on(events: &[Event]) -> bool
     false
 }
 
-/// Where a walk over the events stands.
+/// Where a walk over the events is.
 #[derive(Clone, Copy)]
 pub enum Place {
     /// Neither in a block of several lines nor between two lines of one.
@@ -95,7 +105,7 @@ pub enum Place {
     Between,
 }
 
-/// Whether a part that stands at a place gets another name.
+/// Whether a part at a place gets another name.
 #[inline(always)]
 fn is_renamed(place: Place, name: Name) -> bool
     ensures { result ≡ is_renamed place name }
@@ -115,24 +125,32 @@ pub fn passes(place: Place, event: &Event) -> bool
     !has_lines(event.name) && !is_renamed(place, event.name)
 }
 
-/// Whether an event passes a place as it is.
+/// Whether an event passes a place as it is, and is of no underline.
+#[inline(always)]
+pub fn passes_on(place: Place, event: &Event) -> bool
+    ensures { result ≡ passes_on place event.now }
+{
+    passes(place, event) && !is_underline(event.name)
+}
+
+/// Whether an event passes a place as it is, and is of no underline.
 #[derive(Drop)]
 struct PassesAt {
     place: Place,
 }
 
 impl Test for PassesAt {
-    ghost passes = { λ test. passes test.place };
+    ghost passes = { λ test. passes_on test.place };
 
     #[inline(always)]
     fn passes(&self, event: &Event) -> bool {
-        passes(self.place, event)
+        passes_on(self.place, event)
     }
 }
 
-/// How many events stand in front of the first that does not pass a place as it is.
+/// How many events are in front of the first that does not pass a place as it is, or is of an underline.
 fn until_other(place: Place, events: &[Event]) -> usize
-    ensures value { result ≡ prefix_len (passes place) events.now }
+    ensures value { result ≡ prefix_len (passes_on place) events.now }
     ensures within { result ≤ length events.now }
 {
     match place {
@@ -164,6 +182,8 @@ struct Walk {
     /// are left.
     all: Rewriting,
     place: Place,
+    /// Whether there was an underline.
+    underlines: bool,
 }
 
 impl Walk {
@@ -175,22 +195,23 @@ impl Walk {
         ensures given { given_of self.new ≡ given_of self.old ++ event ∷ [] }
         ensures rest { rest_of self.new ≡ drop 1 (rest_of self.old) }
         ensures place { self.new.place ≡ self.old.place }
+        ensures underlines { self.new.underlines ≡ self.old.underlines }
     {
         self.all.hold(event);
     }
 
     /// Leaves out the event that is left first.
-    fn leave_out(&mut self, event: Event) -> Result<(), Message>
+    fn leave_out(&mut self, event: Event)
         requires { IsFirst event (rest_of self.old) }
-        ensures given { OnOk result (given_of self.new ≡ given_of self.old) }
-        ensures rest { OnOk result (rest_of self.new ≡ drop 1 (rest_of self.old)) }
-        ensures held { OnOk result (held_of self.new.all ≡ []) }
+        ensures given { given_of self.new ≡ given_of self.old }
+        ensures rest { rest_of self.new ≡ drop 1 (rest_of self.old) }
+        ensures held { held_of self.new.all ≡ [] }
         ensures place { self.new.place ≡ self.old.place }
+        ensures underlines { self.new.underlines ≡ self.old.underlines }
     {
-        self.all.give()?;
+        self.all.give();
         self.all.hold(event);
         self.all.leave_out(1);
-        Ok(())
     }
 
     /// Gives the event that is left first by another name.
@@ -199,8 +220,9 @@ impl Walk {
         ensures given { OnOk result (given_of self.new ≡ given_of self.old ++ record event { name = name } ∷ []) }
         ensures rest { OnOk result (rest_of self.new ≡ drop 1 (rest_of self.old)) }
         ensures place { self.new.place ≡ self.old.place }
+        ensures underlines { self.new.underlines ≡ self.old.underlines }
     {
-        self.leave_out(event)?;
+        self.leave_out(event);
         self.all.push(Event { name, ..event })
     }
 
@@ -209,6 +231,7 @@ impl Walk {
         ensures given { given_of self.new ≡ given_of self.old ++ take (passing self.old) (rest_of self.old) }
         ensures rest { rest_of self.new ≡ drop (passing self.old) (rest_of self.old) }
         ensures place { self.new.place ≡ self.old.place }
+        ensures underlines { self.new.underlines ≡ self.old.underlines }
     {
         let many = until_other(self.place, self.all.left());
         self.all.hold_many(many);
@@ -222,12 +245,13 @@ impl Walk {
         goes_on(&self.all.left()[1..])
     }
 
-    /// Goes on with an event that no line begins or ends with.
+    /// Gives an event that no line begins or ends with.
     fn stay(&mut self, event: Event) -> Result<(), Message>
         requires { IsFirst event (rest_of self.old) }
         ensures given { OnOk result (given_of self.new ≡ given_of self.old ++ renamed self.old.place event ∷ []) }
         ensures rest { OnOk result (rest_of self.new ≡ drop 1 (rest_of self.old)) }
         ensures place { self.new.place ≡ self.old.place }
+        ensures underlines { self.new.underlines ≡ self.old.underlines }
     {
         match self.place {
             Place::Outside if is_code_line(event.name) => self.rename(event, Name::SpaceOrTab),
@@ -239,44 +263,42 @@ impl Walk {
         }
     }
 
-    /// Goes on with the begin of a line.
-    fn begin(&mut self, event: Event) -> Result<(), Message>
+    /// Gives the begin of a line.
+    fn begin(&mut self, event: Event)
         requires { IsFirst event (rest_of self.old) }
-        ensures given { OnOk result
-            (given_of self.new ≡
+        ensures given { given_of self.new ≡
             given_of self.old
-            ++ given_by (turn_by Kind.Enter true (links_back event.link)) self.old.place false event) }
-        ensures rest { OnOk result (rest_of self.new ≡ drop 1 (rest_of self.old)) }
-        ensures place { OnOk result (self.new.place ≡ Place.Inside) }
+            ++ given_by (turn_by Kind.Enter true (links_back event.link)) self.old.place false event }
+        ensures rest { rest_of self.new ≡ drop 1 (rest_of self.old) }
+        ensures place { self.new.place ≡ Place.Inside }
+        ensures underlines { self.new.underlines ≡ self.old.underlines }
     {
         if links_back(event.link) && matches!(self.place, Place::Between) {
-            self.leave_out(event)?;
+            self.leave_out(event);
         } else {
             self.keep(event);
         }
         self.place = Place::Inside;
-        Ok(())
     }
 
-    /// Goes on with the end of a line.
-    fn end(&mut self, event: Event, further: bool) -> Result<(), Message>
+    /// Gives the end of a line.
+    fn end(&mut self, event: Event, further: bool)
         requires { IsFirst event (rest_of self.old) }
-        ensures given { OnOk result
-            (given_of self.new ≡ given_of self.old ++ given_by Ends self.old.place further event) }
-        ensures rest { OnOk result (rest_of self.new ≡ drop 1 (rest_of self.old)) }
-        ensures place { OnOk result (self.new.place ≡ place_by Ends self.old.place further) }
+        ensures given { given_of self.new ≡ given_of self.old ++ given_by Ends self.old.place further event }
+        ensures rest { rest_of self.new ≡ drop 1 (rest_of self.old) }
+        ensures place { self.new.place ≡ place_by Ends self.old.place further }
+        ensures underlines { self.new.underlines ≡ self.old.underlines }
     {
         if further {
-            self.leave_out(event)?;
+            self.leave_out(event);
             self.place = Place::Between;
         } else {
             self.keep(event);
             self.place = Place::Outside;
         }
-        Ok(())
     }
 
-    /// Goes on with the event that is left first.
+    /// Gives the event that is left first.
     fn step(&mut self, event: Event) -> Result<(), Message>
         requires { IsFirst event (rest_of self.old) }
         ensures given { OnOk result
@@ -284,40 +306,83 @@ impl Walk {
         ensures rest { OnOk result (rest_of self.new ≡ drop 1 (rest_of self.old)) }
         ensures place { OnOk result
             (self.new.place ≡ place_after self.old.place event (drop 1 (rest_of self.old))) }
+        ensures underlines { OnOk result
+            (self.new.underlines ≡ (self.old.underlines || is_underline event.name)) }
     {
+        self.underlines = self.underlines || is_underline(event.name);
         if !has_lines(event.name) {
             return self.stay(event);
         }
         if matches!(event.kind, Kind::Enter) {
-            self.begin(event)
+            self.begin(event);
         } else {
-            self.end(event, self.goes_on_behind())
+            self.end(event, self.goes_on_behind());
         }
+        Ok(())
     }
 }
 
-/// The events with the lines of each block joined, in the list of the events. `spare` is handed back empty.
-pub fn join(events: Vec<Event>, spare: Vec<Event>) -> Result<(Vec<Event>, Vec<Event>), Message>
-    requires { spare.items ≡ [] }
-    ensures events { IfOk result (λ lists. lists.0.items ≡ spanned events.items) }
+/// Events whose lines are joined.
+#[derive(Drop)]
+pub struct Joined {
+    pub events: Vec<Event>,
+    /// Whether there may be an underline of a heading among them.
+    pub underlines: bool,
+}
+
+/// The events with the lines of each block joined, in the list of the events. It is known of the first `many` that they
+/// pass as they are.
+pub fn join(events: Vec<Event>, many: usize) -> Result<Joined, Message>
+    requires { many ≤ prefix_len (passes_on Place.Outside) events.items }
+    ensures events { IfOk result (λ joined. joined.events.items ≡ spanned events.items) }
     ensures placed { IfOk result
-        (λ lists. (text : List ℕ) → ArePlaced text events.items → ArePlaced text lists.0.items) }
+        (λ joined. (text : List ℕ) → ArePlaced text events.items → ArePlaced text joined.events.items) }
+    ensures underlines { IfOk result
+        (λ joined. joined.underlines ≡ false → HoldNoUnderline joined.events.items) }
 {
     let mut walk = Walk {
-        all: Rewriting::new(events, spare),
+        all: Rewriting::new(events),
         place: Place::Outside,
+        underlines: false,
     };
+    walk.all.hold_many(many);
     walk.pass();
     while let Some(event) = walk.all.first() {
         walk.step(event)?;
         walk.pass();
     }
-    let Walk { mut all, .. } = walk;
-    all.give()?;
-    all.finish()
+    let Walk {
+        mut all,
+        underlines,
+        ..
+    } = walk;
+    all.give();
+    Ok(Joined {
+        events: all.finish(),
+        underlines,
+    })
 }
 
-/// Joins the lines of each block of several lines. Where no event of such a block stands nothing is copied.
+/// Joins the lines of each block of several lines, where it is known of the first `many` events that they pass as they
+/// are. Returns whether there may be an underline of a heading among the events.
+///
+/// After an `Err` the parse has failed, and the tokenizer is only dropped.
+pub fn join_all(tokenizer: &mut Tokenizer, many: usize) -> Result<bool, Message>
+    requires frames { (world tokenizer.old).frames ≡ [] }
+    requires many { many ≤ prefix_len (passes_on Place.Outside) (world tokenizer.old).events }
+    ensures world { OnOk result
+        (world tokenizer.new ≡
+        record (world tokenizer.old) { events = spanned (world tokenizer.old).events }) }
+    ensures underlines { IfOk result
+        (λ underlines. underlines ≡ false → HoldNoUnderline (spanned (world tokenizer.old).events)) }
+{
+    let events = tokenizer.take_events();
+    let joined = join(events, many)?;
+    tokenizer.set_events(joined.events);
+    Ok(joined.underlines)
+}
+
+/// Joins the lines of each block of several lines.
 ///
 /// After an `Err` the parse has failed, and the tokenizer is only dropped.
 pub fn resolve(tokenizer: &mut Tokenizer) -> Result<Option<Subresult>, Message>
@@ -328,12 +393,6 @@ pub fn resolve(tokenizer: &mut Tokenizer) -> Result<Option<Subresult>, Message>
         record (world tokenizer.old) { events = spanned (world tokenizer.old).events }) }
     ensures found { IfOk result (λ found. option_map found_in found ≡ None) }
 {
-    if until_other(Place::Outside, &tokenizer.events) == tokenizer.events.len() {
-        return Ok(None);
-    }
-    let events = tokenizer.take_events();
-    let spare = tokenizer.take_spare();
-    let (joined, spare) = join(events, spare)?;
-    tokenizer.set_events(joined, spare);
+    join_all(tokenizer, 0)?;
     Ok(None)
 }

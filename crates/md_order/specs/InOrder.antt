@@ -26,6 +26,10 @@ wanted_from w (name ∷ names) = wanted_from (with_name name w) names
 abbrev pub wanted_of : List ResolveName → Wanted
 wanted_of names = wanted_from (record { items = false; atx = false; setext = false; tables = false }) names
 
+-- all four
+abbrev pub every : Wanted
+every = record { items = true; atx = true; setext = true; tables = true }
+
 -- a function, if it is wanted
 abbrev pub set_if : Bool → (List Event → List Event) → List Event → List Event
 set_if true f es = f es

@@ -20,11 +20,11 @@ use Rattle.md_order.proofs.Stay.{heading-on, quiet-begin, quiet-inside, stay-dro
 use Rattle.md_seam.specs.Events.Nested.{is_enter, is_exit}
 use Rattle.md_seam.specs.Events.Tiles.{is_data}
 use Rattle.md_resolve.specs.HeadingWalk.{given_of as given_at, place_of}
-use Rattle.md_resolve.specs.Rewritten.{IsFirst, held_of, left_of, written_of}
+use Rattle.md_seam.specs.Rewritten.{IsFirst, held_of, left_of, written_of}
 use Rattle.md_resolve.specs.declared.heading_text.Stage.{Stage}
 use Rattle.md_resolve.specs.declared.heading_text.Stage.TheVariants as stage
 use Rattle.md_resolve.specs.declared.heading_text.Text.{Text}
-use Rattle.md_resolve.specs.declared.rewriting.Rewriting.{Rewriting}
+use Rattle.md_seam.specs.declared.rewriting.Rewriting.{Rewriting}
 use Rattle.md_resolve.proofs.PassLaws.{IsOut, Now, at, given_of, head-out, head_of, rest_of, whole-of, whole_of}
 
 abbrev pub walked : Now → Walked

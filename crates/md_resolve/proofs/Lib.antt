@@ -2,6 +2,5 @@ pub mod HeadLaws
 pub mod HeldText
 pub mod NoUnderline
 pub mod PassLaws
-pub mod RewrittenLemmas
 pub mod Same
 pub mod Unset

@@ -10,8 +10,8 @@ use Rattle.md_containers.specs.Listed.{Begins, Ends, Place as ListPlace, Stays, 
 use Rattle.md_containers.specs.Listed.{listed, listed_from, marker_ahead, next_item, outside, place_after, turn}
 use Rattle.md_leaves.specs.HeadingText.{Before, Opened, Outside, Place, Within, begins, ends, headings_resolved, is_heading, is_run}
 use Rattle.md_leaves.specs.HeadingText.{is_sequence, resolved, text_between}
-use Rattle.md_leaves.specs.Turned.{is_no_underline, is_underline, turned}
-use Rattle.md_leaves.proofs.TurnedLemmas.{NoUnderlines, no_underlines-turned}
+use Rattle.md_leaves.specs.Turned.{HoldNoUnderline, is_underline, turned}
+use Rattle.md_leaves.proofs.TurnedLemmas.{no_underlines-turned}
 use Rattle.md_order.specs.Alone.{MayPass, is_one}
 use Rattle.md_order.specs.InOrder.{in_order, set_if}
 use Rattle.md_order.specs.declared.wanted.Wanted.{Wanted}
@@ -22,23 +22,11 @@ use Rattle.md_tables.specs.Tabled.{tabled}
 
 -- events of no underline
 abbrev Plain : List Event → Type 0
-Plain es = NoUnderlines es
+Plain es = HoldNoUnderline es
 
 plain-append : (xs ys : List Event) → Plain xs → Plain ys → Plain (xs ++ ys)
 plain-append [] ys h k = k
 plain-append (e ∷ xs) ys h k = (h.0, plain-append xs ys h.1 k)
-
-plain-of : (es : List Event) → prefix_len is_no_underline es ≡ length es → Plain es
-plain-of [] h = tt
-plain-of (e ∷ es) h = go (is_underline e.name) refl (plain-of es)
-  where
-    go : (x : Bool) → is_underline e.name ≡ x → (prefix_len is_no_underline es ≡ length es → Plain es) → Plain (e ∷ es)
-    go true is more =
-        let front : prefix_len is_no_underline (e ∷ es) ≡ 0 = rw is refl in
-        let bad : suc (length es) ≡ 0 = sym h ∙ front in absurd (cc)
-    go false is more =
-        let front : prefix_len is_no_underline (e ∷ es) ≡ 1 + prefix_len is_no_underline es = rw is refl in
-        (is, more (omega (arith, h, front)))
 
 -- Lists are none.
 
@@ -143,7 +131,7 @@ if-plain false f keeps es h = h
 abbrev pub without_setext : Wanted → Wanted
 without_setext w = record w { setext = false }
 
-pub setext-none : (w : Wanted) (bytes : List ℕ) (es : List Event) → prefix_len is_no_underline es ≡ length es →
+pub setext-none : (w : Wanted) (bytes : List ℕ) (es : List Event) → HoldNoUnderline es →
     in_order (without_setext w) bytes es ≡ in_order w bytes es
 setext-none w bytes es h = go w.setext
   where
@@ -153,7 +141,7 @@ setext-none w bytes es h = go w.setext
     plain : Plain X
     plain =
         if-plain w.atx headings_resolved (λ l k. resolved-plain l Outside tt k) (set_if w.items (listed bytes) es)
-        (if-plain w.items (listed bytes) (λ l k. listed-plain bytes l outside k) es (plain-of es h))
+        (if-plain w.items (listed bytes) (λ l k. listed-plain bytes l outside k) es h)
 
     go : (x : Bool) → set_if w.tables tabled X ≡ set_if w.tables tabled (set_if x turned X)
     go true = ap (set_if w.tables tabled) (sym (no_underlines-turned X plain))

@@ -25,12 +25,12 @@ use Rattle.md_tables.specs.Heads.{is_table}
 use Rattle.md_tables.specs.Tabled.{begins_table, bound_by, bound_of, tabled}
 use Rattle.md_resolve.specs.HeadingWalk.{given_of as given_at, place_of}
 use Rattle.md_resolve.specs.PassWalk as walk
-use Rattle.md_resolve.specs.Rewritten.{IsFirst, held_of, left_of, written_of}
+use Rattle.md_seam.specs.Rewritten.{IsFirst, held_of, left_of, written_of}
 use Rattle.md_resolve.specs.declared.heading_text.Stage.{Stage}
 use Rattle.md_resolve.specs.declared.heading_text.Stage.TheVariants as stage
 use Rattle.md_resolve.specs.declared.heading_text.Text.{Text}
 use Rattle.md_resolve.specs.declared.pass.Walk.{Walk}
-use Rattle.md_resolve.specs.declared.rewriting.Rewriting.{Rewriting}
+use Rattle.md_seam.specs.declared.rewriting.Rewriting.{Rewriting}
 
 abbrev pub at : ListPlace → HeadPlace → Bool → Standing
 at p h o = record { items = p; head = h; on = o }

@@ -43,7 +43,7 @@ none-second a false c d h = refl
 none-second false true c d h = let bad : false ≡ true = h in absurd (cc)
 none-second true true c d h = let bad : false ≡ true = h in absurd (cc)
 
-none-third : (a b c d : Bool) → not (a || b || c || d) ≡ true → c ≡ false
+pub none-third : (a b c d : Bool) → not (a || b || c || d) ≡ true → c ≡ false
 none-third a b false d h = refl
 none-third false false true d h = let bad : false ≡ true = h in absurd (cc)
 none-third true b true d h = let bad : false ≡ true = h in absurd (cc)

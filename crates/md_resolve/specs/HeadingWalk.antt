@@ -7,7 +7,7 @@ use Rattle.md_resolve.specs.declared.heading_text.Stage.{Stage}
 use Rattle.md_resolve.specs.declared.heading_text.Stage.TheVariants as stage
 use Rattle.md_resolve.specs.declared.heading_text.Text.{Text}
 use Rattle.md_resolve.specs.declared.heading_text.Walk.{Walk}
-use Rattle.md_resolve.specs.Rewritten.{held_of, written_of}
+use Rattle.md_seam.specs.Rewritten.{held_of, written_of}
 
 abbrev pub place_of : Stage → Text → List Event → Place
 place_of stage.Outside text held = Outside

@@ -1,4 +1,3 @@
 pub mod Counted
 pub mod HeadingWalk
 pub mod PassWalk
-pub mod Rewritten

@@ -5,7 +5,7 @@ use Rattle.md_containers.specs.Listed.{Place}
 use Rattle.md_order.specs.Left.{Standing, left_in}
 use Rattle.md_order.specs.declared.wanted.Wanted.{Wanted}
 use Rattle.md_resolve.specs.HeadingWalk.{place_of, walk_of}
-use Rattle.md_resolve.specs.Rewritten.{held_of, left_of}
+use Rattle.md_seam.specs.Rewritten.{held_of, left_of}
 use Rattle.md_resolve.specs.declared.pass.Walk.{Walk}
 
 abbrev pub items_of : Walk → Place

@@ -2,15 +2,15 @@
 
 ghost use Rattle.std.specs.Prelude.{◌≡◌, ◌++◌, ◌≤◌, OnOk, drop, length};
 ghost use Rattle.md_resolve.specs.Counted.{counted};
-ghost use Rattle.md_resolve.specs.Rewritten.{IsFirst, held_of, left_of, written_of};
+ghost use Rattle.md_seam.specs.Rewritten.{IsFirst, held_of, left_of, written_of};
 ghost use Rattle.md_leaves.specs.HeadingText.{begins, ends, is_heading, is_run};
 ghost use Rattle.md_leaves.specs.HeadingText.{is_sequence, text_between};
 ghost use Rattle.md_order.specs.Quiet.{MayHoldQuiet};
 ghost use Rattle.md_seam.specs.Events.Tiles.{is_data};
 
-use crate::rewriting::Rewriting;
 use md_engine::event::{Content, Event, Kind, Link, Name, Point};
 use md_engine::message::Message;
+use md_seam::rewriting::Rewriting;
 
 /// The link of a text that is read later.
 const TEXT_LINK: Link = Link {

@@ -8,5 +8,4 @@ mod heading_text;
 mod items;
 pub mod list_item;
 pub mod pass;
-mod rewriting;
 mod underlines;

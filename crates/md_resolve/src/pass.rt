@@ -16,22 +16,21 @@ ghost use Rattle.md_engine.specs.World.{world};
 ghost use Rattle.md_containers.specs.Listed.{given, given_by, is_item, place_after, place_by};
 ghost use Rattle.md_containers.specs.Listed.{Begins, Ends, outside};
 ghost use Rattle.md_leaves.specs.HeadingText.{begins, is_heading};
-ghost use Rattle.md_leaves.specs.Turned.{is_no_underline, is_turned, on_by, turn};
+ghost use Rattle.md_leaves.specs.Turned.{HoldNoUnderline, is_turned, on_by, turn};
 ghost use Rattle.md_leaves.specs.Turned as setext;
 ghost use Rattle.md_order.specs.Alone.{MayPass, is_set};
-ghost use Rattle.md_order.specs.InOrder.{in_order, wanted_of};
+ghost use Rattle.md_order.specs.InOrder.{every, in_order, wanted_of};
 ghost use Rattle.md_order.specs.Left.{MayStay, is_passed, is_same};
 ghost use Rattle.md_seam.specs.Events.Spelled.{role};
 ghost use Rattle.md_seam.specs.Parts.{ArePlaced};
 ghost use Rattle.md_tables.specs.Tabled.{begins_table, bound_of, tabled};
 ghost use Rattle.md_order.specs.Left.{ends_table, table_len};
 ghost use Rattle.md_resolve.specs.PassWalk.{given_of, items_of, rest_of, whole_of};
-ghost use Rattle.md_resolve.specs.Rewritten.{IsFirst};
+ghost use Rattle.md_seam.specs.Rewritten.{IsFirst};
 
 use crate::heading_text;
 use crate::heading_text::{Stage, Text, begins_heading};
 use crate::items::{goes_on, is_item, list_event, marker_ahead, next_item};
-use crate::rewriting::Rewriting;
 use crate::underlines::{self, enter, exit, is_turned};
 use md_engine::event::{Event, Kind, Name};
 use md_engine::message::Message;
@@ -39,6 +38,7 @@ use md_engine::resolve::Name as ResolveName;
 use md_engine::subtokenize::Subresult;
 use md_engine::tokenizer::Tokenizer;
 use md_order::wanted::{Wanted, wanted_of};
+use md_seam::rewriting::Rewriting;
 use md_seam::walks::{Test, passing};
 use md_tables::tables::put_tables;
 use std::alloc::Global;
@@ -450,7 +450,7 @@ impl Walk {
 }
 
 /// The events with what is wanted set by one walk, in the list of the events.
-fn walk_all(
+pub fn set_all(
     alloc: Global,
     wanted: Wanted,
     bytes: &[u8],
@@ -486,82 +486,6 @@ pub fn is_same(wanted: Wanted, event: &Event) -> bool
         || wanted.tables && begins_table(event))
 }
 
-/// Whether an event stays where all do.
-#[derive(Drop)]
-struct IsSame {
-    wanted: Wanted,
-}
-
-impl Test for IsSame {
-    ghost passes = { λ test. is_same test.wanted };
-
-    #[inline(always)]
-    fn passes(&self, event: &Event) -> bool {
-        is_same(self.wanted, event)
-    }
-}
-
-/// How many of the events stand in front of the first with which something is to be set.
-fn until_changed(wanted: Wanted, events: &[Event]) -> usize
-    ensures value { result ≡ prefix_len (is_same wanted) events.now }
-    ensures within { result ≤ length events.now }
-{
-    passing(&IsSame { wanted }, events)
-}
-
-/// Whether no underline stands at an event.
-struct IsNoUnderline;
-
-impl Test for IsNoUnderline {
-    ghost passes = { λ test. is_no_underline };
-
-    #[inline(always)]
-    fn passes(&self, event: &Event) -> bool {
-        !underlines::is_underline(event.name)
-    }
-}
-
-/// How many events stand in front of the first of an underline.
-fn until_underline(events: &[Event]) -> usize
-    ensures value { result ≡ prefix_len is_no_underline events.now }
-    ensures within { result ≤ length events.now }
-{
-    passing(&IsNoUnderline, events)
-}
-
-/// What is wanted of these events: no setext heading where no underline stands, so that paragraphs are passed.
-fn wanted_here(wanted: Wanted, events: &[Event]) -> Wanted
-    ensures order { (bytes : List ℕ) → in_order result bytes events.now ≡ in_order wanted bytes events.now }
-    ensures may { MayPass wanted events.now → MayPass result events.now }
-{
-    if until_underline(events) < events.len() {
-        return wanted;
-    }
-    Wanted {
-        items: wanted.items,
-        atx: wanted.atx,
-        setext: false,
-        tables: wanted.tables,
-    }
-}
-
-/// The events with what is wanted set, in the list of the events.
-pub fn set_all(
-    alloc: Global,
-    wanted: Wanted,
-    bytes: &[u8],
-    events: Vec<Event>,
-) -> Result<Vec<Event>, Message>
-    requires may { MayPass wanted events.items }
-    ensures events { IfOk result (λ all. all.items ≡ in_order wanted bytes.now events.items) }
-    ensures placed { IfOk result
-        (λ all. (text : List ℕ) → ArePlaced text events.items → ArePlaced text all.items) }
-{
-    let here = wanted_here(wanted, &events);
-    let set = walk_all(alloc, here, bytes, events)?;
-    Ok(set)
-}
-
 /// Runs the resolvers of these names in one pass: those of items, of ATX headings, of setext headings and of tables, as if
 /// they ran one behind the other, in this order. Other names change nothing. Where nothing is to be set nothing is moved.
 ///
@@ -579,13 +503,46 @@ pub fn pass(tokenizer: &mut Tokenizer, names: &[ResolveName]) -> Result<Option<S
     ensures found { IfOk result (λ found. option_map found_in found ≡ None) }
 {
     let wanted = wanted_of(names);
-    if until_changed(wanted, &tokenizer.events) == tokenizer.events.len() {
-        return Ok(None);
-    }
     let alloc = tokenizer.alloc;
     let events = tokenizer.take_events();
-    let spare = tokenizer.take_spare();
     let set = set_all(alloc, wanted, tokenizer.bytes, events)?;
-    tokenizer.set_events(set, spare);
+    tokenizer.set_events(set);
     Ok(None)
+}
+
+/// The names of all four resolvers.
+const ALL: [ResolveName; 4] = [
+    ResolveName::ListItem,
+    ResolveName::HeadingAtx,
+    ResolveName::HeadingSetext,
+    ResolveName::GfmTable,
+];
+
+/// The names of those that do not need an underline.
+const WITHOUT_SETEXT: [ResolveName; 3] = [
+    ResolveName::ListItem,
+    ResolveName::HeadingAtx,
+    ResolveName::GfmTable,
+];
+
+/// Runs all four resolvers in one pass. Paragraphs are passed at once where `underlines` is false, since there is no
+/// underline of a heading among the events.
+///
+/// After an `Err`, which says that memory ran out, the parse has failed, and the tokenizer is only dropped.
+pub fn pass_all(tokenizer: &mut Tokenizer, underlines: bool) -> Result<(), Message>
+    requires frames { (world tokenizer.old).frames ≡ [] }
+    requires may { MayPass (every) (world tokenizer.old).events }
+    requires underlines { underlines ≡ false → HoldNoUnderline (world tokenizer.old).events }
+    ensures { OnOk result
+        (world tokenizer.new ≡
+        record (world tokenizer.old) {
+          events = in_order (every) (world tokenizer.old).setting.bytes (world tokenizer.old).events;
+        }) }
+{
+    if underlines {
+        pass(tokenizer, &ALL)?;
+    } else {
+        pass(tokenizer, &WITHOUT_SETEXT)?;
+    }
+    Ok(())
 }

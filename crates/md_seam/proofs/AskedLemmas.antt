@@ -65,62 +65,50 @@ asked-events wants asked n (e ∷ es) each =
     go (Some held) k behind = rw k each
 
 -- an event that stays, as no chunk begins there, and those behind it up to the next chunk
-pub asked-stays : (wants : Content → Bool) (asked : Asked) (events : List Event) (chunks at many : ℕ) (d : Event) →
-    at < length events → (wanted wants (get_or events at d) ≡ None) ⊎ (length events ≤ at + 1) →
-    many ≡ 1 + prefix_len (stays wants) (drop (at + 1) events) → EachAsked wants asked chunks (drop at events) →
-    EachAsked wants asked chunks (drop (at + many) events)
-asked-stays wants asked events chunks at many d h stay count each =
-    let e : Event = get_or events at d in
-    let es : List Event = drop (at + 1) events in
-    let run : ℕ = prefix_len (stays wants) es in
-    let behind : drop run es ≡ drop (at + many) events = drop-drop run (at + 1) events
-    ∙ ap (λ (k : ℕ). drop k events) (omega arith) in
-    subst (EachAsked wants asked chunks) behind
-    (asked-events wants asked chunks es
-    (asked-event wants asked chunks e es (last stay)
-    (subst (EachAsked wants asked chunks) (drop_more events at d h) each)))
-  where
-    last : (wanted wants (get_or events at d) ≡ None) ⊎ (length events ≤ at + 1) →
-        (wanted wants (get_or events at d) ≡ None) ⊎ (drop (at + 1) events ≡ [])
-    last (inl none) = inl none
-    last (inr small) = inr (drop_all (at + 1) events small)
+pub asked-stays : (wants : Content → Bool) (asked : Asked) (rest : List Event) (chunks many : ℕ) (e : Event) →
+    rest ≡ e ∷ drop 1 rest → (wanted wants e ≡ None) ⊎ (drop 1 rest ≡ []) →
+    many ≡ suc (prefix_len (stays wants) (drop 1 rest)) → EachAsked wants asked chunks rest →
+    EachAsked wants asked chunks (drop many rest)
+asked-stays wants asked rest chunks many e first stay count each =
+    subst (λ (l : List Event). EachAsked wants asked chunks (drop many l)) (sym first)
+    (subst (λ (n : ℕ). EachAsked wants asked chunks (drop n (e ∷ drop 1 rest))) (sym count)
+    (asked-events wants asked chunks (drop 1 rest)
+    (asked-event wants asked chunks e (drop 1 rest) stay (subst (EachAsked wants asked chunks) first each))))
 
 -- a part begins, unless chunks of another are left
-pub asked-part : (wants : Content → Bool) (asked : Asked) (events rest : List Event) (chunks at : ℕ) (d : Event)
-    (content : Content) →
-    at + 1 < length events → rest ≡ drop at events → Some content ≡ wanted wants (get_or events at d) →
-    EachAsked wants asked chunks (drop at events) → chunks ≡ 0 → asked content (chunks_from wants rest)
-asked-part wants asked events rest chunks at d content h same some each none =
-    let e : Event = get_or events at d in
-    let f : Event = get_or events (at + 1) d in
-    let es : List Event = drop (at + 2) events in
-    let split : drop at events ≡ e ∷ f ∷ es = two-left events at d h in
+pub asked-part : (wants : Content → Bool) (asked : Asked) (rest : List Event) (chunks : ℕ) (d : Event) (content : Content) →
+    1 < length rest → Some content ≡ wanted wants (get_or rest 0 d) → EachAsked wants asked chunks rest → chunks ≡ 0 → asked content (chunks_from wants rest)
+asked-part wants asked rest chunks d content h some each none =
+    let e : Event = get_or rest 0 d in
+    let f : Event = get_or rest 1 d in
+    let es : List Event = drop 2 rest in
+    let split : rest ≡ e ∷ f ∷ es = two-left rest 0 d h in
     let begun : AskedBy wants asked 0 e f es (Some content) =
     subst (AskedBy wants asked 0 e f es) (sym some)
     (subst (λ (n : ℕ). EachAsked wants asked n (e ∷ f ∷ es)) none
     (subst (EachAsked wants asked chunks) split each)) in
-    subst (λ (l : List Event). asked content (chunks_from wants l)) (sym (same ∙ split)) begun.0
+    subst (λ (l : List Event). asked content (chunks_from wants l)) (sym split) begun.0
 
 -- a chunk is read, and those that are left go on the part
-pub asked-next : (wants : Content → Bool) (asked : Asked) (reads : List Event → Type 0) (events rest left now : List Event)
-    (chunks many chunks_left at : ℕ) (d : Event) (content : Content) →
-    at + 1 < length events → rest ≡ drop at events → Some content ≡ wanted wants (get_or events at d) →
+pub asked-next : (wants : Content → Bool) (asked : Asked) (reads : List Event → Type 0) (rest left now : List Event)
+    (chunks many chunks_left : ℕ) (d : Event) (content : Content) →
+    1 < length rest → Some content ≡ wanted wants (get_or rest 0 d) →
     Begun reads (length (chunks_from wants rest)) left chunks now many → chunks_left + 1 ≡ many →
-    EachAsked wants asked chunks (drop at events) → EachAsked wants asked chunks_left (drop (at + 2) events)
-asked-next wants asked reads events rest left now chunks many chunks_left at d content h same some begun one each =
-    let split : drop at events ≡ e ∷ f ∷ es = two-left events at d h in
+    EachAsked wants asked chunks rest → EachAsked wants asked chunks_left (drop 2 rest)
+asked-next wants asked reads rest left now chunks many chunks_left d content h some begun one each =
+    let split : rest ≡ e ∷ f ∷ es = two-left rest 0 d h in
     go chunks
-    (subst (λ (l : List Event). Begun reads (length (chunks_from wants l)) left chunks now many) (same ∙ split) begun)
+    (subst (λ (l : List Event). Begun reads (length (chunks_from wants l)) left chunks now many) split begun)
     (subst (AskedBy wants asked chunks e f es) (sym some) (subst (EachAsked wants asked chunks) split each))
   where
     e : Event
-    e = get_or events at d
+    e = get_or rest 0 d
 
     f : Event
-    f = get_or events (at + 1) d
+    f = get_or rest 1 d
 
     es : List Event
-    es = drop (at + 2) events
+    es = drop 2 rest
 
     go : (chunks : ℕ) → Begun reads (length (chunks_from wants (e ∷ f ∷ es))) left chunks now many →
         AskedBy wants asked chunks e f es (Some content) → EachAsked wants asked chunks_left es

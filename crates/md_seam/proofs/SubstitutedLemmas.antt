@@ -216,40 +216,18 @@ two-left events at d h =
     ∙ ap (λ (n : ℕ). get_or events at d ∷ get_or events (at + 1) d ∷ drop n events) next
 
 -- nothing is read yet
-pub leads-first : (wants : Content → Bool) (reads : Readings) (events found all : List Event) (placed chunks : ℕ) →
-    found ≡ [] → placed ≡ 0 → chunks ≡ 0 → all ≡ [] → Leads wants reads events (drop placed found) chunks events all
-leads-first wants reads events found all placed chunks none front fresh empty =
-    rw (none, front, fresh, empty) (λ out s. s)
+pub leads-first : (wants : Content → Bool) (reads : Readings) (events rest found all : List Event) (placed chunks : ℕ) →
+    rest ≡ events → found ≡ [] → placed ≡ 0 → chunks ≡ 0 → all ≡ [] →
+    Leads wants reads events (drop placed found) chunks rest all
+leads-first wants reads events rest found all placed chunks whole none front fresh empty =
+    rw (whole, none, front, fresh, empty) (λ out s. s)
 
 -- all is read
-pub leads-all : (wants : Content → Bool) (reads : Readings) (events left all : List Event) (chunks at : ℕ) →
-    length events ≤ at → Leads wants reads events left chunks (drop at events) all →
-    Substituted wants reads [] 0 events all
-leads-all wants reads events left all chunks at h leads =
+pub leads-all : (wants : Content → Bool) (reads : Readings) (events left rest all : List Event) (chunks : ℕ) →
+    rest ≡ [] → Leads wants reads events left chunks rest all → Substituted wants reads [] 0 events all
+leads-all wants reads events left rest all chunks none leads =
     subst (Substituted wants reads [] 0 events) (append-nil all)
-    (go (drop at events) (omega (arith, length-drop at events)) leads)
-  where
-    go : (rest : List Event) → length rest ≤ 0 → Leads wants reads events left chunks rest all →
-        Substituted wants reads [] 0 events (all ++ [])
-    go [] small leads = leads [] refl
-    go (e ∷ es) small leads = absurd (omega arith)
-
--- an event that stays, as no chunk begins there
-pub leads-stay : (wants : Content → Bool) (reads : Readings) (events left all new : List Event) (chunks at : ℕ)
-    (d : Event) →
-    at < length events → (wanted wants (get_or events at d) ≡ None) ⊎ (length events ≤ at + 1) →
-    new ≡ all ++ get_or events at d ∷ [] →
-    Leads wants reads events left chunks (drop at events) all →
-    Leads wants reads events left chunks (drop (at + 1) events) new
-leads-stay wants reads events left all new chunks at d h stays is leads =
-    subst (Leads wants reads events left chunks (drop (at + 1) events)) (sym is)
-    (leads-event wants reads events left (drop (at + 1) events) all chunks (get_or events at d) (last stays)
-    (subst (λ (l : List Event). Leads wants reads events left chunks l all) (drop_more events at d h) leads))
-  where
-    last : (wanted wants (get_or events at d) ≡ None) ⊎ (length events ≤ at + 1) →
-        (wanted wants (get_or events at d) ≡ None) ⊎ (drop (at + 1) events ≡ [])
-    last (inl none) = inl none
-    last (inr small) = inr (drop_all (at + 1) events small)
+    (subst (λ (l : List Event). Leads wants reads events left chunks l all) none leads [] refl)
 
 -- events that stay, up to the next chunk
 leads-events : (wants : Content → Bool) (reads : Readings) (events left rest all : List Event) (chunks : ℕ) →
@@ -278,47 +256,41 @@ leads-events wants reads events left (e ∷ es) all chunks leads =
         rw k (subst (Leads wants reads events left chunks (e ∷ es)) (sym (append-nil all)) leads)
 
 -- an event that stays, as no chunk begins there, and those behind it up to the next chunk
-pub leads-stays : (wants : Content → Bool) (reads : Readings) (events left all new : List Event) (chunks at many : ℕ)
-    (d : Event) →
-    at < length events → (wanted wants (get_or events at d) ≡ None) ⊎ (length events ≤ at + 1) →
-    many ≡ 1 + prefix_len (stays wants) (drop (at + 1) events) → new ≡ all ++ take many (drop at events) →
-    Leads wants reads events left chunks (drop at events) all →
-    Leads wants reads events left chunks (drop (at + many) events) new
-leads-stays wants reads events left all new chunks at many d h stay count is leads =
-    let e : Event = get_or events at d in
-    let es : List Event = drop (at + 1) events in
-    let run : ℕ = prefix_len (stays wants) es in
-    let first : Leads wants reads events left chunks es (all ++ e ∷ []) = leads-stay wants reads events left all
-    (all ++ e ∷ []) chunks at d h stay refl leads in
-    let more : Leads wants reads events left chunks (drop run es)
-    ((all ++ e ∷ []) ++ take run es) = leads-events wants reads events left es (all ++ e ∷ []) chunks first in
-    let behind : drop run es ≡ drop (at + many) events = drop-drop run (at + 1) events
-    ∙ ap (λ (k : ℕ). drop k events) (omega arith) in
-    let one : many ≡ suc run = omega arith in
-    let whole : (all ++ e ∷ []) ++ take run es ≡ new =
-    append_assoc all (e ∷ []) (take run es)
-    ∙ sym
-    (is ∙ ap (λ (l : List Event). all ++ take many l) (drop_more events at d h)
-    ∙ ap (λ (k : ℕ). all ++ take k (e ∷ es)) one) in
-    subst (λ (l : List Event). Leads wants reads events left chunks l new) behind
-    (subst (Leads wants reads events left chunks (drop run es)) whole more)
+pub leads-stays : (wants : Content → Bool) (reads : Readings) (events left all rest : List Event) (chunks many : ℕ)
+    (e : Event) →
+    rest ≡ e ∷ drop 1 rest → (wanted wants e ≡ None) ⊎ (drop 1 rest ≡ []) →
+    many ≡ suc (prefix_len (stays wants) (drop 1 rest)) →
+    Leads wants reads events left chunks rest all →
+    Leads wants reads events left chunks (drop many rest) (all ++ take many rest)
+leads-stays wants reads events left all rest chunks many e first stay count leads =
+    subst (λ (l : List Event). Leads wants reads events left chunks (drop many l) (all ++ take many l)) (sym first)
+    (subst (λ (n : ℕ). Leads wants reads events left chunks (drop n (e ∷ es)) (all ++ take n (e ∷ es))) (sym count)
+    (subst (Leads wants reads events left chunks (drop run es)) (append_assoc all (e ∷ []) (take run es))
+    (leads-events wants reads events left es (all ++ e ∷ []) chunks
+    (leads-event wants reads events left es all chunks e stay
+    (subst (λ (l : List Event). Leads wants reads events left chunks l all) first leads)))))
+  where
+    es : List Event
+    es = drop 1 rest
+
+    run : ℕ
+    run = prefix_len (stays wants) es
 
 -- a chunk begins
 pub leads-part : (wants : Content → Bool) (reads : Readings) (events rest left now left_behind all new : List Event)
-    (chunks many chunks_left at : ℕ) (d : Event) (content : Content) →
-    at + 1 < length events → rest ≡ drop at events → Some content ≡ wanted wants (get_or events at d) →
+    (chunks many chunks_left : ℕ) (d : Event) (content : Content) →
+    1 < length rest → Some content ≡ wanted wants (get_or rest 0 d) →
     Begun (reads content (chunks_from wants rest)) (length (chunks_from wants rest)) left chunks now many →
     chunks_left + 1 ≡ many →
-    new ≡ all ++ take (share (many - 1) now (get_or events (at + 1) d).point.index) now →
-    left_behind ≡ drop (share (many - 1) now (get_or events (at + 1) d).point.index) now →
-    Leads wants reads events left chunks (drop at events) all →
-    Leads wants reads events left_behind chunks_left (drop (at + 2) events) new
-leads-part wants reads events rest left now left_behind all new chunks many chunks_left at d content h same some begun
-    one placed behind leads =
-    let e : Event = get_or events at d in
-    let f : Event = get_or events (at + 1) d in
-    let es : List Event = drop (at + 2) events in
-    let split : drop at events ≡ e ∷ f ∷ es = two-left events at d h in
+    new ≡ all ++ take (share (many - 1) now (get_or rest 1 d).point.index) now →
+    left_behind ≡ drop (share (many - 1) now (get_or rest 1 d).point.index) now →
+    Leads wants reads events left chunks rest all → Leads wants reads events left_behind chunks_left (drop 2 rest) new
+leads-part wants reads events rest left now left_behind all new chunks many chunks_left d content h some begun one placed
+    behind leads =
+    let e : Event = get_or rest 0 d in
+    let f : Event = get_or rest 1 d in
+    let es : List Event = drop 2 rest in
+    let split : rest ≡ e ∷ f ∷ es = two-left rest 0 d h in
     let more : many ≡ suc chunks_left = omega arith in
     let less : many - 1 ≡ chunks_left = omega arith in
     let begins : Begun (reads content (chunks_from wants (e ∷ f ∷ es)))
@@ -329,8 +301,7 @@ leads-part wants reads events rest left now left_behind all new chunks many chun
     (length (chunks_from wants (e ∷ f ∷ es))) left chunks now n) more
     (subst
     (λ (l : List Event).
-    Begun (reads content (chunks_from wants l)) (length (chunks_from wants l)) left chunks now many)
-    (same ∙ split) begun) in
+    Begun (reads content (chunks_from wants l)) (length (chunks_from wants l)) left chunks now many) split begun) in
     let leads_on : Leads wants reads events (drop (share chunks_left now f.point.index) now) chunks_left es
     (all ++ take (share chunks_left now f.point.index) now) =
     leads-chunk wants reads events left all chunks e f es content (sym some)
@@ -388,24 +359,3 @@ lists-more wants events at d items new all n two some is run listed =
     ∙ ap (λ l. l ++ chunks_behind wants es) is
     ∙ append_assoc items (chunk_of e f ∷ []) (chunks_behind wants es)
     ∙ ap (λ l. items ++ l) (sym here) ∙ listed
-
--- Where no chunk is wanted nothing is read.
-
-first-stays : (wants : Content → Bool) (e : Event) (es : List Event) →
-    prefix_len (stays wants) (e ∷ es) ≡ length (e ∷ es) →
-    (wanted wants e ≡ None) × (prefix_len (stays wants) es ≡ length es)
-first-stays wants e es all = go (wanted wants e) all
-  where
-    go : (w : Option Content) → cond (is_none w) (1 + prefix_len (stays wants) es) 0 ≡ length (e ∷ es) →
-        (w ≡ None) × (prefix_len (stays wants) es ≡ length es)
-    go None h = (refl, omega (arith, h))
-    go (Some _) h = cc
-
-pub substituted-none : (wants : Content → Bool) (reads : Readings) (es : List Event) →
-    prefix_len (stays wants) es ≡ length es → Substituted wants reads [] 0 es es
-substituted-none wants reads [] all = refl
-substituted-none wants reads (e ∷ []) all = refl
-substituted-none wants reads (e ∷ f ∷ es) all =
-    let both : (wanted wants e ≡ None) × (prefix_len (stays wants) (f ∷ es) ≡ length (f ∷ es)) =
-    first-stays wants e (f ∷ es) all in
-    rw (both.0, Substituted) (f ∷ es, refl, substituted-none wants reads (f ∷ es) both.1)

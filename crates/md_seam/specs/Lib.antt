@@ -3,6 +3,7 @@ pub mod Stays
 pub mod Spaces
 pub mod OneSpace
 pub mod Parts
+pub mod Rewritten
 pub mod Lent
 pub mod Ahead
 pub mod Look

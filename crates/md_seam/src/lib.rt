@@ -6,6 +6,7 @@ pub mod inline;
 pub mod moving;
 pub mod names;
 pub mod plain;
+pub mod rewriting;
 pub mod slice;
 pub mod space_or_tab;
 pub mod subtokenize;

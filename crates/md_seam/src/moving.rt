@@ -45,21 +45,29 @@ pub fn append(events: &mut Vec<Event>, more: &[Event]) -> Result<(), Message>
 fn copy_piece(events: &mut [Event], to: usize, from: &[Event])
     requires { to + length from.now ≤ length events.old }
     ensures copied { take (to + length from.now) events.new ≡ take to events.old ++ from.now }
+    ensures behind { drop (to + length from.now) events.new ≡ drop (to + length from.now) events.old }
     ensures many { length events.new ≡ length events.old }
 {
     events[to..to + from.len()].copy_from_slice(from);
 }
 
-/// Copies events over those from `to` on.
-fn copy_over(events: &mut [Event], to: usize, from: &[Event])
-    requires { to + length from.now ≤ length events.old }
-    ensures copied { take (to + length from.now) events.new ≡ take to events.old ++ from.now }
+/// From so many events on, events that are moved by less than their number are copied by pieces of that size.
+const FEW: usize = 8;
+
+/// Moves the events from `from` to `end` down to `to`, at most as many at once as they are moved by.
+fn move_pieces_down(events: &mut [Event], to: usize, from: usize, end: usize)
+    requires { (to < from) × (from ≤ end) × (end ≤ length events.old) }
+    ensures moved { take (to + (end - from)) events.new ≡
+        take to events.old ++ take (end - from) (drop from events.old) }
+    ensures behind { drop end events.new ≡ drop end events.old }
     ensures many { length events.new ≡ length events.old }
 {
-    let mut at = 0;
-    while at < from.len() {
-        let many = piece(from.len() - at);
-        copy_piece(events, to + at, &from[at..][..many]);
+    let gap = from - to;
+    let mut at = from;
+    while at < end {
+        let many = piece(gap.min(end - at));
+        let (front, back) = events.split_at_mut(at);
+        copy_piece(front, at - gap, &back[..many]);
         at += many;
     }
 }
@@ -72,10 +80,28 @@ pub fn move_down(events: &mut [Event], to: usize, from: usize, end: usize)
     ensures behind { drop end events.new ≡ drop end events.old }
     ensures many { length events.new ≡ length events.old }
 {
-    if to + (end - from) <= from {
-        let (front, back) = events.split_at_mut(from);
-        copy_over(front, to, &back[..end - from]);
-    } else if to < from {
+    if to == from {
+        return;
+    }
+    if from - to >= FEW || end - from <= from - to {
+        move_pieces_down(events, to, from, end);
+    } else {
         events.copy_within(from..end, to);
+    }
+}
+
+/// Moves the events from `from` on up by so many places; as many events at the end of the list are lost.
+pub fn move_up(events: &mut [Event], from: usize, gap: usize)
+    requires { (0 < gap) × (from + gap ≤ length events.old) }
+    ensures moved { drop (from + gap) events.new ≡ drop from (take (length events.old - gap) events.old) }
+    ensures before { take from events.new ≡ take from events.old }
+    ensures many { length events.new ≡ length events.old }
+{
+    let mut end = events.len() - gap;
+    while from < end {
+        let many = piece(gap.min(end - from));
+        end -= many;
+        let (front, back) = events.split_at_mut(end + gap);
+        copy_piece(back, 0, &front[end..][..many]);
     }
 }

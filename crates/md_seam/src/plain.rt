@@ -126,7 +126,7 @@ fn read_lines(
         return Err(Message);
     }
     let list = mem::replace(events, Vec::new(alloc));
-    tokenizer.set_events(list, Vec::new(alloc));
+    tokenizer.set_events(list);
     for chunk in chunks {
         read_chunk(&mut tokenizer, chunk)?;
     }

@@ -8,12 +8,13 @@ ghost use Rattle.std.specs.Prelude.{take};
 ghost use Rattle.std.specs.List.{prefix_len};
 ghost use Rattle.md_engine.specs.declared.event.Content.{Content};
 ghost use Rattle.md_seam.specs.Parts.{AreChunks, ArePlaced};
+ghost use Rattle.md_seam.specs.Rewritten.{held_of, left_of, written_of};
 ghost use Rattle.md_seam.specs.Substituted.{Asked, Begun, EachAsked, Readings, Substituted, belongs, chunk_of, chunks_from, is_plain_prefix};
 ghost use Rattle.md_seam.specs.Substituted.{share, stays, wanted};
 
 use crate::inline::Chunk;
-use crate::moving::append;
 pub use crate::names::is_prefix;
+use crate::rewriting::Rewriting;
 use crate::walks::{Test, passing};
 use md_engine::event::{Content, Event, Kind, Name};
 use md_engine::message::Message;
@@ -218,13 +219,16 @@ impl Found {
         Ok(())
     }
 
-    /// Puts what belongs to the next chunk, which ends at the byte `end`, behind `events`.
-    fn place(&mut self, events: &mut Vec<Event>, end: usize) -> Result<(), Message>
+    /// Writes what belongs to the next chunk, which ends at the byte `end`.
+    fn place(&mut self, events: &mut Rewriting, end: usize) -> Result<(), Message>
         requires { 0 < self.old.chunks }
         ensures same { self.new.events ≡ self.old.events }
         ensures chunks { OnOk result (self.new.chunks + 1 ≡ self.old.chunks) }
+        ensures held { held_of events.new ≡ held_of events.old }
+        ensures rest { OnOk result (left_of events.new ≡ left_of events.old) }
         ensures placed { let left = drop self.old.placed self.old.events.items in
-            OnOk result (events.new.items ≡ events.old.items ++ take (share (self.old.chunks - 1) left end) left) }
+            OnOk result
+            (written_of events.new ≡ written_of events.old ++ take (share (self.old.chunks - 1) left end) left) }
         ensures left { let left = drop self.old.placed self.old.events.items in
             OnOk result (drop self.new.placed self.new.events.items ≡ drop (share (self.old.chunks - 1) left end)
             left) }
@@ -235,69 +239,42 @@ impl Found {
         } else {
             left.len()
         };
-        if events.extend_from_slice(&left[..many]).is_err() {
-            return Err(Message);
-        }
+        events.push_all(&left[..many])?;
         self.placed += many;
         self.chunks -= 1;
         Ok(())
     }
 }
 
-/// The events with what `reader` finds in the places of the parts that it reads, written into `spare`.
+/// The events with what `reader` finds in the places of the parts that it reads, in the list of the events.
 #[inline(never)]
 pub fn subtokenize<R: Reader>(
     alloc: Global,
     reader: &R,
-    events: &[Event],
-    spare: Vec<Event>,
+    events: Vec<Event>,
 ) -> Result<Vec<Event>, Message>
-    requires placed { ArePlaced (R.text reader.now) events.now }
-    requires asked { EachAsked (R.wants reader.now) (R.may_read reader.now) 0 events.now }
-    requires empty { spare.items ≡ [] }
+    requires placed { ArePlaced (R.text reader.now) events.items }
+    requires asked { EachAsked (R.wants reader.now) (R.may_read reader.now) 0 events.items }
     ensures placed { IfOk result (λ all. ArePlaced (R.text reader.now) all.items) }
     ensures substituted { IfOk result
-        (λ all. Substituted (R.wants reader.now) (R.reads_as reader.now) [] 0 events.now all.items) }
+        (λ all. Substituted (R.wants reader.now) (R.reads_as reader.now) [] 0 events.items all.items) }
 {
-    let mut all = spare;
+    let mut all = Rewriting::new(events);
     let mut found = Found::nothing(alloc);
-    let mut at = 0;
-    while at < events.len() {
-        let event = events[at];
+    while let Some(event) = all.first() {
         match chunk_content(reader, &event) {
-            Some(content) if at + 1 < events.len() => {
-                found.or_read(alloc, reader, content, &events[at..])?;
-                found.place(&mut all, events[at + 1].point.index)?;
-                at += 2;
+            Some(content) if all.left().len() > 1 => {
+                found.or_read(alloc, reader, content, all.left())?;
+                let end = all.left()[1].point.index;
+                all.skip(2);
+                found.place(&mut all, end)?;
             }
             _ => {
-                let many = 1 + staying(reader, &events[at + 1..]);
-                append(&mut all, &events[at..][..many])?;
-                at += many;
+                let many = 1 + staying(reader, &all.left()[1..]);
+                all.hold_many(many);
             }
         }
     }
-    Ok(all)
-}
-
-/// The same for events in a list of their own, with a list that is spare then. Where nothing is read the events stay
-/// in their list.
-pub fn subtokenize_list<R: Reader>(
-    alloc: Global,
-    reader: &R,
-    events: Vec<Event>,
-    spare: Vec<Event>,
-) -> Result<(Vec<Event>, Vec<Event>), Message>
-    requires placed { ArePlaced (R.text reader.now) events.items }
-    requires asked { EachAsked (R.wants reader.now) (R.may_read reader.now) 0 events.items }
-    requires empty { spare.items ≡ [] }
-    ensures placed { IfOk result (λ lists. ArePlaced (R.text reader.now) lists.0.items) }
-    ensures substituted { IfOk result
-        (λ lists. Substituted (R.wants reader.now) (R.reads_as reader.now) [] 0 events.items lists.0.items) }
-{
-    if staying(reader, &events) == events.len() {
-        return Ok((events, spare));
-    }
-    let all = subtokenize(alloc, reader, &events, spare)?;
-    Ok((all, events))
+    all.give();
+    Ok(all.finish())
 }

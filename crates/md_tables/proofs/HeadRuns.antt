@@ -85,26 +85,18 @@ head-read bytes options p q events s w' R found new small run kept f =
     ∙ head-comes (text_feed (reads_to w q.index).setting) w refl in
     head-flush R s w' found new _ _ (rw kept small) pushed.1 at_end f
 
--- the events of a table of one row
-around-joins : (given inside : List Event) (a z : Event) →
-    ((given ++ a ∷ []) ++ inside) ++ z ∷ [] ≡ given ++ (a ∷ inside ++ z ∷ [])
-around-joins given inside a z = simp append_assoc
-
--- a head is added to events: its begin, what is read of its line, and its end
-pub head-pushed : (bytes : List ℕ) (options : ParseOptions) (p q : Point) (given : List Event) (w w' : World)
-    (s : State) (R : Resolution) (found : Found) (new last : World) → q.index < 2 ^ 61 →
-    w ≡ record (fresh bytes options p) { events = given ++ enter GfmTable p ∷ [] } →
+-- what is read as a head: its begin, what is read of its line, and its end
+pub head-whole : (bytes : List ℕ) (options : ParseOptions) (p q : Point) (w w' : World) (s : State) (R : Resolution)
+    (found : Found) (new last : World) → q.index < 2 ^ 61 →
+    w ≡ record (fresh bytes options p) { events = enter GfmTable p ∷ [] } →
     Runs HeadStep false (Next head_start) (reads_to w q.index) s w' →
     w'.setting ≡ (reads_to w q.index).setting → Flushes HeadStep R s w' false found new →
     last ≡ record new { events = new.events ++ exit GfmTable new.point ∷ [] } →
-    last.events ≡ given ++ head_line bytes options p q
+    last.events ≡ head_line bytes options p q
 unfolding head_line
-head-pushed bytes options p q given w w' s R found new last small is run kept f ends =
-    let cells = cells_between bytes options p q in
-    let begun = given ++ enter GfmTable p ∷ [] in
-    let read = head-read bytes options p q begun s w' R found new small
+head-whole bytes options p q w w' s R found new last small is run kept f ends =
+    let read = head-read bytes options p q (enter GfmTable p ∷ []) s w' R found new small
     (subst (λ (x : World). Runs HeadStep false (Next head_start) (reads_to x q.index) s w') is run)
     (kept ∙ ap (λ (x : World). (reads_to x q.index).setting) is) f in
     ap (λ (x : World). x.events) ends
     ∙ ap (λ (h : Here). h.events ++ exit GfmTable h.point ∷ []) (sym read)
-    ∙ around-joins given (head_row cells p) (enter GfmTable p) (exit GfmTable (line_end cells p))

@@ -1,4 +1,4 @@
--- The heads of tables, over events that stand one after the other.
+-- The heads of tables, over events one after the other.
 use Rattle.std.proofs.Common.{◌≡◌, ℕ, Bool, true, false, ◌||◌, List, [], ◌∷◌, ◌++◌, refl, ◌∙◌, ap}
 use Rattle.std.specs.List.{list_any}
 use Rattle.std.proofs.lemmas.Bool.{and_from, and_right, or_parts}
@@ -10,9 +10,9 @@ use Rattle.md_leaves.specs.Spanned.{is_blank_ending}
 use Rattle.md_seam.specs.Events.Blocks.{is_block}
 use Rattle.md_seam.specs.Events.Prefix.{is_prefix}
 use Rattle.md_seam.specs.Events.Spelled.{role}
-use Rattle.md_tables.specs.Heads.{begins_chunk, begins_further_row, has_delimiter, head_line, headed}
-use Rattle.md_tables.specs.Heads.{is_chunk, is_head, meets_table, stops_look}
-use Rattle.md_tables.proofs.HeadsWalk.{headed-begins, headed-passes}
+use Rattle.md_tables.specs.Heads.{begins_chunk, begins_further_row, head_line, headed}
+use Rattle.md_tables.specs.Heads.{is_chunk, meets_table, stops_look}
+use Rattle.md_tables.proofs.HeadsWalk.{headed-begins, headed-passes, not-head}
 
 -- Where a look behind the ending of a line stops.
 
@@ -36,24 +36,7 @@ pub meets-other : (e : Event) (es : List Event) → stops_look e ≡ true → be
     meets_table (e ∷ es) ≡ false
 meets-other e es apart none = rw apart none
 
--- where no line of a table goes on another there is none to meet
-pub meets-none : (es : List Event) → has_delimiter es ≡ false → meets_table es ≡ false
-meets-none [] none = refl
-meets-none (e ∷ es) none =
-    let each = or_parts (begins_further_row e) (list_any begins_further_row es) none in
-    go each.0 (meets-none es each.1) (stops_look e) refl
-  where
-    go : begins_further_row e ≡ false → meets_table es ≡ false → (x : Bool) → stops_look e ≡ x →
-        meets_table (e ∷ es) ≡ false
-    go other more true k = rw k other
-    go other more false k = rw k more
-
 -- All events.
-
--- no head begins where no text does
-not-head : (e : Event) (es : List Event) → begins_chunk e ≡ false → is_head (e ∷ es) ≡ false
-not-head e [] none = refl
-not-head e (x ∷ es) none = rw none refl
 
 -- events of which none begins a line of text pass
 pub headed-behind : (bytes : List ℕ) (options : ParseOptions) (front rest : List Event) →
@@ -64,23 +47,6 @@ headed-behind bytes options (e ∷ front) rest none =
     let each = or_parts (begins_chunk e) (list_any begins_chunk front) none in
     headed-passes bytes options e (front ++ rest) (not-head e (front ++ rest) each.0)
     ∙ ap (λ (l : List Event). e ∷ l) (headed-behind bytes options front rest each.1)
-
--- all pass where no line of a table goes on another
-pub headed-none : (bytes : List ℕ) (options : ParseOptions) (events : List Event) → has_delimiter events ≡ false →
-    headed bytes options events ≡ events
-headed-none bytes options [] none = refl
-headed-none bytes options (e ∷ events) none =
-    headed-passes bytes options e events (no-head events each.1)
-    ∙ ap (λ (l : List Event). e ∷ l) (headed-none bytes options events each.1)
-  where
-    each : (begins_further_row e ≡ false) × (has_delimiter events ≡ false)
-    each = or_parts (begins_further_row e) (list_any begins_further_row events) none
-
-    no-head : (es : List Event) → has_delimiter es ≡ false → is_head (e ∷ es) ≡ false
-    no-head [] h = refl
-    no-head (x ∷ es) h =
-        and_right (begins_chunk e) (meets_table es)
-        (meets-none es (or_parts (begins_further_row x) (list_any begins_further_row es) h).1)
 
 -- a line of text that meets no table passes
 pub headed-text : (bytes : List ℕ) (options : ParseOptions) (e x : Event) (rest : List Event) →

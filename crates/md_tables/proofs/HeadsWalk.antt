@@ -1,14 +1,16 @@
 -- The walk that puts heads in the places of their chunks.
-use Rattle.std.proofs.Common.{◌≡◌, ℕ, suc, ◌+◌, ◌<◌, ◌≤◌, Bool, true, false, cond, not, List, [], ◌∷◌, ◌++◌}
-use Rattle.std.proofs.Common.{take, drop, get_or, length, refl, sym, ◌∙◌, ap, subst, arith, append_assoc}
+use Rattle.std.proofs.Common.{◌≡◌, ℕ, zero, suc, ◌+◌, ◌<◌, ◌≤◌, Bool, true, false, cond, not, List, [], ◌∷◌, ◌++◌}
+use Rattle.std.proofs.Common.{take, drop, get_or, length, refl, sym, ◌∙◌, ap, arith, append_assoc, append-nil, subst}
 use Rattle.std.specs.List.{prefix_len}
-use Rattle.std.proofs.lemmas.List.{drop-drop, drop_more, length-drop}
-use Rattle.std.proofs.lemmas.List.Elements.{All-append, All-drop, All-take}
+use Rattle.std.proofs.lemmas.Bool.{and_right}
+use Rattle.std.proofs.lemmas.List.Elements.{All-append, All-drop, All-nil, All-take}
 use Rattle.md_engine.specs.declared.configuration.ParseOptions.{ParseOptions}
 use Rattle.md_engine.specs.declared.event.Event.{Event}
 use Rattle.md_engine.specs.Place.{IsPlaced}
 use Rattle.md_seam.specs.Parts.{ArePlaced}
-use Rattle.md_tables.specs.Heads.{begins_chunk, head_line, headed, is_head}
+use Rattle.md_seam.specs.Rewritten.{given_of, held_of, left_of, written_of}
+use Rattle.md_seam.specs.declared.rewriting.Rewriting.{Rewriting}
+use Rattle.md_tables.specs.Heads.{begins_chunk, begins_further_row, head_line, headed, is_head, meets_table, stops_look}
 
 -- the first event passes where no head begins with it
 pub headed-passes : (bytes : List ℕ) (options : ParseOptions) (e : Event) (es : List Event) → is_head (e ∷ es) ≡ false →
@@ -22,90 +24,167 @@ pub headed-begins : (bytes : List ℕ) (options : ParseOptions) (e x : Event) (e
     headed bytes options (e ∷ x ∷ es) ≡ head_line bytes options e.point x.point ++ headed bytes options es
 headed-begins bytes options e x es is = rw is refl
 
-head-two : (events : List Event) → is_head events ≡ true → 2 ≤ length events
-head-two [] is = cc
-head-two (e ∷ []) is = cc
-head-two (e ∷ x ∷ es) is = omega arith
+-- one event more passes
+headed-more : (bytes : List ℕ) (options : ParseOptions) (e : Event) (es : List Event) (m n : ℕ) → m ≡ 1 + n →
+    is_head (e ∷ es) ≡ false → headed bytes options es ≡ take n es ++ headed bytes options (drop n es) →
+    headed bytes options (e ∷ es) ≡ take m (e ∷ es) ++ headed bytes options (drop m (e ∷ es))
+headed-more bytes options e es m n size none more =
+    let one : suc n ≡ m = omega arith in headed-passes bytes options e es none
+    ∙ ap (λ (l : List Event). e ∷ l) more
+    ∙ ap (λ (k : ℕ). take k (e ∷ es) ++ headed bytes options (drop k (e ∷ es))) one
 
--- so both are there
-pub head-within : (events : List Event) (at : ℕ) → is_head (drop at events) ≡ true → at + 1 < length events
-head-within events at is =
-    let two = head-two (drop at events) is in omega (arith, two, length-drop at events)
+-- Up to the next line of text.
 
 -- no head begins with an event that begins no line of text
-apart-none : (e : Event) (es : List Event) → begins_chunk e ≡ false → is_head (e ∷ es) ≡ false
-apart-none e [] apart = refl
-apart-none e (x ∷ es) apart = rw apart refl
+pub not-head : (e : Event) (es : List Event) → begins_chunk e ≡ false → is_head (e ∷ es) ≡ false
+not-head e [] none = refl
+not-head e (x ∷ es) none = rw none refl
 
--- so all in front of the next line of text pass
+-- so all events before the next line of text pass
 headed-run : (bytes : List ℕ) (options : ParseOptions) (es : List Event) →
-    headed bytes options es
-    ≡ take (prefix_len (λ e. not (begins_chunk e)) es) es
-    ++ headed bytes options (drop (prefix_len (λ e. not (begins_chunk e)) es) es)
+    (let n = prefix_len (λ e. not (begins_chunk e)) es in
+    headed bytes options es ≡ take n es ++ headed bytes options (drop n es))
 headed-run bytes options [] = refl
 headed-run bytes options (e ∷ es) = go (begins_chunk e) refl (headed-run bytes options es)
   where
     go : (x : Bool) → begins_chunk e ≡ x →
-        headed bytes options es
-        ≡ take (prefix_len (λ e. not (begins_chunk e)) es) es
-        ++ headed bytes options (drop (prefix_len (λ e. not (begins_chunk e)) es) es) →
-        headed bytes options (e ∷ es)
-        ≡ take (cond (not x) (1 + prefix_len (λ e. not (begins_chunk e)) es) 0) (e ∷ es)
-        ++ headed bytes options (drop (cond (not x) (1 + prefix_len (λ e. not (begins_chunk e)) es) 0) (e ∷ es))
+        (let n = prefix_len (λ e. not (begins_chunk e)) es in
+        headed bytes options es ≡ take n es ++ headed bytes options (drop n es)) →
+        (let n = cond (not x) (1 + prefix_len (λ e. not (begins_chunk e)) es) 0 in
+        headed bytes options (e ∷ es) ≡ take n (e ∷ es) ++ headed bytes options (drop n (e ∷ es)))
     go true h k = refl
-    go false h k =
-        headed-passes bytes options e es (apart-none e es h) ∙ ap (λ (l : List Event). e ∷ l) k
-        ∙ ap (λ (n : ℕ). take n (e ∷ es) ++ headed bytes options (drop n (e ∷ es)))
-        (let n : ℕ = prefix_len (λ e. not (begins_chunk e)) es in let one : suc n ≡ 1 + n = omega arith in one)
+    go false h k = headed-more bytes options e es _ _ refl (not-head e es h) k
 
--- behind them
-pub walk-copied : (bytes : List ℕ) (options : ParseOptions) (events given new all : List Event) (at many : ℕ) →
-    new ≡ given ++ take many (drop at events) → many ≡ prefix_len (λ e. not (begins_chunk e)) (drop at events) →
-    given ++ headed bytes options (drop at events) ≡ all → new ++ headed bytes options (drop (at + many) events) ≡ all
-walk-copied bytes options events given new all at many is count so_far =
-    rw is
-    (append_assoc given (take many (drop at events)) (headed bytes options (drop (at + many) events))
-    ∙ ap (λ (l : List Event). given ++ (take many (drop at events) ++ headed bytes options l))
-    (sym (drop-drop many at events))
-    ∙ ap (λ (n : ℕ). given ++ (take n (drop at events) ++ headed bytes options (drop n (drop at events)))) count
-    ∙ ap (λ (l : List Event). given ++ l) (sym (headed-run bytes options (drop at events))) ∙ so_far)
+-- so do they behind an event with which no head begins
+pub headed-next : (bytes : List ℕ) (options : ParseOptions) (e : Event) (es : List Event) (n : ℕ) →
+    es ≡ e ∷ drop 1 es → is_head es ≡ false → n ≡ 1 + prefix_len (λ e. not (begins_chunk e)) (drop 1 es) →
+    headed bytes options es ≡ take n es ++ headed bytes options (drop n es)
+headed-next bytes options e [] n first none size = cc
+headed-next bytes options e (x ∷ es) n first none size =
+    headed-more bytes options x es n _ size none (headed-run bytes options es)
 
--- where all stand in the text
-pub copied-placed : (bytes : List ℕ) (events given new : List Event) (at many : ℕ) →
-    new ≡ given ++ take many (drop at events) → ArePlaced bytes events → ArePlaced bytes given → ArePlaced bytes new
-copied-placed bytes events given new at many is placed so_far =
-    subst (ArePlaced bytes) (sym is)
-    (All-append (λ (e : Event). IsPlaced bytes e.point) given (take many (drop at events)) so_far
-    (All-take (λ (e : Event). IsPlaced bytes e.point) many (drop at events)
-    (All-drop (λ (e : Event). IsPlaced bytes e.point) at events placed)))
+-- Before the first further row.
 
--- behind an event that passes
-pub walk-passed : (bytes : List ℕ) (options : ParseOptions) (events given new all : List Event) (at : ℕ) (d : Event) →
-    at < length events → is_head (drop at events) ≡ false → new ≡ given ++ get_or events at d ∷ [] →
-    given ++ headed bytes options (drop at events) ≡ all → new ++ headed bytes options (drop (at + 1) events) ≡ all
-walk-passed bytes options events given new all at d within none is so_far =
-    let first : drop at events ≡ get_or events at d ∷ drop (at + 1) events = drop_more events at d within in
-    let passes = headed-passes bytes options (get_or events at d) (drop (at + 1) events) (ap is_head (sym first) ∙ none) in
-    rw is
-    (append_assoc given (get_or events at d ∷ []) (headed bytes options (drop (at + 1) events))
-    ∙ ap (λ (l : List Event). given ++ l) (sym passes)
-    ∙ ap (λ (l : List Event). given ++ headed bytes options l) (sym first) ∙ so_far)
+-- a look stops at an event, or the events end before it, and no further row begins up to there
+pub record Stops (es : List Event) (at : ℕ) (d : Event) : Type 0 where
+  pub others : (k : ℕ) → k ≤ at → k < length es → begins_further_row (get_or es k d) ≡ false
+  pub stop : at < length es → stops_look (get_or es at d) ≡ true
+
+stops-behind : (e : Event) (es : List Event) (at : ℕ) (d : Event) → Stops (e ∷ es) (suc at) d → Stops es at d
+stops-behind e es at d h = record {
+  others = λ k le lt. h.others (suc k) (omega arith) (omega arith);
+  stop = λ lt. h.stop (omega arith);
+}
+
+-- then a look from the first event finds none
+meets-none : (es : List Event) (at : ℕ) (d : Event) → Stops es at d → meets_table es ≡ false
+meets-none [] at d h = refl
+meets-none (e ∷ es) at d h = go (stops_look e) refl at h (meets-none es)
+  where
+    go : (x : Bool) → stops_look e ≡ x → (at : ℕ) → Stops (e ∷ es) at d →
+        ((at : ℕ) (d : Event) → Stops es at d → meets_table es ≡ false) → meets_table (e ∷ es) ≡ false
+    go true k at h more = rw k (h.others 0 (omega arith) (omega arith))
+    go false k zero h more = let stop : stops_look e ≡ true = h.stop (omega arith) in cc
+    go false k (suc at) h more = rw k (more at d (stops-behind e es at d h))
+
+-- so a line of text is no head where both its begin and its end are before that event
+stops-none : (e : Event) (es : List Event) (at : ℕ) (d : Event) → Stops es (suc at) d → is_head (e ∷ es) ≡ false
+stops-none e [] at d h = refl
+stops-none e (x ∷ es) at d h =
+    and_right (begins_chunk e) (meets_table es) (meets-none es at d (stops-behind x es at d h))
+
+-- so all events pass but the one before that event
+pub headed-before : (bytes : List ℕ) (options : ParseOptions) (es : List Event) (n : ℕ) (d : Event) →
+    (0 < n → Stops es (suc n) d) → headed bytes options es ≡ take n es ++ headed bytes options (drop n es)
+headed-before bytes options es zero d h = refl
+headed-before bytes options [] (suc n) d h = refl
+headed-before bytes options (e ∷ es) (suc n) d h =
+    let behind : Stops es (suc n) d = stops-behind e es (suc n) d (h (omega arith)) in
+    headed-more bytes options e es (suc n) n (omega arith) (stops-none e es n d behind)
+    (headed-before bytes options es n d (λ lt. behind))
+
+-- a head has two events
+pub head-two : (es : List Event) → is_head es ≡ true → 1 < length es
+head-two [] is = cc
+head-two (e ∷ []) is = cc
+head-two (e ∷ x ∷ es) is = omega arith
+
+-- The walk.
+
+-- what was given, and what is left with its heads put in, are all events with their heads
+pub record Leads (bytes : List ℕ) (options : ParseOptions) (events : List Event) (all : Rewriting) : Type 0 where
+  pub given : ArePlaced bytes (given_of all)
+  pub left : ArePlaced bytes (left_of all)
+  pub whole : given_of all ++ headed bytes options (left_of all) ≡ headed bytes options events
+
+pub leads-first : (bytes : List ℕ) (options : ParseOptions) (events : List Event) (all : Rewriting) →
+    left_of all ≡ events → held_of all ≡ [] → written_of all ≡ [] → ArePlaced bytes events →
+    Leads bytes options events all
+leads-first bytes options events all left held written placed =
+    let none : given_of all ≡ [] = ap (λ (l : List Event). l ++ held_of all) written ∙ held in
+    record {
+      given = subst (ArePlaced bytes) (sym none) (All-nil (λ (e : Event). IsPlaced bytes e.point));
+      left = subst (ArePlaced bytes) (sym left) placed;
+      whole = ap (λ (l : List Event). l ++ headed bytes options (left_of all)) none ∙ ap (headed bytes options) left;
+    }
+
+-- behind events that pass, and are held
+pub leads-held : (bytes : List ℕ) (options : ParseOptions) (events : List Event) (old new : Rewriting) (n : ℕ) →
+    left_of new ≡ drop n (left_of old) → held_of new ≡ held_of old ++ take n (left_of old) →
+    written_of new ≡ written_of old →
+    headed bytes options (left_of old) ≡ take n (left_of old) ++ headed bytes options (drop n (left_of old)) →
+    Leads bytes options events old → Leads bytes options events new
+leads-held bytes options events old new n left held written passed h =
+    let rest : List Event = left_of old in
+    let given : given_of new ≡ given_of old ++ take n rest = ap (λ (l : List Event). l ++ held_of new) written
+    ∙ ap (λ (l : List Event). written_of old ++ l) held
+    ∙ sym (append_assoc (written_of old) (held_of old) (take n rest)) in
+    record {
+      given = subst (ArePlaced bytes) (sym given)
+          (All-append (λ (e : Event). IsPlaced bytes e.point) (given_of old) (take n rest) h.given
+          (All-take (λ (e : Event). IsPlaced bytes e.point) n rest h.left));
+      left = subst (ArePlaced bytes) (sym left) (All-drop (λ (e : Event). IsPlaced bytes e.point) n rest h.left);
+      whole = ap (λ (l : List Event). l ++ headed bytes options (left_of new)) given
+          ∙ ap (λ (l : List Event). (given_of old ++ take n rest) ++ headed bytes options l) left
+          ∙ append_assoc (given_of old) (take n rest) (headed bytes options (drop n rest))
+          ∙ ap (λ (l : List Event). given_of old ++ l) (sym passed) ∙ h.whole;
+    }
+
+-- a head takes the place of the first two events
+headed-two : (bytes : List ℕ) (options : ParseOptions) (es : List Event) (e d : Event) → es ≡ e ∷ drop 1 es →
+    is_head es ≡ true →
+    headed bytes options es ≡ head_line bytes options e.point (get_or es 1 d).point ++ headed bytes options (drop 2 es)
+headed-two bytes options [] e d first is = cc
+headed-two bytes options (y ∷ []) e d first is = cc
+headed-two bytes options (y ∷ x ∷ es) e d first is =
+    let same : y ≡ e = cc in
+    headed-begins bytes options y x es is
+    ∙ ap (λ (z : Event). head_line bytes options z.point x.point ++ headed bytes options es) same
 
 -- behind a head
-pub walk-headed : (bytes : List ℕ) (options : ParseOptions) (events given new all : List Event) (at : ℕ) (d : Event) →
-    at < length events → is_head (drop at events) ≡ true →
-    new ≡ given ++ head_line bytes options (get_or events at d).point (get_or events (at + 1) d).point →
-    given ++ headed bytes options (drop at events) ≡ all → new ++ headed bytes options (drop (at + 2) events) ≡ all
-walk-headed bytes options events given new all at d within head is so_far =
-    let more : at + 1 < length events = head-within events at head in
-    let second : drop (at + 1) events ≡ get_or events (at + 1) d ∷ drop (at + 2) events =
-    drop_more events (at + 1) d more ∙ ap (λ (n : ℕ). get_or events (at + 1) d ∷ drop n events) (omega arith) in
-    let first : drop at events ≡ get_or events at d ∷ get_or events (at + 1) d ∷ drop (at + 2) events =
-    drop_more events at d within ∙ ap (λ (l : List Event). get_or events at d ∷ l) second in
-    let begins = headed-begins bytes options (get_or events at d) (get_or events (at + 1) d) (drop (at + 2) events)
-    (ap is_head (sym first) ∙ head) in
-    rw is
-    (append_assoc given (head_line bytes options (get_or events at d).point (get_or events (at + 1) d).point)
-    (headed bytes options (drop (at + 2) events))
-    ∙ ap (λ (l : List Event). given ++ l) (sym begins)
-    ∙ ap (λ (l : List Event). given ++ headed bytes options l) (sym first) ∙ so_far)
+pub leads-headed : (bytes : List ℕ) (options : ParseOptions) (events : List Event) (old new : Rewriting)
+    (head : List Event) (e d : Event) → left_of old ≡ e ∷ drop 1 (left_of old) → is_head (left_of old) ≡ true →
+    left_of new ≡ drop 2 (left_of old) → held_of new ≡ [] → written_of new ≡ given_of old ++ head →
+    head ≡ head_line bytes options e.point (get_or (left_of old) 1 d).point → ArePlaced bytes head →
+    Leads bytes options events old → Leads bytes options events new
+leads-headed bytes options events old new head e d first is left held written read placed h =
+    let rest : List Event = left_of old in
+    let given : given_of new ≡ given_of old ++ head = ap (λ (l : List Event). written_of new ++ l) held
+    ∙ append-nil (written_of new) ∙ written in
+    record {
+      given = subst (ArePlaced bytes) (sym given)
+          (All-append (λ (e : Event). IsPlaced bytes e.point) (given_of old) head h.given placed);
+      left = subst (ArePlaced bytes) (sym left) (All-drop (λ (e : Event). IsPlaced bytes e.point) 2 rest h.left);
+      whole = ap (λ (l : List Event). l ++ headed bytes options (left_of new)) given
+          ∙ ap (λ (l : List Event). (given_of old ++ head) ++ headed bytes options l) left
+          ∙ append_assoc (given_of old) head (headed bytes options (drop 2 rest))
+          ∙ ap (λ (l : List Event). given_of old ++ (l ++ headed bytes options (drop 2 rest))) read
+          ∙ ap (λ (l : List Event). given_of old ++ l) (sym (headed-two bytes options rest e d first is)) ∙ h.whole;
+    }
+
+-- where nothing is left
+pub leads-all : (bytes : List ℕ) (options : ParseOptions) (events : List Event) (all : Rewriting) → left_of all ≡ [] →
+    Leads bytes options events all → given_of all ≡ headed bytes options events
+leads-all bytes options events all none h =
+    sym (append-nil (given_of all))
+    ∙ ap (λ (l : List Event). given_of all ++ headed bytes options l) (sym none) ∙ h.whole

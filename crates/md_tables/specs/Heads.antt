@@ -1,10 +1,9 @@
 -- The heads of tables, among the events (GFM 4.10).
 --
--- Text is first read a line at a time: each line is one chunk of content. Where a delimiter row stands behind a line of
--- text and fits it, that line is the head of a table. Then it is read again, as a row, and is a table of one row; the
--- delimiter row goes on it, as each further line of the table does.
+-- Text is first read a line at a time: each line is one chunk of content. Where a delimiter row follows a line of text
+-- and fits it, that line is the head of a table. Then it is read again, as a row, and is a table of one row; the
+-- delimiter row continues it, as each further line of the table does.
 use Rattle.std.specs.Prelude.{ℕ, Bool, true, false, ◌&&◌, ◌||◌, if◌then◌else◌, List, [], ◌∷◌, ◌++◌}
-use Rattle.std.specs.List.{list_any}
 use Rattle.md_engine.specs.declared.configuration.ParseOptions.{ParseOptions}
 use Rattle.md_engine.specs.declared.event.Event.{Event}
 use Rattle.md_engine.specs.declared.event.Name.{Name}
@@ -35,7 +34,7 @@ is_table _ = false
 abbrev pub begins_chunk : Event → Bool
 begins_chunk e = is_enter e.kind && is_chunk e.name
 
--- whether a line of a table begins here that goes on the line in front of it
+-- whether a further row begins here: a line of a table that continues the line before
 abbrev pub begins_further_row : Event → Bool
 begins_further_row e = is_enter e.kind && (is_table e.name && links_back e.link)
 
@@ -44,18 +43,14 @@ begins_further_row e = is_enter e.kind && (is_table e.name && links_back e.link)
 abbrev pub stops_look : Event → Bool
 stops_look e = is_chunk e.name || is_blank_ending e.name || is_block (role e.name)
 
--- whether what comes next behind a line is one of a table that goes on it
+-- whether what comes next behind a line is a further row
 abbrev pub meets_table : List Event → Bool
 meets_table [] = false
 meets_table (e ∷ es) = if stops_look e then begins_further_row e else meets_table es
 
--- whether any line of a table goes on the one in front of it
-abbrev pub has_delimiter : List Event → Bool
-has_delimiter events = list_any begins_further_row events
-
 -- What it is read as.
 
--- the cells of a text from a point up to where another stands
+-- the cells of a text from a point up to another
 abbrev pub cells_between : List ℕ → ParseOptions → Point → Point → List Cell
 cells_between bytes options p q = text_feed (reads_to (fresh bytes options p) q.index).setting p
 

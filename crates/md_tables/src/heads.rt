@@ -1,10 +1,11 @@
 // The heads of tables, in one walk over the events.
 //
-// A line of text is one chunk until it is known that a delimiter row stands behind it. Then the line is read again, by
-// the states of a head row. The walk looks at each event as it passes it, and else at most once from the line of text
-// in front of it. So it is linear.
+// A line of text is one chunk until a delimiter row is found behind it. Then the line is read again, by the states of a
+// head row. The walk begins just before the first delimiter row; a text without one is only searched for it. It tests
+// each event as it passes it, and else at most once from the line of text before it. So it is linear.
 
-ghost use Rattle.std.specs.Prelude.{◌≡◌, ◌≢◌, ◌≤◌, ◌++◌, IfOk, IfSome, None, [], length, not};
+ghost use Rattle.std.specs.Prelude.{◌≡◌, ◌≢◌, ℕ, ◌≤◌, ◌++◌, IfOk, IfSome, List, None, OnOk, [], drop, length, not};
+ghost use Rattle.std.specs.Prelude.{take};
 ghost use Rattle.std.specs.List.{prefix_len};
 ghost use Rattle.std.specs.Option.{option_map};
 ghost use Rattle.md_engine.specs.Found.{found_in};
@@ -14,15 +15,15 @@ ghost use Rattle.md_engine.specs.Run.{RunsHere};
 ghost use Rattle.md_engine.specs.Place.{IsPlaced};
 ghost use Rattle.md_engine.specs.Scheme.{stands};
 ghost use Rattle.md_engine.specs.World.{looks, world};
+ghost use Rattle.md_engine.specs.declared.configuration.ParseOptions.{ParseOptions};
 ghost use Rattle.md_engine.specs.declared.state.Name.{Name as StateName};
 ghost use Rattle.md_engine.specs.declared.state.State.{State};
 ghost use Rattle.md_seam.specs.Parts.{ArePlaced};
 ghost use Rattle.md_seam.specs.Stays.{TakesEach};
 ghost use Rattle.md_tables.specs.HeadStates.{HeadStep, head_scheme, head_transition};
-ghost use Rattle.md_tables.specs.Heads.{begins_chunk, begins_further_row, has_delimiter, head_line, headed, is_head};
+ghost use Rattle.md_tables.specs.Heads.{begins_chunk, begins_further_row, head_line, headed, is_head};
 ghost use Rattle.md_tables.specs.Heads.{meets_table, stops_look};
 
-use crate::giving::give;
 use crate::row::{self, Place, Row, place_of};
 use crate::row_words;
 use md_engine::configuration::ParseOptions;
@@ -35,11 +36,12 @@ use md_engine::stay::Stay;
 use md_engine::subtokenize::Subresult;
 use md_engine::table::{Table, flush, push as feed};
 use md_engine::tokenizer::Tokenizer;
-use md_seam::moving::append;
 use md_seam::names::is_block;
+use md_seam::rewriting::Rewriting;
 use md_seam::space_or_tab;
 use md_seam::walks::{Test, passing};
 use std::alloc::Global;
+use std::mem;
 
 /// Calls a state of the table of heads; parts of a row are taken at once.
 #[inline(always)]
@@ -105,24 +107,26 @@ impl Table for HeadTable {
     }
 }
 
-/// Adds the head whose line stands between two points, a table of one row.
-fn push_head(
+/// The events of the head whose line is between two points, a table of one row, in place of what is in `events`.
+///
+/// After an `Err` the list means nothing.
+fn read_head(
     alloc: Global,
     bytes: &[u8],
     options: &ParseOptions,
     first: Point,
     after: Point,
-    given: Vec<Event>,
-) -> Result<Vec<Event>, Message>
+    events: &mut Vec<Event>,
+) -> Result<(), Message>
     requires first { IsPlaced bytes.now first }
     requires after { IsPlaced bytes.now after }
-    requires placed { ArePlaced bytes.now given.items }
-    ensures events { IfOk result
-        (λ all. all.items ≡ given.items ++ head_line bytes.now options.now first after) }
-    ensures placed { IfOk result (λ all. ArePlaced bytes.now all.items) }
+    ensures events { OnOk result (events.new.items ≡ head_line bytes.now options.now first after) }
+    ensures placed { OnOk result (ArePlaced bytes.now events.new.items) }
 {
     let mut tokenizer = Tokenizer::new(alloc, first, bytes, options);
-    tokenizer.set_events(given, Vec::new(alloc));
+    events.clear();
+    let list = mem::replace(events, Vec::new(alloc));
+    tokenizer.set_events(list);
     tokenizer.enter(Name::GfmTable)?;
     let start = State::Next(StateName::GfmTable(TableState::HeadRowBefore));
     let state = match feed::<HeadTable>(&mut tokenizer, after.index, start) {
@@ -131,7 +135,8 @@ fn push_head(
     };
     flush::<HeadTable>(&mut tokenizer, state, false)?;
     tokenizer.exit(Name::GfmTable)?;
-    Ok(tokenizer.events)
+    *events = tokenizer.events;
+    Ok(())
 }
 
 /// Whether a line of text begins here.
@@ -141,7 +146,7 @@ fn begins_chunk(event: &Event) -> bool
     matches!(event.name, Name::Content) && matches!(event.kind, Kind::Enter)
 }
 
-/// Whether a line of a table begins here that goes on the line in front of it.
+/// Whether a further row begins here: a line of a table that continues the line before.
 fn begins_further_row(event: &Event) -> bool
     ensures { result ≡ begins_further_row event.now }
 {
@@ -157,7 +162,7 @@ fn stops_look(event: &Event) -> bool
     matches!(event.name, Name::Content | Name::BlankLineEnding) || is_block(event.name)
 }
 
-/// Whether what comes next behind a line is one of a table that goes on it.
+/// Whether what comes next behind a line is a further row.
 fn meets_table(events: &[Event]) -> bool
     ensures { result ≡ meets_table events.now }
 {
@@ -179,11 +184,36 @@ fn is_head(events: &[Event]) -> bool
     events.len() >= 2 && begins_chunk(&events[0]) && meets_table(&events[2..])
 }
 
-/// Whether any line of a table goes on the one in front of it: else there is no head.
-pub fn has_delimiter(events: &[Event]) -> bool
-    ensures { result ≡ has_delimiter events.now }
+/// Whether no further row begins at an event.
+struct BeginsNoFurtherRow;
+
+impl Test for BeginsNoFurtherRow {
+    ghost passes = { λ test e. not (begins_further_row e) };
+
+    fn passes(&self, event: &Event) -> bool {
+        !begins_further_row(event)
+    }
+}
+
+/// How many events come before the first line of text that may be a head; all, if there is no further row.
+///
+/// Behind the two events of a head, a look stops first at a further row. So where a look stops at an event before the
+/// first further row, no head begins two or more events before that one.
+fn until_head(events: &[Event]) -> usize
+    ensures passed { (bytes : List ℕ) (options : ParseOptions) →
+        headed bytes options events.now ≡
+        take result events.now ++ headed bytes options (drop result events.now) }
+    ensures within { result ≤ length events.now }
 {
-    events.iter().any(begins_further_row)
+    let row = passing(&BeginsNoFurtherRow, events);
+    if row == events.len() {
+        return row;
+    }
+    let mut at = row;
+    while at > 0 && !stops_look(&events[at - 1]) {
+        at -= 1;
+    }
+    at.saturating_sub(2)
 }
 
 /// Whether no line of text begins at an event.
@@ -197,7 +227,7 @@ impl Test for BeginsNoChunk {
     }
 }
 
-/// How many events stand in front of the first line of text.
+/// How many events come before the first line of text.
 fn until_chunk(events: &[Event]) -> usize
     ensures value { result ≡ prefix_len (λ e. not (begins_chunk e)) events.now }
     ensures within { result ≤ length events.now }
@@ -205,39 +235,38 @@ fn until_chunk(events: &[Event]) -> usize
     passing(&BeginsNoChunk, events)
 }
 
-/// The events with each head in the place of its chunk, written into `spare`, which is empty.
+/// The events with each head in the place of its chunk, in the list of the events.
 #[inline(never)]
-pub fn put_heads(
+fn put_heads(
     alloc: Global,
     bytes: &[u8],
     options: &ParseOptions,
-    events: &[Event],
-    spare: Vec<Event>,
+    events: Vec<Event>,
 ) -> Result<Vec<Event>, Message>
-    requires empty { spare.items ≡ [] }
-    requires placed { ArePlaced bytes.now events.now }
-    ensures events { IfOk result (λ all. all.items ≡ headed bytes.now options.now events.now) }
+    requires placed { ArePlaced bytes.now events.items }
+    ensures events { IfOk result (λ all. all.items ≡ headed bytes.now options.now events.items) }
     ensures placed { IfOk result (λ all. ArePlaced bytes.now all.items) }
 {
-    let mut given = spare;
-    let mut at = 0;
-    while at < events.len() {
-        let many = until_chunk(&events[at..]);
-        append(&mut given, &events[at..][..many])?;
-        at += many;
-        if is_head(&events[at..]) {
-            let (first, after) = (events[at].point, events[at + 1].point);
-            given = push_head(alloc, bytes, options, first, after, given)?;
-            at += 2;
-        } else if at < events.len() {
-            give(&mut given, &events[at])?;
-            at += 1;
+    let mut all = Rewriting::new(events);
+    let many = until_head(all.left());
+    all.hold_many(many);
+    let mut head = Vec::new(alloc);
+    while let Some(event) = all.first() {
+        if !is_head(all.left()) {
+            let many = 1 + until_chunk(&all.left()[1..]);
+            all.hold_many(many);
+            continue;
         }
+        let after = all.left()[1].point;
+        read_head(alloc, bytes, options, event.point, after, &mut head)?;
+        all.skip(2);
+        all.push_all(&head)?;
     }
-    Ok(given)
+    all.give();
+    Ok(all.finish())
 }
 
-/// Puts each head in the place of its chunk. Where no line of a table goes on another nothing is copied.
+/// Puts each head in the place of its chunk. Where there is none, no event is moved.
 ///
 /// After an `Err` the parse has failed, and the tokenizer is only dropped.
 pub fn resolve(tokenizer: &mut Tokenizer) -> Result<Option<Subresult>, Message>
@@ -247,18 +276,8 @@ pub fn resolve(tokenizer: &mut Tokenizer) -> Result<Option<Subresult>, Message>
         world tokenizer.new ≡ record w { events = headed w.setting.bytes w.setting.options w.events }) }
     ensures found { IfOk result (λ found. option_map found_in found ≡ None) }
 {
-    if !has_delimiter(&tokenizer.events) {
-        return Ok(None);
-    }
     let events = tokenizer.take_events();
-    let spare = tokenizer.take_spare();
-    let headed = put_heads(
-        tokenizer.alloc,
-        tokenizer.bytes,
-        tokenizer.options,
-        &events,
-        spare,
-    )?;
-    tokenizer.set_events(headed, events);
+    let headed = put_heads(tokenizer.alloc, tokenizer.bytes, tokenizer.options, events)?;
+    tokenizer.set_events(headed);
     Ok(None)
 }

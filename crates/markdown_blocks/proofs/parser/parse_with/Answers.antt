@@ -9,7 +9,7 @@ use Rattle.md_container_rooms.specs.Footnotes.{footnotes_listed}
 use Rattle.markdown_blocks.specs.Parsed.{IsRead}
 use Rattle.markdown_blocks.proofs.ReadsWith.{IsAhead, parts-asked, reads-with}
 use Rattle.markdown_blocks.proofs.parser.parse_with.Given.{Over}
-use Rattle.markdown_blocks.proofs.parser.parse_with.Goals.{After-deref-2}
+use Rattle.markdown_blocks.proofs.parser.parse_with.Goals.{After-reader-1}
 use Rattle.markdown_blocks.proofs.parser.parse_with.Goals as goal
 
 pub read_front-requires : goal.read_front-requires
@@ -30,13 +30,12 @@ read_flow-requires-clause-begins g c = c.in_ok-front.ensures.point
 
 pub subtokenize-requires-clause-placed : goal.subtokenize-requires-clause-placed
 subtokenize-requires-clause-placed g c =
-    let events_are = c.deref-2.ensures.value ∙ ap (λ (w : World). w.events) c.take_spare-spare.ensures.same in
     let same : c.in_ok-tokenizer.tokenizer.bytes.now ≡
     c.as_bytes-bytes.result.now = ap (λ (x : Setting). x.bytes) c.in_ok-tokenizer.ensures.setting in
-    rw events_are (rw same at c.in_ok-tokenizer.tokenizer.sound.right)
+    rw same at c.in_ok-tokenizer.tokenizer.sound.right
 
 -- the state that the layer is told
-abbrev state_of : (g : Over) → After-deref-2 g → ParseState
+abbrev state_of : (g : Over) → After-reader-1 g → ParseState
 state_of g c = record {
   options = c.args.options;
   bytes = c.as_bytes-bytes.result;
@@ -45,14 +44,11 @@ state_of g c = record {
 }
 
 -- what is known before it reads a part
-is-ahead : (g : Over) (c : After-deref-2 g) →
+is-ahead : (g : Over) (c : After-reader-1 g) →
     IsAhead (state_of g c) c.in_ok-front.front.point (found_in c.in_ok-tokenizer.found)
-    (world c.in_ok-tokenizer.tokenizer) c.in_ok-front.front.events.items c.deref-2.result.now
+    (world c.in_ok-tokenizer.tokenizer) c.in_ok-front.front.events.items c.in_ok-tokenizer.tokenizer.events.items
 is-ahead g c =
     let bytes : List ℕ = c.as_bytes-bytes.result.now in
-    let items : List Event = c.deref-2.result.now in
-    let items_are : items ≡ (world c.in_ok-tokenizer.tokenizer).events =
-    c.deref-2.ensures.value ∙ ap (λ (w : World). w.events) c.take_spare-spare.ensures.same in
     let same : c.in_ok-tokenizer.tokenizer.bytes.now ≡ bytes =
     ap (λ (x : Setting). x.bytes) c.in_ok-tokenizer.ensures.setting in
     let text : bytes ≡ c.args.value.now = c.as_bytes-bytes.ensures.value in
@@ -64,29 +60,30 @@ is-ahead g c =
       starts = c.in_ok-front.ensures.point;
       marks = c.in_ok-front.ensures.events;
       flow = c.in_ok-tokenizer.ensures;
-      items_are = items_are;
+      items_are = refl;
       mark_placed = rw c.in_ok-front.ensures.bytes_are at c.in_ok-front.front.sound.right;
-      items_placed = rw items_are (rw same at c.in_ok-tokenizer.tokenizer.sound.right);
+      items_placed = rw same at c.in_ok-tokenizer.tokenizer.sound.right;
       definitions = refl;
       footnotes =
           c.in_ok-footnotes.ensures
-          ∙ ap (footnotes_listed c.args.options.now bytes) (c.deref.ensures.value ∙ sym items_are);
+          ∙ ap (footnotes_listed c.args.options.now bytes) c.deref.ensures.value;
     }
 
 pub subtokenize-requires-clause-asked : goal.subtokenize-requires-clause-asked
 subtokenize-requires-clause-asked g c =
     parts-asked (state_of g c) c.in_ok-front.front.point (found_in c.in_ok-tokenizer.found)
-    (world c.in_ok-tokenizer.tokenizer) c.in_ok-front.front.events.items c.deref-2.result.now (is-ahead g c)
+    (world c.in_ok-tokenizer.tokenizer) c.in_ok-front.front.events.items c.in_ok-tokenizer.tokenizer.events.items
+    (is-ahead g c)
 
 pub returns : goal.returns
 returns g c =
-    let before : After-deref-2 g = (goal.at.returns g c).After-deref-2 in
+    let before : After-reader-1 g = (goal.at.returns g c).After-reader-1 in
     let state : ParseState = state_of g before in
     subst
     (λ (l : List ℕ).
     IsRead (g.I.Inline.reads c.args.inline.now) l c.args.options.now c.in_ok-events.events.items state)
     c.as_bytes-bytes.ensures.value
     (reads-with state c.in_ok-front.front.point (found_in c.in_ok-tokenizer.found) (world c.in_ok-tokenizer.tokenizer)
-    c.in_ok-front.front.events.items c.deref-2.result.now (is-ahead g before) (g.I.Inline.reads c.args.inline.now)
+    c.in_ok-front.front.events.items c.in_ok-tokenizer.tokenizer.events.items (is-ahead g before) (g.I.Inline.reads c.args.inline.now)
     (g.met.I.Inline.keeps_frame c.args.inline.now (document_of state)) c.in_ok-body.body.items
     c.in_ok-events.events.items c.in_ok-body.ensures.substituted c.in_ok-events.ensures)

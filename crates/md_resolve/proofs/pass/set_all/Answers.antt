@@ -1,10 +1,14 @@
-use Rattle.std.proofs.Common.{◌∙◌, ap, sym}
-use Rattle.md_order.specs.InOrder.{in_order}
+use Rattle.std.proofs.Common.{sym, subst, ◌∙◌}
+use Rattle.md_seam.specs.Parts.{ArePlaced}
+use Rattle.md_resolve.proofs.PassLaws.{now_of, passed-done}
+use Rattle.md_resolve.proofs.Same.{in_order-placed}
 use Rattle.md_resolve.proofs.pass.set_all.Goals as goal
 
-pub returns-clause-events : goal.returns-clause-events
-returns-clause-events c =
-    c.in_ok-set.ensures.events
-    ∙ ap (in_order c.wanted_here-here.result c.args.bytes.now) (sym c.deref.ensures.value)
-    ∙ c.wanted_here-here.ensures.order c.args.bytes.now
-    ∙ ap (in_order c.args.wanted c.args.bytes.now) c.deref.ensures.value
+pub returns-clause-placed : goal.returns-clause-placed
+returns-clause-placed c = λ text h.
+    subst (ArePlaced text)
+    (sym
+    (c.finish.ensures ∙ c.give.ensures.written
+    ∙ passed-done c.args.wanted c.args.bytes.now c.args.events.items (now_of c.loop-event.walk) c.loop-event.invariant
+    c.in_default.ensures.none))
+    (in_order-placed text c.args.wanted c.args.bytes.now c.args.events.items h)

@@ -1,19 +1,19 @@
-use Rattle.std.proofs.Common.{List, [], ◌++◌, length, drop, ◌-◌}
-use Rattle.md_engine.specs.declared.event.Event.{Event}
+use Rattle.std.proofs.Common.{drop, length}
 use Rattle.md_seam.specs.Parts.{ArePlaced}
-use Rattle.md_seam.specs.Substituted.{EachAsked, Substituted}
+use Rattle.md_seam.specs.Rewritten.{given_of, left_of}
+use Rattle.md_seam.specs.Substituted.{EachAsked}
+use Rattle.md_seam.proofs.SubstitutedLemmas.{Leads}
 use Rattle.md_seam.proofs.subtokenize.subtokenize.Given as goal
 
-abbrev pub invariant-loop-at : goal.invariant-loop-at
-invariant-loop-at g l = record {
-  all : ArePlaced (g.R.Reader.text l.reader) l.all.items;
+abbrev pub invariant-loop-event : goal.invariant-loop-event
+invariant-loop-event g l = record {
+  given : ArePlaced (g.R.Reader.text l.reader) (given_of l.all);
+  left : ArePlaced (g.R.Reader.text l.reader) (left_of l.all);
   found : ArePlaced (g.R.Reader.text l.reader) l.found.events.items;
-  substituted : (out : List Event) →
-      Substituted (g.R.Reader.wants l.reader) (g.R.Reader.reads_as l.reader)
-      (drop l.found.placed l.found.events.items) l.found.chunks (drop l.at l.events) out →
-      Substituted (g.R.Reader.wants l.reader) (g.R.Reader.reads_as l.reader) [] 0 l.events (l.all.items ++ out);
-  asked : EachAsked (g.R.Reader.wants l.reader) (g.R.Reader.may_read l.reader) l.found.chunks (drop l.at l.events);
+  substituted : Leads (g.R.Reader.wants l.reader) (g.R.Reader.reads_as l.reader) l.fn.events.items
+      (drop l.found.placed l.found.events.items) l.found.chunks (left_of l.all) (given_of l.all);
+  asked : EachAsked (g.R.Reader.wants l.reader) (g.R.Reader.may_read l.reader) l.found.chunks (left_of l.all);
 }
 
-abbrev pub decreases-loop-at : goal.decreases-loop-at
-decreases-loop-at g l = length l.events - l.at
+abbrev pub decreases-loop-event : goal.decreases-loop-event
+decreases-loop-event g l = length (left_of l.all)

@@ -1,96 +1,77 @@
-use Rattle.std.proofs.Common.{◌+◌, None, arith, subst, sym}
+use Rattle.std.proofs.Common.{◌≡◌, ℕ, ◌+◌, List, ap, arith, drop, get_or, subst, sym, ◌∙◌, not}
+use Rattle.std.specs.List.{prefix_len}
 use Rattle.std.proofs.lemmas.List.{take_rest}
-use Rattle.std.proofs.lemmas.List.Elements.{All-push}
 use Rattle.md_engine.specs.declared.event.Event.{Event}
-use Rattle.md_engine.specs.declared.event.Kind.TheVariants.{Enter}
-use Rattle.md_engine.specs.declared.event.Name.TheVariants.{Frontmatter}
 use Rattle.md_engine.specs.Place.{IsPlaced}
 use Rattle.md_seam.specs.Parts.{ArePlaced}
-use Rattle.md_tables.proofs.HeadsWalk.{copied-placed, head-within, walk-copied, walk-headed, walk-passed}
+use Rattle.md_seam.specs.Rewritten.{left_of}
+use Rattle.md_tables.specs.Heads.{begins_chunk}
+use Rattle.md_tables.proofs.HeadsWalk.{head-two, headed-next, leads-all, leads-first, leads-headed, leads-held}
+use Rattle.md_tables.proofs.Unset.{unset}
 use Rattle.md_tables.proofs.heads.put_heads.Goals as goal
 
--- what indexing gives past the end of a list
-abbrev unset : Event
-unset = record {
-  kind = Enter;
-  name = Frontmatter;
-  point = record { line = 0; column = 0; index = 0; vs = 0 };
-  link = None;
-}
-
-pub push_head-requires-clause-first : goal.push_head-requires-clause-first
-push_head-requires-clause-first c =
-    let events = c.args.events.now in
-    let at = c.loop-at.at + c.until_chunk-many.result in
-    let head = head-within events at (rw (take_rest events at) at (sym c.if-is_head.ensures)) in
-    c.requires.placed at unset (omega (arith, head))
-
-pub push_head-requires-clause-after : goal.push_head-requires-clause-after
-push_head-requires-clause-after c =
-    let events = c.args.events.now in
-    let at = c.loop-at.at + c.until_chunk-many.result in
-    c.requires.placed (at + 1) unset
-    (head-within events at (rw (take_rest events at) at (sym c.if-is_head.ensures)))
-
-pub push_head-requires-clause-placed : goal.push_head-requires-clause-placed
-push_head-requires-clause-placed c =
-    let events = c.args.events.now in
-    copied-placed c.args.bytes.now events c.loop-at.given.items c.append.new.events.items c.loop-at.at
-    c.until_chunk-many.result (rw (take_rest events c.loop-at.at) at c.in_ok-append.ensures) c.requires.placed
-    c.loop-at.invariant.placed
-
-pub loop-at-preserved : goal.loop-at-preserved
-loop-at-preserved c =
+pub loop-event-init : goal.loop-event-init
+loop-event-init c =
     let bytes = c.args.bytes.now in
-    let events = c.args.events.now in
-    let at = c.loop-at.at in
-    let many = c.until_chunk-many.result in
-    let is = rw (take_rest events at) at c.in_ok-append.ensures in
-    record {
-      events =
-          walk-copied bytes c.args.options.now events c.loop-at.given.items c.append.new.events.items _ at many is
-          (rw (take_rest events at) at c.until_chunk-many.ensures.value) c.loop-at.invariant.events;
-      placed =
-          copied-placed bytes events c.loop-at.given.items c.append.new.events.items at many is c.requires.placed
-          c.loop-at.invariant.placed;
-    }
+    let options = c.args.options.now in
+    let begun = c.new-all.ensures in
+    let held = c.hold_many.ensures in
+    let passed = rw c.left.ensures at (c.until_head-many.ensures.passed bytes options) in
+    leads-held bytes options c.args.events.items c.new-all.result c.hold_many.new.self c.until_head-many.result
+    held.left held.held held.written passed
+    (leads-first bytes options c.args.events.items c.new-all.result begun.left begun.held begun.written
+    c.requires.placed)
 
-pub loop-at-preserved-then-is_head : goal.loop-at-preserved-then-is_head
-loop-at-preserved-then-is_head c =
-    let bytes = c.args.bytes.now in
-    let events = c.args.events.now in
-    let at = c.loop-at.at in
-    let many = c.until_chunk-many.result in
-    let head = rw (take_rest events (at + many)) at (sym c.if-is_head.ensures) in
-    let within = head-within events (at + many) head in
-    record {
-      events =
-          walk-headed bytes c.args.options.now events c.append.new.events.items c.in_ok-given.given.items _
-          (at + many) unset (omega (arith, within)) head c.in_ok-given.ensures.events
-          (walk-copied bytes c.args.options.now events c.loop-at.given.items c.append.new.events.items _ at many
-          (rw (take_rest events at) at c.in_ok-append.ensures)
-          (rw (take_rest events at) at c.until_chunk-many.ensures.value) c.loop-at.invariant.events);
-      placed = c.in_ok-given.ensures.placed;
-    }
+pub read_head-requires-clause-first : goal.read_head-requires-clause-first
+read_head-requires-clause-first c =
+    let is = sym c.is_head.ensures ∙ c.if-not-is_head.false in
+    let two = head-two (left_of c.loop-event.all) (rw c.left-in-Some.ensures at is) in
+    subst (λ (e : Event). IsPlaced c.args.bytes.now e.point)
+    (ap (λ (l : List Event). get_or l 0 unset) c.in-Some.ensures.some)
+    (c.loop-event.invariant.left 0 unset (omega (arith, two)))
 
-pub loop-at-preserved-then-at-events : goal.loop-at-preserved-then-at-events
-loop-at-preserved-then-at-events c =
+pub read_head-requires-clause-after : goal.read_head-requires-clause-after
+read_head-requires-clause-after c =
+    let is = sym c.is_head.ensures ∙ c.if-not-is_head.false in
+    let two = head-two (left_of c.loop-event.all) (rw c.left-in-Some.ensures at is) in
+    rw c.left-in-Some-2.ensures (c.loop-event.invariant.left 1 unset two)
+
+pub loop-event-preserved-then-not-is_head : goal.loop-event-preserved-then-not-is_head
+loop-event-preserved-then-not-is_head c =
     let bytes = c.args.bytes.now in
-    let events = c.args.events.now in
-    let at = c.loop-at.at in
-    let many = c.until_chunk-many.result in
-    let is = rw (take_rest events at) at c.in_ok-append.ensures in
-    record {
-      events =
-          walk-passed bytes c.args.options.now events c.append.new.events.items c.give.new.given.items _ (at + many)
-          unset c.if-at-events.true (rw (take_rest events (at + many)) at (sym c.if-is_head.ensures))
-          c.in_ok-give.ensures
-          (walk-copied bytes c.args.options.now events c.loop-at.given.items c.append.new.events.items _ at many is
-          (rw (take_rest events at) at c.until_chunk-many.ensures.value) c.loop-at.invariant.events);
-      placed =
-          subst (ArePlaced bytes) (sym c.in_ok-give.ensures)
-          (All-push (λ (e : Event). IsPlaced bytes e.point) _ _
-          (copied-placed bytes events c.loop-at.given.items c.append.new.events.items at many is c.requires.placed
-          c.loop-at.invariant.placed)
-          (c.requires.placed (at + many) unset c.if-at-events.true));
-    }
+    let options = c.args.options.now in
+    let rest : List Event = left_of c.loop-event.all in
+    let held = c.hold_many-then-not-is_head.ensures in
+    let many : ℕ = 1 + c.until_chunk-many.result in
+    let run : c.until_chunk-many.result ≡ prefix_len (λ (e : Event). not (begins_chunk e)) (drop 1 rest) =
+    c.until_chunk-many.ensures.value
+    ∙ ap (prefix_len (λ (e : Event). not (begins_chunk e)))
+    (take_rest c.left-then-not-is_head.result.now 1 ∙ ap (drop 1) c.left-then-not-is_head.ensures) in
+    let none = sym c.is_head.ensures ∙ c.if-not-is_head.true in
+    leads-held bytes options c.args.events.items c.loop-event.all c.hold_many-then-not-is_head.new.self many held.left
+    held.held held.written
+    (headed-next bytes options c.in-Some.event rest many c.in-Some.ensures.some (rw c.left-in-Some.ensures at none)
+    (omega (arith, run)))
+    c.loop-event.invariant
+
+pub loop-event-preserved : goal.loop-event-preserved
+loop-event-preserved c =
+    let bytes = c.args.bytes.now in
+    let options = c.args.options.now in
+    let put = c.in_ok-push_all.ensures in
+    let read = c.in_ok-read_head.ensures in
+    let is = sym c.is_head.ensures ∙ c.if-not-is_head.false in
+    leads-headed bytes options c.args.events.items c.loop-event.all c.push_all.new.self c.read_head.new.events.items
+    c.in-Some.event unset c.in-Some.ensures.some (rw c.left-in-Some.ensures at is) (put.left ∙ c.skip.ensures.left)
+    (put.held ∙ c.skip.ensures.held) (rw (c.skip.ensures.written, c.deref.ensures.value) at put.written)
+    (rw c.left-in-Some-2.ensures at read.events) read.placed c.loop-event.invariant
+
+pub returns-clause-placed : goal.returns-clause-placed
+returns-clause-placed c =
+    subst (ArePlaced c.args.bytes.now) (sym (c.finish.ensures ∙ c.give.ensures.written)) c.loop-event.invariant.given
+
+pub returns-clause-events : goal.returns-clause-events
+returns-clause-events c =
+    c.finish.ensures ∙ c.give.ensures.written
+    ∙ leads-all c.args.bytes.now c.args.options.now c.args.events.items c.loop-event.all c.in_default.ensures.none
+    c.loop-event.invariant

@@ -1,7 +1,7 @@
 use Rattle.std.proofs.Common.{refl, ◌≤◌, ℕ, length, subst}
 use Rattle.md_order.specs.Quiet.{MayHoldQuiet}
 use Rattle.md_resolve.specs.Counted.{counted}
-use Rattle.md_resolve.specs.Rewritten.{held_of}
+use Rattle.md_seam.specs.Rewritten.{held_of}
 use Rattle.md_resolve.specs.declared.heading_text.Stage.{Stage}
 use Rattle.md_resolve.proofs.HeadLaws.{head-closed, head-first, head-held-whole, head-next}
 use Rattle.md_resolve.proofs.PassLaws.{Now, now_of}

@@ -1,0 +1,66 @@
+-- A list of events that is rewritten in its own place.
+use Rattle.std.proofs.Common.{◌≡◌, ℕ, ◌+◌, ◌-◌, ◌≤◌, List, [], ◌∷◌, ◌++◌, take, drop, length, sym, ◌∙◌, ap, arith}
+use Rattle.std.proofs.Common.{append_assoc, append-nil, length-append, length-drop}
+use lib.Seq.{paste}
+use Rattle.std.proofs.Math.Seq.{take-add}
+use Rattle.std.proofs.lemmas.List.{drop-append-le, drop-drop, drop-take, drop_all, drop_at, length-take-le, take-append-le}
+use Rattle.std.proofs.lemmas.List.{take-append-drop, take-take, take_all, take_at}
+use Rattle.md_engine.specs.declared.event.Event.{Event}
+
+-- one event more is held
+pub held-more : (events : List Event) (done read : ℕ) (e : Event) → done ≤ read →
+    drop read events ≡ e ∷ drop 1 (drop read events) →
+    take (read + 1 - done) (drop done events) ≡ take (read - done) (drop done events) ++ e ∷ []
+held-more events done read e le front =
+    let k = read - done in
+    let at : drop k (drop done events) ≡ drop read events = drop-drop k done events
+    ∙ ap (λ (n : ℕ). drop n events) (omega arith) in
+    ap (λ (n : ℕ). take n (drop done events)) (omega arith)
+    ∙ take-add k 1 (drop done events)
+    ∙ ap (λ (es : List Event). take k (drop done events) ++ take 1 es) (at ∙ front)
+
+-- so many events more are held
+pub held-many : (events : List Event) (done read count : ℕ) → done ≤ read →
+    take (read + count - done) (drop done events) ≡ take (read - done) (drop done events) ++ take count (drop read events)
+held-many events done read count le =
+    let k = read - done in
+    let at : drop k (drop done events) ≡ drop read events = drop-drop k done events
+    ∙ ap (λ (n : ℕ). drop n events) (omega arith) in
+    ap (λ (n : ℕ). take n (drop done events)) (omega arith)
+    ∙ take-add k count (drop done events)
+    ∙ ap (λ (es : List Event). take k (drop done events) ++ take count es) at
+
+-- so many fewer are held
+pub held-fewer : (events : List Event) (done read count : ℕ) → count ≤ read - done →
+    take (read - (done + count)) (drop (done + count) events) ≡ drop count (take (read - done) (drop done events))
+held-fewer events done read count le =
+    let m = read - (done + count) in
+    sym
+    (ap (λ (n : ℕ). drop count (take n (drop done events))) (omega arith)
+    ∙ drop-take count m (drop done events)
+    ∙ ap (take m) (drop-drop count done events ∙ ap (λ (n : ℕ). drop n events) (omega arith)))
+
+-- so many events more are written
+pub piece-written : (events old new all : List Event) (at many : ℕ) → new ≡ old ++ take many (drop at events) →
+    old ++ drop at events ≡ all → new ++ drop (at + many) events ≡ all
+piece-written events old new all at many is so_far =
+    rw is
+    (append_assoc old (take many (drop at events)) (drop (at + many) events)
+    ∙ ap (λ (l : List Event). old ++ (take many (drop at events) ++ l)) (sym (drop-drop many at events))
+    ∙ ap (λ (l : List Event). old ++ l) (take-append-drop many (drop at events)) ∙ so_far)
+
+-- A list is made longer, and what is behind `done` is moved up by so many places.
+
+pub made-longer : (events more : List Event) (end many : ℕ) → end ≡ length events →
+    take (end + many) events ++ more ≡ events ++ more
+made-longer events more end many is = ap (λ (l : List Event). l ++ more) (take_all (end + many) events (omega arith))
+
+-- then so is what is behind it
+pub moved-behind : (events new : List Event) (done read many : ℕ) → done ≤ read →
+    drop (done + many) new ≡ drop done events → drop (read + many) new ≡ drop read events
+moved-behind events new done read many le moved =
+    ap (λ (n : ℕ). drop n new) (omega arith)
+    ∙ sym (drop-drop (read - done) (done + many) new)
+    ∙ ap (drop (read - done)) moved
+    ∙ drop-drop (read - done) done events
+    ∙ ap (λ (n : ℕ). drop n events) (omega arith)

@@ -1,0 +1,246 @@
+// A list of events that is rewritten in its own place.
+
+ghost use Rattle.std.specs.Prelude.{◌≡◌, ◌≤◌, ◌<◌, ◌+◌, [], ◌∷◌, ◌++◌, IfNone, IfSome, OnOk, drop, length, take};
+
+use crate::moving::{move_down, move_up};
+use md_engine::event::{Event, Kind, Name, Point};
+use md_engine::message::Message;
+
+/// So many events at least are made room for at once.
+const LEAST: usize = 16;
+
+/// So many events are written at once: the C library copies larger pieces by an instruction that goes byte by byte.
+const PIECE: usize = 48;
+
+/// What stands in a place that nothing was written to yet.
+const NOTHING: Event = Event {
+    kind: Kind::Enter,
+    name: Name::Data,
+    point: Point {
+        line: 0,
+        column: 0,
+        index: 0,
+        vs: 0,
+    },
+    link: None,
+};
+
+/// How many events to make room for where `need` are written behind `written`, and `behind` others have to be moved: at
+/// least an eighth of these, so that in all the moves are linear in the events; more where much was written for few.
+fn room_for(need: usize, written: usize, behind: usize) -> usize
+    ensures enough { need ≤ result }
+    ensures some { 0 < result }
+{
+    need.max(behind.min(written / 4)).max(behind / 8).max(LEAST)
+}
+
+/// A list that is read from its front on, and written again in the places that were read. What was read is held before
+/// it is written, so that many events are written at once. Where more is written than was read, all that is not written
+/// yet is moved up.
+#[derive(Drop)]
+pub struct Rewriting {
+    events: Vec<Event>,
+    /// In how many places stands what was written. Those behind it, up to the first that is held, are free.
+    written: usize,
+    /// Where the events begin that are held: those in front of them were written or left out.
+    done: usize,
+    /// Where the events begin that are left: those in front of them were read.
+    read: usize,
+    ghost within: { (written ≤ done) × (done ≤ read) × (read ≤ length events.items) },
+}
+
+impl Rewriting {
+    ghost use Rattle.md_seam.specs.Rewritten.{IsFirst, given_of, held_of, left_of, written_of};
+
+    /// The event that is left first.
+    pub fn first(&self) -> Option<Event>
+        ensures some { IfSome result (λ event. IsFirst event (left_of self.now)) }
+        ensures none { IfNone result (left_of self.now ≡ []) }
+    {
+        if self.read < self.events.len() {
+            Some(self.events[self.read])
+        } else {
+            None
+        }
+    }
+
+    /// The events that are left.
+    pub fn left(&self) -> &[Event]
+        ensures { result.now ≡ left_of self.now }
+    {
+        &self.events[self.read..]
+    }
+
+    /// Reads the event that is left first, and holds it.
+    pub fn hold(&mut self, _event: Event)
+        requires { IsFirst _event (left_of self.old) }
+        ensures left { left_of self.new ≡ drop 1 (left_of self.old) }
+        ensures held { held_of self.new ≡ held_of self.old ++ _event ∷ [] }
+        ensures written { written_of self.new ≡ written_of self.old }
+    {
+        self.read += 1;
+    }
+
+    /// Reads so many of the events that are left, and holds them.
+    pub fn hold_many(&mut self, count: usize)
+        requires { count ≤ length (left_of self.old) }
+        ensures left { left_of self.new ≡ drop count (left_of self.old) }
+        ensures held { held_of self.new ≡ held_of self.old ++ take count (left_of self.old) }
+        ensures written { written_of self.new ≡ written_of self.old }
+    {
+        self.read += count;
+    }
+
+    /// How many events are held.
+    pub fn held(&self) -> usize
+        ensures { result ≡ length (held_of self.now) }
+    {
+        self.read - self.done
+    }
+
+    /// Leaves out so many of the events that are held, from their front on.
+    pub fn leave_out(&mut self, count: usize)
+        requires { count ≤ length (held_of self.old) }
+        ensures left { left_of self.new ≡ left_of self.old }
+        ensures held { held_of self.new ≡ drop count (held_of self.old) }
+        ensures written { written_of self.new ≡ written_of self.old }
+    {
+        self.done += count;
+    }
+
+    /// Writes the events that are held.
+    pub fn give(&mut self)
+        ensures left { left_of self.new ≡ left_of self.old }
+        ensures held { held_of self.new ≡ [] }
+        ensures written { written_of self.new ≡ written_of self.old ++ held_of self.old }
+    {
+        move_down(&mut self.events, self.written, self.done, self.read);
+        self.written += self.read - self.done;
+        self.done = self.read;
+    }
+
+    /// Writes the events that are held, and leaves out so many of those that are left.
+    pub fn skip(&mut self, count: usize)
+        requires { count ≤ length (left_of self.old) }
+        ensures left { left_of self.new ≡ drop count (left_of self.old) }
+        ensures held { held_of self.new ≡ [] }
+        ensures written { written_of self.new ≡ given_of self.old }
+    {
+        self.give();
+        self.hold_many(count);
+        self.leave_out(count);
+    }
+
+    /// Makes room for so many events, and for more if many others have to be moved. An `Err` says that memory ran out.
+    #[inline(never)]
+    fn widen(&mut self, need: usize) -> Result<(), Message>
+        ensures left { left_of self.new ≡ left_of self.old }
+        ensures held { held_of self.new ≡ held_of self.old }
+        ensures written { written_of self.new ≡ written_of self.old }
+        ensures room { OnOk result (self.new.written + need ≤ self.new.done) }
+    {
+        let end = self.events.len();
+        let many = room_for(need, self.written, end - self.done);
+        let Some(new_end) = end.checked_add(many) else {
+            return Err(Message);
+        };
+        if self.events.resize(new_end, NOTHING).is_err() {
+            return Err(Message);
+        }
+        move_up(&mut self.events, self.done, many);
+        self.done += many;
+        self.read += many;
+        Ok(())
+    }
+
+    /// Makes room for so many events, where there is less.
+    #[inline(always)]
+    fn make_room(&mut self, need: usize) -> Result<(), Message>
+        ensures left { left_of self.new ≡ left_of self.old }
+        ensures held { held_of self.new ≡ held_of self.old }
+        ensures written { written_of self.new ≡ written_of self.old }
+        ensures room { OnOk result (self.new.written + need ≤ self.new.done) }
+    {
+        if self.done - self.written < need {
+            return self.widen(need);
+        }
+        Ok(())
+    }
+
+    /// Writes these events at once where there is room.
+    fn put_piece(&mut self, piece: &[Event])
+        requires { self.old.written + length piece.now ≤ self.old.done }
+        ensures left { left_of self.new ≡ left_of self.old }
+        ensures held { held_of self.new ≡ held_of self.old }
+        ensures written { written_of self.new ≡ written_of self.old ++ piece.now }
+        ensures room { (self.new.written ≡ self.old.written + length piece.now) × (self.new.done ≡ self.old.done) }
+    {
+        self.events[self.written..self.written + piece.len()].copy_from_slice(piece);
+        self.written += piece.len();
+    }
+
+    /// Writes an event where there is room.
+    fn put(&mut self, event: Event)
+        requires { self.old.written < self.old.done }
+        ensures left { left_of self.new ≡ left_of self.old }
+        ensures held { held_of self.new ≡ held_of self.old }
+        ensures written { written_of self.new ≡ written_of self.old ++ event ∷ [] }
+    {
+        self.events[self.written] = event;
+        self.written += 1;
+    }
+
+    /// Writes an event, in front of those that are held.
+    pub fn push(&mut self, event: Event) -> Result<(), Message>
+        ensures left { left_of self.new ≡ left_of self.old }
+        ensures held { held_of self.new ≡ held_of self.old }
+        ensures written { OnOk result (written_of self.new ≡ written_of self.old ++ event ∷ []) }
+    {
+        self.make_room(1)?;
+        self.put(event);
+        Ok(())
+    }
+
+    /// Writes events, in front of those that are held.
+    pub fn push_all(&mut self, events: &[Event]) -> Result<(), Message>
+        ensures left { left_of self.new ≡ left_of self.old }
+        ensures held { held_of self.new ≡ held_of self.old }
+        ensures written { OnOk result (written_of self.new ≡ written_of self.old ++ events.now) }
+    {
+        self.make_room(events.len())?;
+        let mut at = 0;
+        while at < events.len() {
+            let many = PIECE.min(events.len() - at);
+            self.put_piece(&events[at..][..many]);
+            at += many;
+        }
+        Ok(())
+    }
+
+    /// Begins to read these events.
+    pub fn new(events: Vec<Event>) -> Rewriting
+        ensures left { left_of result ≡ events.items }
+        ensures held { held_of result ≡ [] }
+        ensures written { written_of result ≡ [] }
+    {
+        Rewriting {
+            events,
+            written: 0,
+            done: 0,
+            read: 0,
+        }
+    }
+
+    /// What was written.
+    pub fn finish(self) -> Vec<Event>
+        ensures { result.items ≡ written_of self }
+    {
+        let Rewriting {
+            mut events,
+            written,
+            ..
+        } = self;
+        events.truncate(written);
+        events
+    }
+}
