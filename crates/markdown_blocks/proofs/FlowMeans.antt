@@ -22,7 +22,7 @@ use Rattle.md_engine.proofs.StepOf.{outermost-frames, sees, steps-as}
 use Rattle.md_content.proofs.ContentMeaning.{chunk_means}
 use Rattle.md_leaves.specs.Blank as blank
 use Rattle.md_leaves.proofs.BlankMeaning.{blank_means}
-use Rattle.md_seam.specs.Transition.{Transition, taken}
+use Rattle.md_seam.specs.Transition.{Transition}
 use Rattle.md_seam.proofs.SpacesTermination.{does-stands}
 use Rattle.md_seam.proofs.WhiteMeaning.{white_means}
 use Rattle.md_registry.specs.Document.{document_own_transition}
@@ -34,7 +34,6 @@ use Rattle.md_registry.specs.FlowRule.{HasFlow}
 use Rattle.md_registry.specs.FlowRule.{flow_at, line_ended}
 use Rattle.md_registry.specs.LineFlags as flags
 use Rattle.md_registry.specs.States.{FlowStep, flow_behaves, flow_behaves_by, flow_table_scheme, flow_transition}
-use Rattle.md_registry.specs.Registry.{behind}
 use Rattle.md_registry.proofs.FlowLemmas.{flow_by_line}
 use Rattle.md_registry.proofs.States.{flow_terminates}
 use Rattle.md_registry.proofs.ConstructStates.{construct-steps, container-states, leaf-states}

@@ -1,17 +1,15 @@
 -- Steps of a construct, and what the feed has where a state is called.
-use Rattle.std.proofs.Common.{◌≡◌, ◌⊎◌, ◌^◌, ◌<◌, ◌≤◌, ℕ, Bool, true, false, nat_lt, List, [], ◌∷◌, ◌++◌, length}
-use Rattle.std.proofs.Common.{Option, Some, None, refl, sym, ◌∙◌, arith, append-nil, inl, inr}
+use Rattle.std.proofs.Common.{◌≡◌, ◌⊎◌, ◌^◌, ◌<◌, ◌≤◌, Bool, true, false, nat_lt, List, [], ◌∷◌, ◌++◌}
+use Rattle.std.proofs.Common.{refl, sym, ◌∙◌, arith, append-nil, inl, inr}
 use Rattle.std.proofs.lemmas.Bool.Decides.{nat_tests}
 use Rattle.md_engine.specs.declared.event.Event.{Event}
-use Rattle.md_engine.specs.declared.event.Point.{Point}
 use Rattle.md_engine.specs.declared.state.State.{State}
 use Rattle.md_engine.specs.declared.tokenizer.Frame.{Frame}
-use Rattle.md_engine.specs.Meaning.{Behaviour, Cell, Feed, Follows, Steps, goes, here, line_of, resume}
-use Rattle.md_engine.specs.Place.{seen_at}
+use Rattle.md_engine.specs.Meaning.{Behaviour, Feed, Follows, Steps, goes, here, resume}
 use Rattle.md_engine.specs.Run.{reading}
 use Rattle.md_engine.specs.Scheme.{Scheme, after_all}
 use Rattle.md_engine.specs.Sees.{Sees, ahead}
-use Rattle.md_engine.specs.World.{World, after, looks}
+use Rattle.md_engine.specs.World.{World, looks}
 
 -- a step that begins no attempt
 pub moves : (B : Behaviour) (feed : Feed) (from to : State) (old new : World) (added : List Event) →

@@ -1,10 +1,9 @@
 -- A list of events that is rewritten in its own place.
 use Rattle.std.proofs.Common.{◌≡◌, ℕ, ◌+◌, ◌-◌, ◌≤◌, List, [], ◌∷◌, ◌++◌, take, drop, length, sym, ◌∙◌, ap, arith}
-use Rattle.std.proofs.Common.{append_assoc, append-nil, length-append, length-drop}
-use lib.Seq.{paste}
+use Rattle.std.proofs.Common.{append_assoc}
 use Rattle.std.proofs.Math.Seq.{take-add}
-use Rattle.std.proofs.lemmas.List.{drop-append-le, drop-drop, drop-take, drop_all, drop_at, length-take-le, take-append-le}
-use Rattle.std.proofs.lemmas.List.{take-append-drop, take-take, take_all, take_at}
+use Rattle.std.proofs.lemmas.List.{drop-drop, drop-take}
+use Rattle.std.proofs.lemmas.List.{take-append-drop, take_all}
 use Rattle.md_engine.specs.declared.event.Event.{Event}
 
 -- one event more is held
@@ -39,15 +38,6 @@ held-fewer events done read count le =
     (ap (λ (n : ℕ). drop count (take n (drop done events))) (omega arith)
     ∙ drop-take count m (drop done events)
     ∙ ap (take m) (drop-drop count done events ∙ ap (λ (n : ℕ). drop n events) (omega arith)))
-
--- so many events more are written
-pub piece-written : (events old new all : List Event) (at many : ℕ) → new ≡ old ++ take many (drop at events) →
-    old ++ drop at events ≡ all → new ++ drop (at + many) events ≡ all
-piece-written events old new all at many is so_far =
-    rw is
-    (append_assoc old (take many (drop at events)) (drop (at + many) events)
-    ∙ ap (λ (l : List Event). old ++ (take many (drop at events) ++ l)) (sym (drop-drop many at events))
-    ∙ ap (λ (l : List Event). old ++ l) (take-append-drop many (drop at events)) ∙ so_far)
 
 -- A list is made longer, and what is behind `done` is moved up by so many places.
 

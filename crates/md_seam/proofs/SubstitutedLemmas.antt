@@ -10,7 +10,7 @@ use Rattle.md_engine.specs.declared.event.Link.{Link}
 use Rattle.std.specs.Prelude.{Option, Some, None}
 use Rattle.std.specs.Option.{is_some}
 use Rattle.std.specs.List.{All, prefix_len}
-use Rattle.std.proofs.lemmas.List.{append-nil, drop-drop, drop_all, drop_more, take_all}
+use Rattle.std.proofs.lemmas.List.{append-nil, drop-drop, drop_more, take_all}
 use Rattle.std.proofs.lemmas.List.Elements.{All-nil, All-cons, All-head, All-tail}
 use Rattle.md_engine.specs.declared.event.Content.{Content}
 use Rattle.md_engine.specs.declared.event.Event.{Event}

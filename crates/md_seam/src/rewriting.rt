@@ -12,7 +12,7 @@ const LEAST: usize = 16;
 /// So many events are written at once: the C library copies larger pieces by an instruction that goes byte by byte.
 const PIECE: usize = 48;
 
-/// What stands in a place that nothing was written to yet.
+/// What fills a place that nothing was written to yet.
 const NOTHING: Event = Event {
     kind: Kind::Enter,
     name: Name::Data,
@@ -25,13 +25,15 @@ const NOTHING: Event = Event {
     link: None,
 };
 
-/// How many events to make room for where `need` are written behind `written`, and `behind` others have to be moved: at
-/// least an eighth of these, so that in all the moves are linear in the events; more where much was written for few.
-fn room_for(need: usize, written: usize, behind: usize) -> usize
+/// How many events to make room for where `need` are to be written and `behind` others have to be moved, after `read` were
+/// read and `added` more than these were written: as many as the others take if they grow as those did, at most half of
+/// their number, and at least a sixteenth of it, so that in all the moves are linear in the events.
+fn room_for(need: usize, added: usize, read: usize, behind: usize) -> usize
     ensures enough { need ≤ result }
     ensures some { 0 < result }
 {
-    need.max(behind.min(written / 4)).max(behind / 8).max(LEAST)
+    let expected = behind.saturating_mul(added) / read.max(1);
+    need.max(expected.min(behind / 2)).max(behind / 16).max(LEAST)
 }
 
 /// A list that is read from its front on, and written again in the places that were read. What was read is held before
@@ -40,7 +42,9 @@ fn room_for(need: usize, written: usize, behind: usize) -> usize
 #[derive(Drop)]
 pub struct Rewriting {
     events: Vec<Event>,
-    /// In how many places stands what was written. Those behind it, up to the first that is held, are free.
+    /// How many events there were.
+    begun: usize,
+    /// How many places hold what was written. Those behind them, up to the first event that is held, are free.
     written: usize,
     /// Where the events begin that are held: those in front of them were written or left out.
     done: usize,
@@ -140,7 +144,9 @@ impl Rewriting {
         ensures room { OnOk result (self.new.written + need ≤ self.new.done) }
     {
         let end = self.events.len();
-        let many = room_for(need, self.written, end - self.done);
+        let added = end.saturating_sub(self.begun);
+        let read = self.done.saturating_sub(added);
+        let many = room_for(need, added, read, end - self.done);
         let Some(new_end) = end.checked_add(many) else {
             return Err(Message);
         };
@@ -224,6 +230,7 @@ impl Rewriting {
         ensures written { written_of result ≡ [] }
     {
         Rewriting {
+            begun: events.len(),
             events,
             written: 0,
             done: 0,

@@ -1,8 +1,7 @@
 use Rattle.std.proofs.Common.{◌≡◌, ◌^◌, ◌<◌, ℕ, List, length, ◌∙◌, ap, refl, sym, subst, arith}
 use Rattle.std.specs.Str.{IsUtf8}
 use Rattle.md_engine.specs.Found.{found_in}
-use Rattle.md_engine.specs.World.{Setting, World, world}
-use Rattle.md_engine.specs.declared.event.Event.{Event}
+use Rattle.md_engine.specs.World.{Setting, world}
 use Rattle.md_engine.specs.declared.parse_state.ParseState.{ParseState}
 use Rattle.md_seam.specs.TextPart.{document_of}
 use Rattle.md_container_rooms.specs.Footnotes.{footnotes_listed}

@@ -1,5 +1,5 @@
 use Rattle.std.proofs.lemmas.List.Sums.{prefix_len-le-length}
-use Rattle.std.proofs.Common.{ℕ, ◌≡◌, ◌∙◌, ◌++◌, ◌||◌, Bool, List, ap, append_assoc, arith, drop, false, refl, subst, sym, take, true}
+use Rattle.std.proofs.Common.{ℕ, ◌≡◌, ◌∙◌, ◌++◌, ◌||◌, Bool, List, ap, arith, drop, false, refl, subst, sym, take, true}
 use Rattle.md_engine.specs.declared.event.Event.{Event}
 use Rattle.md_leaves.specs.declared.spans.Place.TheVariants.{Outside}
 use Rattle.md_leaves.specs.declared.spans.Walk.{Walk}
@@ -8,7 +8,6 @@ use Rattle.md_leaves.specs.SpannedWalk.{given_of, passing, rest_of}
 use Rattle.md_leaves.specs.Turned.{HoldNoUnderline, is_underline}
 use Rattle.md_seam.specs.Rewritten.{held_of, left_of, written_of}
 use Rattle.md_seam.specs.Parts.{ArePlaced}
-use Rattle.md_seam.proofs.PlainWhole.{if_ok-map}
 use Rattle.md_leaves.proofs.SpannedLemmas.{passing-on, plain-append, plain-given, plain-passed, spanned-placed, spanned-some}
 use Rattle.md_leaves.proofs.SpannedLemmas.{walk-done, walk-passed, walk-stepped}
 use Rattle.md_leaves.proofs.spans.join.Goals as goal

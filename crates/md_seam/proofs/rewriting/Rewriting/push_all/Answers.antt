@@ -2,7 +2,7 @@ use Rattle.std.proofs.Common.{arith, length, length-drop, ◌∙◌, ◌+◌, �
 use Rattle.std.proofs.lemmas.List.{length-take-le, take_rest}
 use Rattle.md_engine.specs.declared.event.Event.{Event}
 use Rattle.md_seam.specs.Rewritten.{written_of}
-use Rattle.md_seam.proofs.RewrittenLemmas.{piece-written}
+use Rattle.md_seam.proofs.MovingLemmas.{piece-appended}
 use Rattle.md_seam.proofs.rewriting.Rewriting.push_all.Goals as goal
 
 pub loop-at-preserved : goal.loop-at-preserved
@@ -17,7 +17,7 @@ loop-at-preserved c =
     record {
       left = c.put_piece.ensures.left ∙ c.loop-at.invariant.left;
       held = c.put_piece.ensures.held ∙ c.loop-at.invariant.held;
-      written = piece-written es (written_of c.loop-at.self) (written_of c.put_piece.new.self) _ at many
+      written = piece-appended es (written_of c.loop-at.self) (written_of c.put_piece.new.self) _ at many
           (rw (take_rest es at) at c.put_piece.ensures.written) c.loop-at.invariant.written;
       room = omega (arith, further, size, within, c.put_piece.ensures.room.1, c.loop-at.invariant.room, c.loop-at-test.true);
     }
