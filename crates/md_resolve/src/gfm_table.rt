@@ -12,7 +12,7 @@ use md_engine::resolve::Name;
 use md_engine::subtokenize::Subresult;
 use md_engine::tokenizer::Tokenizer;
 
-/// Gives tables their heads, bodies and cells. Where no table stands nothing is copied.
+/// Gives tables their heads, bodies and cells. Without a table nothing is copied.
 ///
 /// After an `Err` the parse has failed, and the tokenizer is only dropped.
 pub fn resolve(tokenizer: &mut Tokenizer) -> Result<Option<Subresult>, Message>

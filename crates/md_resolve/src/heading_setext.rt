@@ -12,7 +12,7 @@ use md_engine::resolve::Name;
 use md_engine::subtokenize::Subresult;
 use md_engine::tokenizer::Tokenizer;
 
-/// Makes a heading of each paragraph that has an underline and that underline. Where no event of an underline stands
+/// Makes a heading of each paragraph that has an underline and that underline. Without an event of an underline
 /// nothing is copied.
 ///
 /// After an `Err` the parse has failed, and the tokenizer is only dropped.

@@ -105,7 +105,7 @@ fn push_text(events: &mut Rewriting, first: Point, after: Option<Point>) -> Resu
     events.push(plain(Kind::Exit, Name::HeadingAtxText, after))
 }
 
-/// Where a walk over the events stands.
+/// The state of a walk over the events.
 #[derive(Clone, Copy)]
 pub enum Stage {
     Outside,
@@ -126,7 +126,7 @@ pub struct Text {
     after: Option<Point>,
     /// Where the last run has ended.
     last: Option<Point>,
-    /// How many of the events that are held stand between that text and the end of the last run: a run of `#`, which
+    /// How many of the events that are held lie between that text and the end of the last run: a run of `#`, which
     /// may close the heading.
     closing: usize,
 }
@@ -162,7 +162,7 @@ impl Walk {
     ghost use Rattle.md_order.specs.HeadingSteps.{finished, stepped};
     ghost use Rattle.md_resolve.specs.HeadingWalk.{walk_of};
 
-    /// Goes on with an event outside of headings.
+    /// Takes an event outside of headings.
     fn step_outside(&mut self, event: Event)
         requires stage { self.old.stage ≡ Stage.Outside }
         requires first { IsFirst event (left_of self.old.all) }
@@ -175,7 +175,7 @@ impl Walk {
         self.all.hold(event);
     }
 
-    /// Goes on with an event of a heading up to the end of its opening sequence.
+    /// Takes an event of a heading up to the end of its opening sequence.
     fn step_before(&mut self, event: Event)
         requires stage { self.old.stage ≡ Stage.Before }
         requires first { IsFirst event (left_of self.old.all) }
@@ -190,7 +190,7 @@ impl Walk {
         self.all.hold(event);
     }
 
-    /// Goes on with an event of a heading between its opening sequence and a further run.
+    /// Takes an event of a heading between its opening sequence and a further run.
     fn step_opened(&mut self, event: Event)
         requires stage { self.old.stage ≡ Stage.Opened }
         requires first { IsFirst event (left_of self.old.all) }
@@ -212,7 +212,7 @@ impl Walk {
         self.all.hold(event);
     }
 
-    /// Goes on with an event of a heading from its first further run on.
+    /// Takes an event of a heading from its first further run on.
     fn step_within(&mut self, event: Event) -> Result<(), Message>
         requires stage { self.old.stage ≡ Stage.Within }
         requires first { IsFirst event (left_of self.old.all) }
@@ -243,7 +243,7 @@ impl Walk {
         Ok(())
     }
 
-    /// Goes on with the event that is left first.
+    /// Takes the event that is left first.
     pub(crate) fn step(&mut self, event: Event) -> Result<(), Message>
         requires { IsFirst event (left_of self.old.all) }
         ensures left { OnOk result (left_of self.new.all ≡ drop 1 (left_of self.old.all)) }

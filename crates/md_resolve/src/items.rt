@@ -30,7 +30,7 @@ fn byte_at(bytes: &[u8], index: usize) -> u8
     if index < bytes.len() { bytes[index] } else { 0 }
 }
 
-/// The marker of the item behind whose begin these events stand: 0 if a block stands in front of it, or there is none.
+/// The marker of the item that these events follow the begin of: 0 if a block comes in front of it, or there is none.
 pub(crate) fn marker_ahead(bytes: &[u8], events: &[Event]) -> u8
     ensures { result ≡ marker_ahead bytes.now events.now }
 {
@@ -66,7 +66,7 @@ pub(crate) fn next_item(bytes: &[u8], events: &[Event]) -> Option<u8>
     None
 }
 
-/// Whether the list of an item with this marker goes on, by what the next block is.
+/// Whether the list of an item with this marker has a further item, by what the next block is.
 pub(crate) fn goes_on(marker: u8, next: Option<u8>) -> bool
     ensures { result ≡ goes_on marker next }
 {

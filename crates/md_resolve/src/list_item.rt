@@ -12,7 +12,7 @@ use md_engine::resolve::Name;
 use md_engine::subtokenize::Subresult;
 use md_engine::tokenizer::Tokenizer;
 
-/// Puts lists around items: neighbouring items with the same marker are one list. Where no item stands nothing is copied.
+/// Puts lists around items: neighbouring items with the same marker are one list. Without an item nothing is copied.
 ///
 /// After an `Err` the parse has failed, and the tokenizer is only dropped.
 pub fn resolve(tokenizer: &mut Tokenizer) -> Result<Option<Subresult>, Message>

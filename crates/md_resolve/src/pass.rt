@@ -1,7 +1,7 @@
 // One pass for the resolvers of items, headings and tables.
 //
 // The walk goes over the events from left to right, and writes over those that it has read. Events that are of no block
-// that is set are moved at once, as many as stand together. Leaf blocks hold no block, so an ATX heading and a table are
+// that is set are moved at once, as many as follow one another. Leaf blocks hold no block, so an ATX heading and a table are
 // set from their begin to their end, and nothing else is set there.
 //
 // It looks ahead from the begin of an item to its marker, from the end of one to the next block, from the begin of a
@@ -122,7 +122,7 @@ impl Test for EndsNoTable {
     }
 }
 
-/// How many of the events stand in front of the first end of a table.
+/// How many of the events come before the first end of a table.
 fn until_end(events: &[Event]) -> usize
     ensures value { result ≡ prefix_len (λ e. not (ends_table e)) events.now }
     ensures within { result ≤ length events.now }
@@ -130,10 +130,10 @@ fn until_end(events: &[Event]) -> usize
     passing(&EndsNoTable, events)
 }
 
-/// Where a walk stands among items.
+/// The state of a walk among items.
 #[derive(Drop)]
 pub struct Items {
-    /// Whether a list goes on here: it is open, and the next block is an item of it.
+    /// Whether a list is open here and the next block is an item of it.
     within: bool,
     /// The markers of the items that are open, the outermost first.
     markers: Vec<u8>,
@@ -142,7 +142,7 @@ pub struct Items {
 /// A walk over the events.
 #[derive(Drop)]
 pub struct Walk {
-    /// The events, and where it stands in an ATX heading.
+    /// The events, and the state within an ATX heading.
     heads: heading_text::Walk,
     items: Items,
     /// Whether a setext heading is open here.

@@ -1,4 +1,4 @@
-// What the block parser hands to an inline layer: the text parts of a document, each as the chunks that it stands in.
+// What the block parser hands to an inline layer: the text parts of a document, each as its chunks.
 
 ghost use Rattle.std.specs.Prelude.{IfOk, List, OnOk};
 ghost use Rattle.md_engine.specs.declared.event.Event.{Event};
@@ -19,7 +19,7 @@ pub enum PartKind {
     String,
 }
 
-/// What a text part has on one line, with the line's ending where the part goes on behind it.
+/// The bytes of a text part on one line, with the line's ending where the part has a further line.
 #[derive(Clone, Copy, Debug, PartialEq, Eq)]
 pub struct Chunk {
     /// Where it begins.
@@ -36,7 +36,7 @@ pub trait Inline {
     /// What it may give for a part of a document.
     ghost reads: { Self → Document → Part → List Event → Type 0 };
 
-    /// The events of a text part that stands in these chunks.
+    /// The events of the text part in these chunks.
     ///
     /// An `Err` says that memory ran out.
     fn read(
@@ -51,7 +51,7 @@ pub trait Inline {
             (λ events. reads self.now (document_of state.now) (record { kind = kind; chunks = chunks.now })
             events.items) };
 
-    /// The same, in place of what stands in `events`. After an `Err` the list means nothing.
+    /// Replaces `events` with those of the text part in these chunks. After an `Err` the list means nothing.
     ///
     /// The block parser calls this, with the list that it has for the part before, so a layer that writes there asks for
     /// no memory for most parts.

@@ -1,4 +1,4 @@
-// What the names of events stand for: blocks, containers, text parts, and prefixes of containers.
+// What the names of events denote: blocks, containers, text parts, and prefixes of containers.
 
 ghost use Rattle.std.specs.Prelude.{◌≡◌};
 ghost use Rattle.md_seam.specs.Events.Blocks.{is_block, is_container};
@@ -70,7 +70,7 @@ pub fn is_text_part(name: Name) -> bool
     }
 }
 
-/// Whether this belongs to a container prefix, which may stand between two lines of a part.
+/// Whether this belongs to a container prefix, which may lie between two lines of a part.
 pub fn is_prefix(name: Name) -> bool
     ensures { result ≡ is_prefix name }
 {

@@ -12,7 +12,7 @@ pub struct Position {
     pub end: Point,
 }
 
-/// What stands between two points.
+/// The text between two points.
 #[derive(Clone, Copy)]
 pub struct Slice<'a> {
     /// The virtual spaces before the bytes: columns of a tab that begins before the part.
@@ -23,7 +23,7 @@ pub struct Slice<'a> {
 }
 
 impl<'a> Slice<'a> {
-    /// What stands at a position of the text; nothing if the text has no such position.
+    /// The text at a position; none if the text has no such position.
     pub fn from_position(bytes: &'a [u8], position: Position) -> Slice<'a>
         ensures before { result.before ≡ columns_in_front position }
         ensures bytes { result.bytes.now ≡ lent bytes.now (whole_from position.start) position.end.index }

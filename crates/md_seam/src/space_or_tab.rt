@@ -55,8 +55,8 @@ fn as_seen(byte: u8) -> u8
     if is_ending(byte) { b'\n' } else { byte }
 }
 
-/// What stands here or, where that is whitespace, what stands first behind it, as far as the text may be read now; none
-/// where that is not known, or where nothing stands.
+/// The byte here or, where that is whitespace, the first byte behind the whitespace, as far as the text may be read now;
+/// none where that is not known, or where the text ends.
 #[tactic(auto, unfolding(crate::specs::Look::looks_behind))]
 pub fn look_behind(tokenizer: &mut Tokenizer) -> Option<u8>
     ensures behind { result ≡ looks_behind (world tokenizer.old) }
@@ -73,7 +73,7 @@ pub fn look_behind(tokenizer: &mut Tokenizer) -> Option<u8>
     }
 }
 
-/// Whether something else than this marker and whitespace is known to stand on the rest of the line. Then it is no line
+/// Whether the rest of the line is known to hold something else than this marker and whitespace. Then it is no line
 /// of such markers alone.
 pub fn sees_other(tokenizer: &mut Tokenizer, marker: u8) -> bool
     ensures sees { result ≡ sees_other (world tokenizer.old) marker }
@@ -94,7 +94,7 @@ pub fn small_indent(tokenizer: &Tokenizer) -> usize
     }
 }
 
-/// Tries whitespace of at least `min` and at most `max` columns, and goes on with `ok` where it is there, else with
+/// Tries whitespace of at least `min` and at most `max` columns; `ok` is the next state where it is there, else
 /// `nok`. No limit is the greatest `usize`.
 pub fn space_or_tab_min_max(
     tokenizer: &mut Tokenizer,
@@ -113,7 +113,7 @@ pub fn space_or_tab_min_max(
     State::Retry(StateName::SpaceOrTab(WhiteState::Start))
 }
 
-/// Tries at least one space or tab, and goes on with `ok` where it is there, else with `nok`.
+/// Tries at least one space or tab; `ok` is the next state where it is there, else `nok`.
 pub fn space_or_tab(tokenizer: &mut Tokenizer, ok: State, nok: State) -> State
     ensures to { result ≢ State.Error → result ≡ (white_then (world tokenizer.old) 1 any_size ok nok).to }
     ensures world { result ≢ State.Error →
@@ -123,7 +123,7 @@ pub fn space_or_tab(tokenizer: &mut Tokenizer, ok: State, nok: State) -> State
     space_or_tab_min_max(tokenizer, 1, usize::MAX, ok, nok)
 }
 
-/// Whether one space stands here, and behind it something that may be read now and is no whitespace.
+/// Whether there is one space here, and behind it a byte that may be read now and is no whitespace.
 pub fn is_one_space(tokenizer: &Tokenizer) -> bool
     ensures { result ≡ true → IsOneSpace (world tokenizer.now) }
 {
@@ -134,7 +134,7 @@ pub fn is_one_space(tokenizer: &Tokenizer) -> bool
         && !is_white(tokenizer.bytes[index + 1])
 }
 
-/// Takes the one space that stands here, as the states of whitespace do, and sees what stands behind it.
+/// Takes the one space here, as the states of whitespace do, and sees the byte behind it.
 #[inline(always)]
 pub fn take_one_space(tokenizer: &mut Tokenizer) -> Result<(), Message>
     requires { IsOneSpace (world tokenizer.old) }

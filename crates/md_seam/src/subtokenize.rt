@@ -1,7 +1,7 @@
-// Parts that are read after the events around them stand.
+// Parts that are read after the events around them are complete.
 //
-// A linked part is a chunk of the text on one line. Chunks between which nothing but container prefixes stands are read
-// as one, and what is found there is put in the places of the chunks.
+// A linked part is a chunk of the text on one line. Chunks with nothing but container prefixes between them are read as
+// one part, and the events of this part replace those of the chunks.
 
 ghost use Rattle.std.specs.Prelude.{◌≡◌, ℕ, ◌+◌, ◌-◌, ◌<◌, ◌≤◌, ◌∷◌, ◌++◌, Bool, IfOk, List, OnOk, [], drop, length};
 ghost use Rattle.std.specs.Prelude.{take};
@@ -22,7 +22,7 @@ use std::alloc::Global;
 
 /// Reads parts of some contents.
 pub trait Reader {
-    /// The text that the parts stand in.
+    /// The text that the parts lie in.
     ghost text: { Self → List ℕ };
 
     /// Of which contents it reads parts.
@@ -38,8 +38,7 @@ pub trait Reader {
     fn reads(&self, content: Content) -> bool
         ensures { result ≡ wants self.now content };
 
-    /// The events of a part that stands in these chunks, in place of what stands in `events`. After an `Err` the list
-    /// means nothing.
+    /// Replaces `events` with those of the part in these chunks. After an `Err` the list means nothing.
     fn read(
         &self,
         alloc: Global,
@@ -53,7 +52,7 @@ pub trait Reader {
         ensures reading { OnOk result (reads_as self.now content chunks.now events.new.items) };
 }
 
-/// What was found in a part, and how much of it stands in its place.
+/// What was found in a part, and how many of these events are in their place.
 #[derive(Drop)]
 struct Found {
     events: Vec<Event>,
