@@ -8,7 +8,6 @@ use Rattle.md_leaves.specs.SpannedWalk.{given_of, passing, rest_of}
 use Rattle.md_leaves.specs.Turned.{HoldNoUnderline, is_underline}
 use Rattle.md_seam.specs.Rewritten.{held_of, left_of, written_of}
 use Rattle.md_seam.specs.Parts.{ArePlaced}
-use Rattle.md_seam.proofs.PlainWhole.{if_ok-map}
 use Rattle.md_leaves.proofs.SpannedLemmas.{passing-on, plain-append, plain-given, plain-passed, spanned-placed, spanned-some}
 use Rattle.md_leaves.proofs.SpannedLemmas.{walk-done, walk-passed, walk-stepped}
 use Rattle.md_leaves.proofs.spans.join.Goals as goal
