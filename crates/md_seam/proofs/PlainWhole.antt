@@ -1,16 +1,15 @@
 -- A chunk that is a line without an ending is `Data` as a whole.
 use Rattle.std.proofs.Common.{◌≡◌, ℕ, ◌+◌, ◌-◌, ◌<◌, ◌≤◌, ◌⊎◌, inl, inr, true, false, cond, List, [], ◌∷◌, ◌++◌, length}
-use Rattle.std.proofs.Common.{get_or, drop, refl, ap, sym, ◌∙◌, subst, append_assoc, arith}
-use Rattle.std.specs.Prelude.{◌==◌, IfOk, IsTrue, Result, Ok, Err, slice_index, slice_range}
+use Rattle.std.proofs.Common.{drop, ap, sym, ◌∙◌, subst, append_assoc, arith}
+use Rattle.std.specs.Prelude.{◌==◌, IsTrue, slice_index, slice_range}
 use Rattle.std.proofs.lemmas.Bool.{and_parts, cases_lt, eqb-true, true≢false}
 use Rattle.std.proofs.lemmas.List.{take-append-drop}
-use Rattle.md_engine.specs.declared.event.Event.{Event}
 use Rattle.md_engine.specs.declared.event.Name.TheVariants as n
 use Rattle.md_engine.specs.declared.event.Point.{Point}
 use Rattle.md_meaning.specs.Lines.{is_ending, without_ending}
 use Rattle.md_meaning.specs.Texts.{split_lines}
 use Rattle.md_seam.specs.Events.Inline.{chunk_text, ends_whole, is_line, is_one_line, line_end, pair_unless_empty}
-use Rattle.md_seam.specs.Events.Inline.{plain_chunk, plain_chunks, together}
+use Rattle.md_seam.specs.Events.Inline.{plain_chunk}
 use Rattle.md_seam.specs.Events.Nested.{pair}
 use Rattle.md_seam.specs.Events.Places.{same_place}
 use Rattle.md_seam.specs.declared.inline.Chunk.{Chunk}
@@ -18,7 +17,7 @@ use Rattle.md_seam.specs.Parts.{IsChunk}
 use Rattle.md_seam.proofs.InlineLemmas.{line-no_ending, past-index, same-refl}
 use Rattle.md_seam.proofs.PlacesLemmas.{Placed, apart-later, placed-facts, placed-text}
 use Rattle.md_seam.proofs.PlainSteps.{Rests, One, Two, ending-none, line-and-rest, range-drop, range-length, range-next}
-use Rattle.md_seam.proofs.PlainSteps.{chunks-all, chunks-more, rests-of, stops-at}
+use Rattle.md_seam.proofs.PlainSteps.{rests-of, stops-at}
 use Rattle.md_seam.proofs.ReachedLemmas.{point-placed}
 use Rattle.md_seam.proofs.WalkedLemmas.{one-point}
 
@@ -43,7 +42,7 @@ whole-line bytes chunk is one lt plain = go (cases_lt (length line) (length text
     to : ℕ
     to = chunk.first.index + length line
 
-    -- where an ending stands, the last byte is one
+    -- the last byte of an ending ends a line
     cut : (b : ℕ) (rest : List ℕ) → length line < length text → drop (length line) text ≡ b ∷ rest →
         is_ending b ≡ true → Rests b rest → ⊥
     cut b rest less behind ends (One none) =
@@ -134,17 +133,3 @@ whole-chunk bytes chunk is lt plain one whole =
         one-point bytes to chunk.after placed_to
         (placed-facts bytes chunk.after (point-placed bytes chunk.after is.after))
         (eqb-true to.index chunk.after.index parts.0) (eqb-true to.vs chunk.after.vs parts.1)
-
--- A part of one chunk is read so.
-
-pub if_ok-map : {A E : Type 0} {P Q : A → Type 0} (r : Result A E) → ((a : A) → P a → Q a) → IfOk r P → IfOk r Q
-if_ok-map (Ok a) f h = f a h
-if_ok-map (Err e) f h = h
-
-pub whole-reads : (bytes : List ℕ) (chunks : List Chunk) (d : Chunk) (events : List Event) → length chunks ≡ 1 →
-    plain_chunk bytes (get_or chunks 0 d) ≡ pair n.Data (get_or chunks 0 d).first (get_or chunks 0 d).after →
-    events ≡ pair n.Data (get_or chunks 0 d).first (get_or chunks 0 d).after →
-    events ≡ together (plain_chunks bytes chunks)
-whole-reads bytes chunks d events one whole is =
-    chunks-all bytes chunks 1 events (omega (arith, one))
-    (chunks-more bytes bytes chunks 0 d [] events (omega (arith, one)) refl refl (is ∙ sym whole))

@@ -10,7 +10,6 @@ use Rattle.md_engine.proofs.Sound as Sound
 use Rattle.md_meaning.specs.Texts.{first_byte, split_lines}
 use Rattle.md_seam.specs.Events.Places.{columns_before, is_placed}
 use Rattle.md_seam.proofs.PlacesLemmas.{Placed, at-next, placed-facts}
-use Rattle.md_seam.proofs.PlainSteps.{Before, before-next}
 use Rattle.md_seam.proofs.ReachedLemmas.{index-behind, placed-next, placed-walked, step-inside}
 
 -- the byte and the virtual spaces tell a point of a text
@@ -25,6 +24,24 @@ one-point bytes p q h k i v =
         ◌≡◌ {A = Point} (record { line = l; column = c; index = i; vs = v })
         (record { line = m; column = d; index = j; vs = w })
     same l m c d i j v w el ec ei ev = rw (el, ec, ei, ev) refl
+
+-- a point comes before another
+abbrev Before : Point → Point → Type 0
+Before p q = (p.index < q.index) ⊎ ((p.index ≡ q.index) × (p.vs < q.vs))
+
+before-next : (bytes : List ℕ) (p : Point) → Before p (next_point bytes p)
+before-next bytes p =
+    go (is_ending (slice_index bytes p.index)) (is_pair bytes p.index)
+    ((slice_index bytes p.index == 9) && not (p.column % 4 == 0))
+  where
+    go : (x y z : Bool) →
+        Before p (cond x (record { line = p.line + 1; column = 1; index = cond y (p.index + 2) (p.index + 1); vs = 0 })
+        (cond z (record p { column = p.column + 1; vs = p.vs + 1 })
+        (record p { column = p.column + 1; index = p.index + 1; vs = 0 })))
+    go true true z = inl (omega arith)
+    go true false z = inl (omega arith)
+    go false y true = inr (refl, omega arith)
+    go false y false = inl (omega arith)
 
 -- a point comes before another, or at its place
 abbrev Upto : Point → Point → Type 0

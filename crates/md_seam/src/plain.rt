@@ -1,74 +1,65 @@
-// What the plainest inline layer reads: lines. The layer itself stands where its law may be proved, in `markdown_blocks`.
+// What the plainest inline layer reads: lines. The layer itself is in `markdown_blocks`, where its law may be proved.
 
-ghost use Rattle.std.specs.Prelude.{◌≡◌, ◌≤◌, ◌++◌, IfOk, IsTrue, OnOk, [], length, slice_range, true};
+ghost use Rattle.std.specs.Prelude.{◌≡◌, ◌+◌, ◌^◌, ◌<◌, ◌≤◌, ◌++◌, IfOk, IsTrue, OnOk, true, vec_capacity, vec_len};
 ghost use Rattle.std.specs.List.{list_all};
-ghost use Rattle.md_engine.specs.World.{world};
 ghost use Rattle.md_engine.specs.declared.event.Name.{Name};
-ghost use Rattle.md_seam.specs.Events.Inline.{ends_whole, is_line, pair_unless_empty, plain_chunk, plain_chunks};
-ghost use Rattle.md_seam.specs.Events.Inline.{together};
-ghost use Rattle.md_meaning.specs.Lines.{is_ending, without_ending};
+ghost use Rattle.md_seam.specs.Events.Inline.{ends_whole, is_line, line_end, pair_unless_empty, plain_chunk};
+ghost use Rattle.md_seam.specs.Events.Inline.{plain_chunks, together};
+ghost use Rattle.md_meaning.specs.Lines.{is_ending};
 ghost use Rattle.md_seam.specs.Parts.{AreChunks, IsChunk};
 ghost use Rattle.md_seam.specs.Events.Nested.{pair};
-ghost use Rattle.md_seam.specs.Events.Places.{past_text};
+ghost use Rattle.md_seam.specs.Events.Places.{past_byte};
 
 use crate::inline::Chunk;
 use md_engine::class::Class;
 use md_engine::event::{Event, Kind, Name, Point};
 use md_engine::message::Message;
 use md_engine::parse_state::ParseState;
-use md_engine::tokenizer::Tokenizer;
 use std::alloc::Global;
-use std::mem;
 
-/// How many events stand in the place of a chunk at most: those of its line and of its ending.
+/// How many events a chunk has at most: those of its line and of its ending.
 const MOST: usize = 4;
 
-/// Whether a line ends at this byte, which lies in the text.
+/// Whether a line ends at this byte of the text.
 fn ends_line(byte: u8) -> bool
     ensures { result ≡ is_ending byte }
 {
     byte == b'\n' || byte == b'\r'
 }
 
-/// Reads the line that begins at the point, up to `end` at most.
-fn read_line(tokenizer: &mut Tokenizer, end: usize) -> Result<(), Message>
-    requires { end ≤ length (world tokenizer.old).setting.bytes }
-    ensures { let w = world tokenizer.old in
-        let to = past_text (without_ending (slice_range w.setting.bytes w.point.index end)) w.point in
-        OnOk result (world tokenizer.new ≡
-        record w { point = to; events = w.events ++ pair_unless_empty Name.Data w.point to }) }
+/// The point behind a byte of a line, also from within a tab.
+fn past_byte(byte: u8, point: Point) -> Point
+    requires { (1 ≤ point.column) × (point.column + 4 < 2 ^ 64) × (point.index + 1 < 2 ^ 64) }
+    ensures value { result ≡ past_byte byte point }
+    ensures columns { (point.column < result.column) × (result.column ≤ point.column + 4) }
 {
-    if tokenizer.point.index < end && !ends_line(tokenizer.bytes[tokenizer.point.index]) {
-        tokenizer.enter(Name::Data)?;
-        while tokenizer.point.index < end && !ends_line(tokenizer.bytes[tokenizer.point.index]) {
-            tokenizer.consume();
-            tokenizer.consume_all(Class::Text, end);
-        }
-        tokenizer.exit(Name::Data)?;
+    Point {
+        line: point.line,
+        column: point.column
+            + if byte == b'\t' {
+                4 - (point.column - 1) % 4
+            } else {
+                1
+            },
+        index: point.index + 1,
+        vs: 0,
     }
-    Ok(())
 }
 
-/// Reads the line of a chunk, and its ending.
-fn read_chunk(tokenizer: &mut Tokenizer, chunk: &Chunk) -> Result<(), Message>
-    requires chunk { IsChunk (world tokenizer.old).setting.bytes chunk.now }
-    requires line { IsTrue (is_line (world tokenizer.old).setting.bytes chunk.now) }
-    requires whole { IsTrue (ends_whole chunk.now) }
-    requires skips { (world tokenizer.old).setting.skips ≡ [] }
-    ensures setting { OnOk result ((world tokenizer.new).setting ≡ (world tokenizer.old).setting) }
-    ensures events { OnOk result
-        ((world tokenizer.new).events ≡
-        (world tokenizer.old).events ++ plain_chunk (world tokenizer.old).setting.bytes chunk.now) }
+/// The point at the end of a chunk's line.
+fn line_end(bytes: &[u8], chunk: &Chunk) -> Point
+    requires { IsChunk bytes.now chunk.now }
+    ensures { result ≡ line_end bytes.now chunk.now }
 {
-    tokenizer.point = chunk.first;
     let end = chunk.after.index;
-    read_line(tokenizer, end)?;
-    if tokenizer.point.index < end {
-        tokenizer.enter(Name::LineEnding)?;
-        tokenizer.consume();
-        tokenizer.exit(Name::LineEnding)?;
+    let mut point = chunk.first;
+    while point.index < end && !ends_line(bytes[point.index]) {
+        point = past_byte(bytes[point.index], point);
+        let count = Class::Text.span(&bytes[point.index..end]);
+        point.column += count;
+        point.index += count;
     }
-    Ok(())
+    point
 }
 
 /// Whether a chunk has bytes, and no line ending at its end. A chunk of one line then has none, and ends with the line.
@@ -83,63 +74,77 @@ fn is_without_ending(bytes: &[u8], chunk: &Chunk) -> bool
     chunk.first.index < end && !ends_line(bytes[end - 1])
 }
 
-/// `Data` over a chunk, in place of what stands in `events`.
-fn whole_chunk(chunk: &Chunk, events: &mut Vec<Event>) -> Result<(), Message>
-    ensures { OnOk result (events.new.items ≡ pair Name.Data chunk.now.first chunk.now.after) }
+/// Adds a part of this name between two points.
+fn write_pair(events: &mut Vec<Event>, name: Name, first: Point, after: Point)
+    requires { vec_len events.old + 2 ≤ vec_capacity events.old }
+    ensures items { events.new.items ≡ events.old.items ++ pair name first after }
+    ensures len { vec_len events.new ≡ vec_len events.old + 2 }
+    ensures capacity { vec_capacity events.new ≡ vec_capacity events.old }
 {
-    events.clear();
-    if events.reserve(2).is_err() {
-        return Err(Message);
-    }
     events.push_reserved(Event {
         kind: Kind::Enter,
-        name: Name::Data,
+        name,
         link: None,
-        point: chunk.first,
+        point: first,
     });
     events.push_reserved(Event {
         kind: Kind::Exit,
-        name: Name::Data,
+        name,
         link: None,
-        point: chunk.after,
+        point: after,
     });
-    Ok(())
 }
 
-/// The events of a part, line by line, in place of what stands in `events`. Most parts are one line without an ending,
-/// and need no tokenizer: so it stands apart from them.
-#[inline(never)]
-fn read_lines(
-    alloc: Global,
-    chunks: &[Chunk],
-    state: &ParseState,
-    events: &mut Vec<Event>,
-) -> Result<(), Message>
-    requires chunks { AreChunks state.now.bytes.now chunks.now }
-    requires lines { IsTrue (list_all (is_line state.now.bytes.now) chunks.now) }
-    requires whole { IsTrue (list_all ends_whole chunks.now) }
-    ensures { OnOk result (events.new.items ≡ together (plain_chunks state.now.bytes.now chunks.now)) }
+/// Adds a part of this name between two points, or nothing if it would be empty.
+fn write_unless_empty(events: &mut Vec<Event>, name: Name, first: Point, after: Point)
+    requires { vec_len events.old + 2 ≤ vec_capacity events.old }
+    ensures items { events.new.items ≡ events.old.items ++ pair_unless_empty name first after }
+    ensures len { vec_len events.new ≤ vec_len events.old + 2 }
+    ensures capacity { vec_capacity events.new ≡ vec_capacity events.old }
 {
-    let mut tokenizer = Tokenizer::new(alloc, chunks[0].first, state.bytes, state.options);
-    events.clear();
-    if events.reserve(chunks.len().saturating_mul(MOST)).is_err() {
-        return Err(Message);
+    if first.index != after.index || first.vs != after.vs {
+        write_pair(events, name, first, after);
     }
-    let list = mem::replace(events, Vec::new(alloc));
-    tokenizer.set_events(list);
-    for chunk in chunks {
-        read_chunk(&mut tokenizer, chunk)?;
-    }
-    *events = tokenizer.events;
-    Ok(())
 }
 
-/// The events of a part that stands in these chunks, in place of what stands in `events`: `Data` over each line, if it
-/// is not empty, and `LineEnding` over its ending.
+/// Adds the events of a chunk: those of its line and of its ending. Most parts are one line without an ending, where
+/// this is not called, so its code is kept apart.
+#[inline(never)]
+fn write_line(bytes: &[u8], chunk: &Chunk, events: &mut Vec<Event>)
+    requires chunk { IsChunk bytes.now chunk.now }
+    requires room { vec_len events.old + 4 ≤ vec_capacity events.old }
+    ensures items { events.new.items ≡ events.old.items ++ plain_chunk bytes.now chunk.now }
+    ensures len { vec_len events.new ≤ vec_len events.old + 4 }
+    ensures capacity { vec_capacity events.new ≡ vec_capacity events.old }
+{
+    let end = line_end(bytes, chunk);
+    write_unless_empty(events, Name::Data, chunk.first, end);
+    write_unless_empty(events, Name::LineEnding, end, chunk.after);
+}
+
+/// The same, without a walk over a line that has no ending.
+fn write_chunk(bytes: &[u8], chunk: &Chunk, events: &mut Vec<Event>)
+    requires chunk { IsChunk bytes.now chunk.now }
+    requires line { IsTrue (is_line bytes.now chunk.now) }
+    requires whole { IsTrue (ends_whole chunk.now) }
+    requires room { vec_len events.old + 4 ≤ vec_capacity events.old }
+    ensures items { events.new.items ≡ events.old.items ++ plain_chunk bytes.now chunk.now }
+    ensures len { vec_len events.new ≤ vec_len events.old + 4 }
+    ensures capacity { vec_capacity events.new ≡ vec_capacity events.old }
+{
+    if is_without_ending(bytes, chunk) {
+        write_pair(events, Name::Data, chunk.first, chunk.after);
+    } else {
+        write_line(bytes, chunk, events);
+    }
+}
+
+/// The events of a part of these chunks, in place of those in `events`: `Data` over each line, if it is not empty, and
+/// `LineEnding` over its ending.
 ///
 /// An `Err` says that memory ran out; the list then means nothing.
 pub fn read_into(
-    alloc: Global,
+    _alloc: Global,
     chunks: &[Chunk],
     state: &ParseState,
     events: &mut Vec<Event>,
@@ -149,10 +154,14 @@ pub fn read_into(
     requires whole { IsTrue (list_all ends_whole chunks.now) }
     ensures { OnOk result (events.new.items ≡ together (plain_chunks state.now.bytes.now chunks.now)) }
 {
-    if chunks.len() == 1 && is_without_ending(state.bytes, &chunks[0]) {
-        return whole_chunk(&chunks[0], events);
+    events.clear();
+    if chunks.len() > usize::MAX / MOST || events.reserve(chunks.len() * MOST).is_err() {
+        return Err(Message);
     }
-    read_lines(alloc, chunks, state, events)
+    for chunk in chunks {
+        write_chunk(state.bytes, chunk, events);
+    }
+    Ok(())
 }
 
 /// The same, in a list of its own.
