@@ -15,6 +15,8 @@ pub mod ContentRuns
 pub mod JoinedLemmas
 pub mod ContentReadsLemmas
 pub mod SettledLemmas
+pub mod LineReads
+pub mod WholeLines
 pub mod LabelTexts
 pub mod LabelWalks
 pub mod FootnoteWalk

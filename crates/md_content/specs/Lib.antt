@@ -12,3 +12,4 @@ pub mod Labels
 pub mod FootnoteLabels
 pub mod LabelTexts
 pub mod ContentReads
+pub mod WholeLines

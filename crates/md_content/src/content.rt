@@ -10,7 +10,7 @@
 // behind those in front of it, and ends behind its ending, before those of the next line: its end is that of its chunk.
 
 ghost use Rattle.std.specs.Prelude.{◌≡◌, ◌≢◌, ℕ, ◌^◌, ◌<◌, ◌≤◌, ◌&&◌, false, not, IfNone, IfOk, IfSome, List, []};
-ghost use Rattle.std.specs.Prelude.{OnOk, length};
+ghost use Rattle.std.specs.Prelude.{OnOk, length, true};
 ghost use Rattle.std.specs.List.{position_or_len, prefix_len};
 ghost use Rattle.std.specs.Option.{option_map};
 ghost use Rattle.md_content.specs.ChunkRule.{ChunkMeans};
@@ -29,6 +29,8 @@ ghost use Rattle.md_content.specs.ContentReads.{content_events, is_piece_end, se
 ghost use Rattle.md_content.specs.Joined.{GoesOnAt, JoinsAt, ends_content, goes_on, is_content, is_of_prefix};
 ghost use Rattle.md_content.specs.Joined.{joined};
 ghost use Rattle.md_content.specs.Resolves.{Resolves, is_all_read};
+ghost use Rattle.md_content.specs.WholeLines.{are_lines, is_followed, is_within_line, paragraph_of};
+ghost use Rattle.md_engine.specs.declared.configuration.ParseOptions.{ParseOptions};
 ghost use Rattle.md_seam.specs.Events.Inline.{is_line_ending};
 ghost use Rattle.md_seam.specs.Events.Nested.{is_enter};
 ghost use Rattle.md_seam.specs.Lent.{whole_from};
@@ -37,6 +39,7 @@ ghost use Rattle.md_seam.specs.Spaces.{ends_line};
 ghost use Rattle.md_seam.specs.Stays.{TakesEach};
 ghost use Rattle.md_seam.specs.Transition.{IsAt, NeedsNothing};
 
+use crate::definitions::may_define;
 pub use crate::definitions::{definition_after, definition_before};
 use crate::labels::{between, labels};
 use crate::{definitions, paragraph};
@@ -294,6 +297,25 @@ impl ContentReader<'_> {
         ensures events { OnOk result
             (events.new.items ≡ content_events self.now.bytes.now self.now.options.now chunks.now) }
     {
+        if is_paragraph(self.bytes, chunks) {
+            return write_paragraph(chunks, events);
+        }
+        self.read_by_states(alloc, chunks, events)
+    }
+
+    /// The same, state by state. Most parts are one paragraph, and need no tokenizer: so it stands apart from them.
+    #[inline(never)]
+    fn read_by_states(
+        &self,
+        alloc: Global,
+        chunks: &[Chunk],
+        events: &mut Vec<Event>,
+    ) -> Result<(), Message>
+        requires { AreChunks self.now.bytes.now chunks.now }
+        ensures placed { OnOk result (ArePlaced self.now.bytes.now events.new.items) }
+        ensures events { OnOk result
+            (events.new.items ≡ content_events self.now.bytes.now self.now.options.now chunks.now) }
+    {
         let mut tokenizer = Tokenizer::new(alloc, chunks[0].first, self.bytes, self.options);
         events.clear();
         let list = mem::replace(events, Vec::new(alloc));
@@ -312,6 +334,101 @@ impl ContentReader<'_> {
         settle(events, chunks);
         Ok(())
     }
+}
+
+/// Whether a chunk ends behind the ending of its line, and the next chunk begins on the next line.
+fn is_followed(chunk: &Chunk, next: &Chunk) -> bool
+    ensures { result ≡ is_followed chunk.now next.now }
+{
+    chunk.after.line.saturating_sub(chunk.first.line) == 1
+        && chunk.after.column == 1
+        && next.first.line == chunk.after.line
+        && chunk.after.index <= next.first.index
+}
+
+/// Whether a chunk ends on the line on which it begins, and has a byte.
+fn is_within_line(chunk: &Chunk) -> bool
+    ensures { result ≡ is_within_line chunk.now }
+{
+    chunk.first.line == chunk.after.line
+        && chunk.first.index < chunk.after.index
+        && chunk.after.vs == 0
+}
+
+/// Whether the chunks are lines one after another, of which the last has no ending. Their points tell, without a look
+/// at the text.
+fn are_lines(chunks: &[Chunk]) -> bool
+    requires { 0 < length chunks.now }
+    ensures { result ≡ are_lines chunks.now }
+{
+    let mut at = 0;
+    while at + 1 < chunks.len() {
+        if !is_followed(&chunks[at], &chunks[at + 1]) {
+            return false;
+        }
+        at += 1;
+    }
+    is_within_line(&chunks[at])
+}
+
+/// Whether the chunks are lines that are read as one paragraph, by their points and their first byte.
+///
+/// A definition begins with `[`, behind whitespace at most. Where the first byte is neither, none begins on the first
+/// line, and the paragraph that begins there reaches to the end of the last.
+fn is_paragraph(bytes: &[u8], chunks: &[Chunk]) -> bool
+    requires { AreChunks bytes.now chunks.now }
+    ensures { result ≡ true → (options : ParseOptions) →
+        content_events bytes.now options chunks.now ≡ paragraph_of chunks.now }
+{
+    let Chunk { first, after } = chunks[0];
+    if first.index >= after.index || may_define(Some(bytes[first.index])) {
+        return false;
+    }
+    are_lines(chunks)
+}
+
+/// A paragraph over these chunks, in place of what stands in `events`.
+fn write_paragraph(chunks: &[Chunk], events: &mut Vec<Event>) -> Result<(), Message>
+    requires { 0 < length chunks.now }
+    ensures { OnOk result (events.new.items ≡ paragraph_of chunks.now) }
+{
+    events.clear();
+    let many = chunks.len().saturating_mul(2).saturating_add(2);
+    if events.reserve(many).is_err() {
+        return Err(Message);
+    }
+    let link = Link {
+        previous: false,
+        next: false,
+        content: Content::Text,
+    };
+    events.push_reserved(Event {
+        kind: Kind::Enter,
+        name: Name::Paragraph,
+        link: None,
+        point: chunks[0].first,
+    });
+    for chunk in chunks {
+        events.push_reserved(Event {
+            kind: Kind::Enter,
+            name: Name::Data,
+            link: Some(link),
+            point: chunk.first,
+        });
+        events.push_reserved(Event {
+            kind: Kind::Exit,
+            name: Name::Data,
+            link: None,
+            point: chunk.after,
+        });
+    }
+    events.push_reserved(Event {
+        kind: Kind::Exit,
+        name: Name::Paragraph,
+        link: None,
+        point: chunks[chunks.len() - 1].after,
+    });
+    Ok(())
 }
 
 /// Whether a piece of what is read of content ends here, with which a line may end.
