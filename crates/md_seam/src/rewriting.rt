@@ -33,7 +33,9 @@ fn room_for(need: usize, added: usize, read: usize, behind: usize) -> usize
     ensures some { 0 < result }
 {
     let expected = behind.saturating_mul(added) / read.max(1);
-    need.max(expected.min(behind / 2)).max(behind / 16).max(LEAST)
+    need.max(expected.min(behind / 2))
+        .max(behind / 16)
+        .max(LEAST)
 }
 
 /// A list that is read from its front on, and written again in the places that were read. What was read is held before
