@@ -2,10 +2,9 @@
 //
 // No class has a line ending or a tab: behind each of its bytes the line goes on, one column further.
 
-ghost use Rattle.std.specs.Prelude.{◌≡◌};
+ghost use Rattle.std.specs.Prelude.{◌≡◌, nat_lt};
+ghost use Rattle.std.specs.List.{list_all};
 ghost use Rattle.md_engine.specs.Classes.{IsSpan, has, is_mark, is_white};
-
-use memchr::memchr3;
 
 /// A set of bytes without line endings and tabs.
 #[derive(Clone, Copy)]
@@ -35,6 +34,33 @@ fn is_mark(byte: u8) -> bool
     )
 }
 
+/// Whether all of these bytes are greater than CR, which makes them text. The loop has no early exit, so that many
+/// bytes are compared at once.
+#[inline(always)]
+fn are_above_cr(bytes: &[u8]) -> bool
+    ensures { result ≡ list_all (nat_lt 13) bytes.now }
+{
+    let mut all = true;
+    for byte in bytes {
+        all &= *byte > b'\r';
+    }
+    all
+}
+
+/// How many bytes of text stand in front: 16 at once, then 8, then byte by byte.
+fn text_span(bytes: &[u8]) -> usize
+    ensures { IsSpan Class.Text bytes.now result }
+{
+    let mut at = 0;
+    while bytes.len() - at >= 16 && are_above_cr(&bytes[at..][..16]) {
+        at += 16;
+    }
+    if bytes.len() - at >= 8 && are_above_cr(&bytes[at..][..8]) {
+        at += 8;
+    }
+    at + Class::Text.count(&bytes[at..])
+}
+
 impl Class {
     /// Whether a byte is in the class.
     pub fn has(self, byte: u8) -> bool
@@ -53,7 +79,7 @@ impl Class {
         ensures { IsSpan self bytes.now result }
     {
         match self {
-            Class::Text => memchr3(b'\n', b'\r', b'\t', bytes).unwrap_or(bytes.len()),
+            Class::Text => text_span(bytes),
             Class::Word | Class::Plain => self.count(bytes),
         }
     }
