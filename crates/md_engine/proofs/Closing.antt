@@ -26,6 +26,13 @@ ends-placed bytes (c ∷ cs) p h =
     All-push (λ (e : Event). IsPlaced bytes e.point) (ends_at cs p)
     (record { kind = Exit; name = name_of c.kind; point = p; link = None }) (ends-placed bytes cs p h) h
 
+-- there are as many ends as containers
+length-ends : (cs : List Container) (p : Point) → length (ends_at cs p) ≡ length cs
+length-ends [] p = refl
+length-ends (c ∷ cs) p =
+    let rest = length-ends cs p in
+    simp length-append (omega (arith, rest))
+
 -- events that are put are as many more
 length-put : (at : ℕ) (ends events : List Event) → length events ≤ length (put at ends events)
 length-put at ends events =
@@ -87,7 +94,7 @@ turned m ends events all le is =
       take-append_seam (drop m events) ends,
     ) refl
 
-pub turned-put : (at m n : ℕ) (ends events all new : List Event) → m ≡ min at (length events) → n ≡ length ends →
+turned-put : (at m n : ℕ) (ends events all new : List Event) → m ≡ min at (length events) → n ≡ length ends →
     all ≡ events ++ ends →
     new ≡ take m all ++ drop (length all - m - n) (drop m all) ++ take (length all - m - n) (drop m all) →
     new ≡ put at ends events
@@ -95,6 +102,34 @@ turned-put at m n ends events all new least count is e =
     let t = turned m ends events all (omega arith) is in
     let f : new ≡ put m ends events = (rw count at e) ∙ t in
     f ∙ ap (λ (i : ℕ). put i ends events) least ∙ put-least at ends events
+
+-- containers behind the first so many, as slicing gives them
+sliced : (keep : ℕ) (cs : List Container) → take (length cs - keep) (drop keep cs) ≡ drop keep cs
+sliced keep cs =
+    let size = length-drop keep cs in
+    take_all (length cs - keep) (drop keep cs) (omega (arith, size))
+
+-- there is room behind the index for the ends that were added
+pub ends-turn : (keep at m n : ℕ) (cs cs' : List Container) (p : Point) (events all : List Event) →
+    m ≡ min at (length events) → n ≡ length cs - keep → cs' ≡ cs →
+    all ≡ events ++ ends_at (take (length cs' - keep) (drop keep cs')) p →
+    m + n ≤ length all
+ends-turn keep at m n cs cs' p events all least count same is =
+    let size = length-ends (drop keep cs) p in
+    let rest = length-drop keep cs in
+    rw (is, same, sliced keep cs) (simp length-append (omega (arith, size, rest, least, count)))
+
+-- ends that are added behind the last event, and then turned in front of one, are put there
+pub ends-put : (keep at m n : ℕ) (cs cs' : List Container) (p : Point) (events all new : List Event) →
+    m ≡ min at (length events) → n ≡ length cs - keep → cs' ≡ cs →
+    all ≡ events ++ ends_at (take (length cs' - keep) (drop keep cs')) p →
+    new ≡ take m all ++ drop (length all - m - n) (drop m all) ++ take (length all - m - n) (drop m all) →
+    new ≡ put at (ends_at (drop keep cs) p) events
+ends-put keep at m n cs cs' p events all new least count same is turned =
+    let size = length-ends (drop keep cs) p in
+    let rest = length-drop keep cs in
+    turned-put at m n (ends_at (drop keep cs) p) events all new least (omega (arith, size, rest, count))
+    (rw (same, sliced keep cs) at is) turned
 
 -- events that are turned around, and then each side of them, have changed sides
 pub turned-few : (xs r first second front back : List Event) (n : ℕ) → n ≤ length xs → r ≡ reverse xs →

@@ -2,10 +2,9 @@
 //
 // No class has a line ending or a tab: behind each of its bytes the line goes on, one column further.
 
-ghost use Rattle.std.specs.Prelude.{◌≡◌};
+ghost use Rattle.std.specs.Prelude.{◌≡◌, ◌≤◌, length, nat_lt};
+ghost use Rattle.std.specs.List.{list_all, prefix_len};
 ghost use Rattle.md_engine.specs.Classes.{IsSpan, has, is_mark, is_white};
-
-use memchr::memchr3;
 
 /// A set of bytes without line endings and tabs.
 #[derive(Clone, Copy)]
@@ -35,6 +34,50 @@ fn is_mark(byte: u8) -> bool
     )
 }
 
+/// Whether all of these bytes are greater than CR, which makes them text. The loop has no early exit, so that many
+/// bytes are compared at once.
+#[inline(always)]
+fn are_above_cr(bytes: &[u8]) -> bool
+    ensures { result ≡ list_all (nat_lt 13) bytes.now }
+{
+    let mut all = true;
+    for byte in bytes {
+        all &= *byte > b'\r';
+    }
+    all
+}
+
+/// How many bytes in front are greater than CR, counted one by one.
+fn each_above_cr_len(bytes: &[u8]) -> usize
+    ensures value { result ≡ prefix_len (nat_lt 13) bytes.now }
+    ensures bound { result ≤ length bytes.now }
+{
+    bytes.iter().take_while(|byte| **byte > b'\r').count()
+}
+
+/// How many bytes in front are greater than CR: 16 are compared at once, then 8, then each.
+pub fn above_cr_len(bytes: &[u8]) -> usize
+    ensures value { result ≡ prefix_len (nat_lt 13) bytes.now }
+    ensures bound { result ≤ length bytes.now }
+{
+    let mut at = 0;
+    while bytes.len() - at >= 16 && are_above_cr(&bytes[at..][..16]) {
+        at += 16;
+    }
+    if bytes.len() - at >= 8 && are_above_cr(&bytes[at..][..8]) {
+        at += 8;
+    }
+    at + each_above_cr_len(&bytes[at..])
+}
+
+/// How many bytes of text stand in front: many at once, then byte by byte.
+fn text_span(bytes: &[u8]) -> usize
+    ensures { IsSpan Class.Text bytes.now result }
+{
+    let at = above_cr_len(bytes);
+    at + Class::Text.count(&bytes[at..])
+}
+
 impl Class {
     /// Whether a byte is in the class.
     pub fn has(self, byte: u8) -> bool
@@ -53,7 +96,7 @@ impl Class {
         ensures { IsSpan self bytes.now result }
     {
         match self {
-            Class::Text => memchr3(b'\n', b'\r', b'\t', bytes).unwrap_or(bytes.len()),
+            Class::Text => text_span(bytes),
             Class::Word | Class::Plain => self.count(bytes),
         }
     }

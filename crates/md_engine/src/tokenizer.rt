@@ -3,14 +3,14 @@
 // A tokenizer walks over the text from point to point. States add events at its point, move it on, and begin attempts:
 // trials that are taken back where they fail. Each primitive says what the whole tokenizer is afterwards, by one
 // equation over `world`, which is what contracts see of a tokenizer.
-ghost use Rattle.std.specs.Prelude.{◌≡◌, ◌-◌, IfOk, drop, ◌+◌, ◌^◌, ◌∷◌, ◌++◌, ◌<◌, ◌≤◌, [], length, All};
+ghost use Rattle.std.specs.Prelude.{◌≡◌, ◌-◌, drop, ◌+◌, ◌^◌, ◌∷◌, ◌++◌, ◌<◌, ◌≤◌, [], length, All};
 ghost use Rattle.std.specs.Prelude.{if◌then◌else◌, is_err, is_ok, ◌==◌, true, false, Some, None, take, IfSome};
 ghost use Rattle.std.specs.Prelude.{IfNone, reverse, slice_set};
 ghost use Rattle.md_engine.specs.Place.{IsPlaced, is_pair, next_point, stepped};
 ghost use Rattle.md_engine.specs.Sound.{IsSound};
 ghost use Rattle.md_engine.specs.KnownRun.{IsKnownRun};
 ghost use Rattle.md_engine.specs.KnownContinuing.{EndsContinuing, IsKnownContinuing};
-ghost use Rattle.md_engine.specs.Ends.{ends_at, point_of, put};
+ghost use Rattle.md_engine.specs.Ends.{ends_at, point_of};
 
 pub mod container;
 pub mod held_leaf;
@@ -230,11 +230,14 @@ fn further(point: Point, count: usize) -> Point
     }
 }
 
-/// The ends of containers at a point, the innermost first.
-fn ends_at(alloc: Global, containers: &[Container], point: Point) -> Result<Vec<Event>, Message>
-    ensures { IfOk result (λ ends. ends.items ≡ ends_at containers.now point) }
+/// Adds the ends of containers at a point behind the last event, the innermost first; or changes nothing.
+fn add_ends(events: &mut Vec<Event>, containers: &[Container], point: Point) -> Result<(), Message>
+    ensures { events.new.items ≡
+        (if is_ok result then events.old.items ++ ends_at containers.now point else events.old.items) }
 {
-    let mut ends = Vec::new(alloc);
+    if events.reserve(containers.len()).is_err() {
+        return Err(Message);
+    }
     let mut left = containers.len();
     while left > 0 {
         left -= 1;
@@ -244,15 +247,13 @@ fn ends_at(alloc: Global, containers: &[Container], point: Point) -> Result<Vec<
             point,
             link: None,
         };
-        if ends.push(event).is_err() {
-            return Err(Message);
-        }
+        events.push_reserved(event);
     }
-    Ok(ends)
+    Ok(())
 }
 
-/// Of at most so many events, the last are moved to the front by turning them around. Of more that takes longer than the
-/// library's way, which needs room for some of them.
+/// Of at most so many events, the last are moved to the front by turning them around. Of more that takes longer than
+/// the library's way, which needs room for some of them.
 const FEW: usize = 64;
 
 /// Moves the last `count` events to the front.
@@ -266,6 +267,17 @@ fn turn_few(events: &mut [Event], count: usize)
     back.reverse();
 }
 
+/// Moves the last event to the front.
+fn turn_one(events: &mut [Event])
+    requires { 0 < length events.old }
+    ensures { events.new ≡ drop (length events.old - 1) events.old ++ take (length events.old - 1) events.old }
+{
+    let last = events.len() - 1;
+    let moved = events[last];
+    events.copy_within(..last, 1);
+    events[0] = moved;
+}
+
 /// Moves the last `count` events in front of the one at `at`.
 fn turn(events: &mut Vec<Event>, at: usize, count: usize)
     requires { at + count ≤ length events.old.items }
@@ -273,7 +285,12 @@ fn turn(events: &mut Vec<Event>, at: usize, count: usize)
         take at events.old.items ++ drop (length events.old.items - at - count) (drop at events.old.items)
         ++ take (length events.old.items - at - count) (drop at events.old.items) }
 {
-    if events.len() - at <= FEW {
+    if events.len() - at == count {
+        return;
+    }
+    if count == 1 {
+        turn_one(&mut events[at..]);
+    } else if events.len() - at <= FEW {
         turn_few(&mut events[at..], count);
     } else {
         events[at..].rotate_right(count);
@@ -717,24 +734,6 @@ impl<'a> Tokenizer<'a> {
         }
     }
 
-    /// Puts events in front of the one at `at`, or behind the last; or changes nothing.
-    fn put(&mut self, at: usize, ends: &mut Vec<Event>) -> Result<(), Message>
-        requires { All (λ e. IsPlaced (world self.old).setting.bytes e.point) ends.old.items }
-        ensures { world self.new ≡
-            record (world self.old) {
-              events = if is_ok result then put at ends.old.items (world self.old).events
-                  else (world self.old).events;
-            } }
-    {
-        let at = at.min(self.events.len());
-        let count = ends.len();
-        if self.events.append(ends).is_err() {
-            return Err(Message);
-        }
-        turn(&mut self.events, at, count);
-        Ok(())
-    }
-
     /// Ends the containers behind the first `keep`, the innermost first, in front of the event at `at` and at its
     /// point, or at the tokenizer's point behind the last event; or changes nothing.
     pub fn close(&mut self, keep: usize, at: usize) -> Result<(), Message>
@@ -745,8 +744,10 @@ impl<'a> Tokenizer<'a> {
             return Ok(());
         }
         let point = self.end_point(at);
-        let mut ends = ends_at(self.alloc, &self.containers[keep..], point)?;
-        self.put(at, &mut ends)?;
+        let at = at.min(self.events.len());
+        let count = self.containers.len() - keep;
+        add_ends(&mut self.events, &self.containers[keep..], point)?;
+        turn(&mut self.events, at, count);
         self.over = self.over.cut(keep);
         self.containers.truncate(keep);
         Ok(())
