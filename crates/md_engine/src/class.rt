@@ -2,8 +2,8 @@
 //
 // No class has a line ending or a tab: behind each of its bytes the line goes on, one column further.
 
-ghost use Rattle.std.specs.Prelude.{◌≡◌, nat_lt};
-ghost use Rattle.std.specs.List.{list_all};
+ghost use Rattle.std.specs.Prelude.{◌≡◌, ◌≤◌, length, nat_lt};
+ghost use Rattle.std.specs.List.{list_all, prefix_len};
 ghost use Rattle.md_engine.specs.Classes.{IsSpan, has, is_mark, is_white};
 
 /// A set of bytes without line endings and tabs.
@@ -47,9 +47,18 @@ fn are_above_cr(bytes: &[u8]) -> bool
     all
 }
 
-/// How many bytes of text stand in front: 16 at once, then 8, then byte by byte.
-fn text_span(bytes: &[u8]) -> usize
-    ensures { IsSpan Class.Text bytes.now result }
+/// How many bytes in front are greater than CR, counted one by one.
+fn each_above_cr_len(bytes: &[u8]) -> usize
+    ensures value { result ≡ prefix_len (nat_lt 13) bytes.now }
+    ensures bound { result ≤ length bytes.now }
+{
+    bytes.iter().take_while(|byte| **byte > b'\r').count()
+}
+
+/// How many bytes in front are greater than CR: 16 are compared at once, then 8, then each.
+pub fn above_cr_len(bytes: &[u8]) -> usize
+    ensures value { result ≡ prefix_len (nat_lt 13) bytes.now }
+    ensures bound { result ≤ length bytes.now }
 {
     let mut at = 0;
     while bytes.len() - at >= 16 && are_above_cr(&bytes[at..][..16]) {
@@ -58,6 +67,14 @@ fn text_span(bytes: &[u8]) -> usize
     if bytes.len() - at >= 8 && are_above_cr(&bytes[at..][..8]) {
         at += 8;
     }
+    at + each_above_cr_len(&bytes[at..])
+}
+
+/// How many bytes of text stand in front: many at once, then byte by byte.
+fn text_span(bytes: &[u8]) -> usize
+    ensures { IsSpan Class.Text bytes.now result }
+{
+    let at = above_cr_len(bytes);
     at + Class::Text.count(&bytes[at..])
 }
 

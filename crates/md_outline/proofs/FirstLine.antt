@@ -1,43 +1,54 @@
 -- The line that comes first is found by its ending.
-use Rattle.std.proofs.Common.{◌≡◌, ℕ, ◌<◌, ◌≤◌, ◌≢◌, Bool, true, false, not, List, length, get_or, inl, inr, refl}
-use Rattle.std.proofs.Common.{sym, ◌∙◌, ap, arith}
+use Rattle.std.proofs.Common.{◌≡◌, ℕ, suc, ◌+◌, ◌-◌, ◌<◌, ◌≢◌, Bool, true, false, not, nat_eq, nat_lt, List, [], ◌∷◌}
+use Rattle.std.proofs.Common.{length, take, drop, get_or, refl, ◌∙◌, ap, arith, length-drop, add-one, drop-cons}
 use Rattle.std.specs.List.{prefix_len}
-use Rattle.std.proofs.lemmas.Bool.{cases_order, false≢true}
-use Rattle.std.proofs.lemmas.List.Sums.{prefix_len-le-length, prefix_len_passes, prefix_len_stops}
-use Rattle.memchr.specs.Find.{Nowhere, Passes, is_byte2}
+use Rattle.std.proofs.lemmas.Bool.Decides.{nat_tests}
+use Rattle.std.proofs.lemmas.List.{drop-drop, take_all}
 use Rattle.md_meaning.specs.Lines.{is_ending}
 use Rattle.md_outline.specs.TextLines.{line_len}
 
--- each element in front of a place passes, and the one that stands there does not
-span-is : (p : ℕ → Bool) (xs : List ℕ) (k : ℕ) → k ≤ length xs →
-    ((j : ℕ) → j < k → p (get_or xs j 0) ≡ true) → (k < length xs → p (get_or xs k 0) ≡ false) → k ≡ prefix_len p xs
-span-is p xs k within each ends =
-    let low = prefix_len-le-length p xs in
-    elim (cases_order k (prefix_len p xs)) [
-      | inl e ↦ e
-      | inr (inl less) ↦
-          absurd (false≢true (sym (ends (omega (arith, low))) ∙ prefix_len_passes p xs k 0 less))
-      | inr (inr more) ↦
-          absurd (false≢true (sym (prefix_len_stops p xs 0 (omega (arith, within))) ∙ each (prefix_len p xs) more))
-    ]
+-- a byte above CR ends no line
+no-ending : (b : ℕ) → nat_lt 13 b ≡ true → not (is_ending b) ≡ true
+no-ending b h =
+    let lf : nat_eq b 10 ≡ false = grind (arith, nat_tests) in
+    let cr : nat_eq b 13 ≡ false = grind (arith, nat_tests) in
+    rw (lf, cr) refl
 
-no-ending : (b : ℕ) → is_byte2 10 13 b ≢ true → not (is_ending b) ≡ true
-no-ending b none = go (is_ending b) refl
+-- bytes above CR are of the first line
+pub line-above : (xs : List ℕ) →
+    line_len xs ≡ prefix_len (nat_lt 13) xs + line_len (drop (prefix_len (nat_lt 13) xs) xs)
+line-above [] = refl
+line-above (x ∷ xs) = go (nat_lt 13 x) refl (line-above xs)
   where
-    go : (x : Bool) → is_ending b ≡ x → not x ≡ true
-    go true is = absurd (none is)
-    go false is = refl
+    go : (b : Bool) → nat_lt 13 x ≡ b →
+        line_len xs ≡ prefix_len (nat_lt 13) xs + line_len (drop (prefix_len (nat_lt 13) xs) xs) →
+        line_len (x ∷ xs) ≡
+        prefix_len (nat_lt 13) (x ∷ xs) + line_len (drop (prefix_len (nat_lt 13) (x ∷ xs)) (x ∷ xs))
+    go true e more =
+        let count : prefix_len (nat_lt 13) (x ∷ xs) ≡ suc (prefix_len (nat_lt 13) xs) = rw e (omega arith) in
+        let behind : line_len (drop (prefix_len (nat_lt 13) (x ∷ xs)) (x ∷ xs)) ≡
+        line_len (drop (prefix_len (nat_lt 13) xs) xs) = ap (λ (m : ℕ). line_len (drop m (x ∷ xs))) count in
+        let here : line_len (x ∷ xs) ≡ 1 + line_len xs = rw (no-ending x e) refl in
+        omega (arith, count, behind, here, more)
+    go false e more = rw e (omega arith)
 
--- no ending stands in the text
-pub line-whole : (text : List ℕ) → Nowhere (Passes (is_byte2 10 13) text) 0 (length text) →
-    length text ≡ line_len text
-line-whole text none =
-    span-is (λ b. not (is_ending b)) text (length text) (omega arith)
-    (λ j lt. no-ending (get_or text j 0) (none j (omega arith) lt)) (λ lt. absurd (omega arith))
-
--- the first one stands at a place
-pub line-cut : (text : List ℕ) (at : ℕ) → at < length text → Nowhere (Passes (is_byte2 10 13) text) 0 at →
-    Passes (is_byte2 10 13) text at → at ≡ line_len text
-line-cut text at lt none here =
-    span-is (λ b. not (is_ending b)) text at (omega arith)
-    (λ j less. no-ending (get_or text j 0) (none j (omega arith) less)) (λ within. ap not here)
+-- and so are another byte that is no ending, and bytes above CR behind it
+pub line-more : (text : List ℕ) (at n : ℕ) → at < length text → get_or text at 0 ≢ 10 → get_or text at 0 ≢ 13 →
+    line_len text ≡ at + line_len (drop at text) →
+    n ≡ prefix_len (nat_lt 13) (take (length text - (at + 1)) (drop (at + 1) text)) →
+    line_len text ≡ at + 1 + n + line_len (drop (at + 1 + n) text)
+line-more text at n lt lf cr before is =
+    let left = length-drop (at + 1) text in
+    let rest = take_all (length text - (at + 1)) (drop (at + 1) text) (omega (arith, left)) in
+    let count : n ≡ prefix_len (nat_lt 13) (drop (at + 1) text) = is ∙ ap (prefix_len (nat_lt 13)) rest in
+    let no_lf : nat_eq (get_or text at 0) 10 ≡ false = grind (arith, nat_tests) in
+    let no_cr : nat_eq (get_or text at 0) 13 ≡ false = grind (arith, nat_tests) in
+    let cut : drop at text ≡ get_or text at 0 ∷ drop (at + 1) text = rw add-one (drop-cons text at 0 lt) in
+    let one : line_len (get_or text at 0 ∷ drop (at + 1) text) ≡ 1 + line_len (drop (at + 1) text) =
+    rw (no_lf, no_cr) refl in
+    let here = ap line_len cut ∙ one in
+    let behind : line_len (drop (at + 1) text) ≡ n + line_len (drop n (drop (at + 1) text)) =
+    rw count (line-above (drop (at + 1) text)) in
+    let far : drop n (drop (at + 1) text) ≡ drop (at + 1 + n) text = drop-drop _ _ text in
+    let same = ap line_len far in
+    omega (arith, before, here, behind, same)

@@ -10,9 +10,9 @@ ghost use Rattle.md_seam.specs.Events.Places.{last_line};
 ghost use Rattle.md_outline.specs.TextLines.{after_ending, first_as, first_full_as, full_as, line_len, lines_as};
 ghost use Rattle.md_outline.specs.TextLines.{text_entries};
 
+use md_engine::class::above_cr_len;
 use md_engine::message::Message;
 use md_meaning::outline::{OutlineLine, Word};
-use memchr::memchr2;
 use std::str;
 
 /// One more. A number that is no `usize` is one of which no memory holds so many.
@@ -52,15 +52,18 @@ fn white_end_len(bytes: &[u8]) -> usize
         .count()
 }
 
-/// How many bytes stand before the first line ending.
+/// How many bytes stand before the first line ending. Most bytes are greater than CR, and many of them are compared at
+/// once.
 pub fn first_line_len(text: &[u8]) -> usize
     ensures value { result ≡ line_len text.now }
     ensures bound { result ≤ length text.now }
 {
-    match memchr2(b'\n', b'\r', text) {
-        Some(at) => at,
-        None => text.len(),
+    let mut at = above_cr_len(text);
+    while at < text.len() && text[at] != b'\n' && text[at] != b'\r' {
+        at += 1;
+        at += above_cr_len(&text[at..]);
     }
+    at
 }
 
 /// What follows the line ending that comes first: LF, CR or CR LF.

@@ -1,9 +1,18 @@
-use Rattle.md_outline.proofs.FirstLine.{line-cut, line-whole}
+use Rattle.std.proofs.Common.{arith}
+use Rattle.md_outline.proofs.FirstLine.{line-above, line-more}
 use Rattle.md_outline.proofs.outline.lines.first_line_len.Goals as goal
 
-pub returns-in-Some-clause-value : goal.returns-in-Some-clause-value
-returns-in-Some-clause-value c =
-    line-cut c.args.text.now c.in-Some.at c.in-Some.ensures.0.high c.in-Some.ensures.0.before c.in-Some.ensures.1
+pub loop-at-init : goal.loop-at-init
+loop-at-init c = record {
+  within = c.above_cr_len-at.ensures.bound;
+  rest = rw c.above_cr_len-at.ensures.value (line-above c.args.text.now);
+}
 
-pub returns-in-None-clause-value : goal.returns-in-None-clause-value
-returns-in-None-clause-value c = line-whole c.args.text.now c.in-None.ensures
+pub loop-at-preserved : goal.loop-at-preserved
+loop-at-preserved c = record {
+  within = omega arith;
+  rest =
+      line-more c.args.text.now c.loop-at.at c.above_cr_len-at-in-loop-at.result c.loop-at-test.true
+      c.if-text-at-ne10.true c.if-text-at-ne13.true c.loop-at.invariant.rest
+      c.above_cr_len-at-in-loop-at.ensures.value;
+}
