@@ -39,6 +39,7 @@ counted (x ∷ xs) ys all = go (nat_lt 13 x) refl (counted xs ys)
         rw e (omega (arith, rest))
     go false e more = let no : false ≡ true = rw e at all in cc
 
+-- bytes above CR and what is counted behind them are all that is counted
 counted-behind : (bytes : List ℕ) (at n : ℕ) → at ≤ length bytes → list_all (nat_lt 13) (take at bytes) ≡ true →
     n ≡ prefix_len (nat_lt 13) (take (length bytes - at) (drop at bytes)) → at + n ≡ prefix_len (nat_lt 13) bytes
 counted-behind bytes at n le all is =
