@@ -21,21 +21,21 @@ REQUESTS = 60
 
 # How many parts of a text must be read within the steps, and how many within the requests.
 MOST: dict[str, tuple[int, int]] = {
-    "paragraphs of long lines": (6, 18),
-    "one long line": (98, 292),
-    "headings of some words": (36, 94),
-    "setext headings": (25, 40),
-    "quotes of long lines": (32, 768),
-    "quotes in quotes in quotes": (32, 716),
-    "fences of some words": (38, 8_238),
-    "lines of an open fence": (75, 12_357),
-    "lines of indented code": (78, 12_357),
-    "HTML": (21, 8_238),
+    "paragraphs of long lines": (5, 27),
+    "one long line": (72, 438),
+    "headings of some words": (36, 141),
+    "setext headings": (27, 60),
+    "quotes of long lines": (28, 1_152),
+    "quotes in quotes in quotes": (32, 1_074),
+    "fences of some words": (36, 12_357),
+    "lines of an open fence": (67, 18_535),
+    "lines of indented code": (70, 18_535),
+    "HTML": (19, 12_357),
     "definitions": (13, 5),
-    "blank lines": (672, 12_357),
-    "one line of tabs": (750, 8_238),
-    "one line of spaces": (4_668, 8_238),
-    "one line of `*`": (1_950, 8_238),
+    "blank lines": (672, 18_535),
+    "one line of tabs": (1_125, 12_357),
+    "one line of spaces": (4_668, 12_357),
+    "one line of `*`": (1_950, 12_357),
 }
 
 

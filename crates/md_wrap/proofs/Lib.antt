@@ -1,1 +1,2 @@
+pub mod FootnoteLaw
 pub mod LineLemmas

@@ -1,6 +1,6 @@
-// Whole texts in a container: a quote or a list item around a text, of which all bytes are kept.
+// Whole texts in a container: a quote, a list item or a footnote definition around a text, of which all bytes are kept.
 //
-// A prefix stands before each line. A line ends at LF, CR or CR LF (CommonMark 2.1); bytes behind the last ending are a
+// A prefix comes before each line. A line ends at LF, CR or CR LF (CommonMark 2.1); bytes behind the last ending are a
 // last line, and no bytes are none. An empty line has its prefix too, so it does not end the container.
 //
 // What a text means that is wrapped so is known for most texts: the container, with what the text means in it. That is
@@ -13,14 +13,12 @@ ghost use Rattle.std.specs.Str.{IsCharBoundary};
 ghost use Rattle.md_meaning.specs.Lines.{full_lines_of};
 ghost use Rattle.md_meaning.specs.Wrapped.{IsItemOf, IsQuoteOf, IsSmall, prefixed};
 ghost use Rattle.md_wrap.specs.Endings.{ending_len};
+ghost use Rattle.md_wrap.specs.Footnoted.{IsFootnoteOf};
 
 use md_engine::configuration::ParseOptions;
 use md_engine::message::Message;
 use memchr::memchr2;
 use std::alloc::Global;
-
-/// How many bytes each prefix has.
-const PREFIX_LEN: usize = 2;
 
 /// How many bytes the line ending has that stands first, and 0 of no bytes.
 fn ending_len(bytes: &[u8]) -> usize
@@ -48,8 +46,8 @@ fn line_len(text: &str) -> usize
     }
 }
 
-/// An empty text with room for a text with a prefix before each of its lines.
-fn with_room(alloc: Global, text: &str) -> Result<String, Message>
+/// An empty text with room for a text with a prefix of at most so many bytes before each of its lines.
+fn with_room(alloc: Global, text: &str, prefix_len: usize) -> Result<String, Message>
     requires { IsSmall text.now }
     ensures { IfOk result (λ room. string_bytes room ≡ []) }
 {
@@ -57,7 +55,8 @@ fn with_room(alloc: Global, text: &str) -> Result<String, Message>
         .bytes()
         .filter(|byte| *byte == b'\n' || *byte == b'\r')
         .count();
-    match String::with_capacity(alloc, text.len() + PREFIX_LEN * (endings + 1)) {
+    let prefixes = prefix_len.saturating_mul(endings + 1);
+    match String::with_capacity(alloc, text.len().saturating_add(prefixes)) {
         Ok(room) => Ok(room),
         Err(_) => Err(Message),
     }
@@ -79,7 +78,7 @@ fn prefixed(alloc: Global, text: &str, first: &str, further: &str) -> Result<Str
     ensures { IfOk result
         (λ wrapped. string_bytes wrapped ≡ concat (prefixed first.now further.now (full_lines_of text.now))) }
 {
-    let mut wrapped = with_room(alloc, text)?;
+    let mut wrapped = with_room(alloc, text, first.len().max(further.len()))?;
     let mut prefix = first;
     let mut left = text;
     'lines: while !left.is_empty() {
@@ -113,4 +112,16 @@ pub fn item(alloc: Global, value: &str, options: &ParseOptions) -> Result<String
     ensures { IfOk result (λ item. IsItemOf options.now value.now (string_bytes item)) }
 {
     prefixed(alloc, value, "+ ", "  ")
+}
+
+/// A text in a footnote definition (GFM) with the label `x`: `[^x]: ` before the first line, and four spaces before each
+/// other. The empty text stays empty.
+///
+/// The text has at most `usize::MAX / 8` bytes. The options change no byte: the contract says what the footnote means
+/// with them. An `Err` says that memory ran out; then nothing is handed out.
+pub fn footnote(alloc: Global, value: &str, options: &ParseOptions) -> Result<String, Message>
+    requires { IsSmall value.now }
+    ensures { IfOk result (λ footnote. IsFootnoteOf options.now value.now (string_bytes footnote)) }
+{
+    prefixed(alloc, value, "[^x]: ", "    ")
 }
