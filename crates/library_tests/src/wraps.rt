@@ -14,6 +14,7 @@ const OPTIONS: ParseOptions = ParseOptions {
     constructs: Constructs {
         block_quote: true,
         code_indented: true,
+        gfm_footnote_definition: true,
         list_item: true,
         ..Constructs::NONE
     },
@@ -25,6 +26,7 @@ enum Around {
     Nothing,
     Quote,
     Item,
+    Footnote,
 }
 
 fn put(alloc: Global, around: Around, text: &str) -> Result<String, Message>
@@ -37,6 +39,7 @@ fn put(alloc: Global, around: Around, text: &str) -> Result<String, Message>
         },
         Around::Quote => wrap::quote(alloc, text, &OPTIONS),
         Around::Item => wrap::item(alloc, text, &OPTIONS),
+        Around::Footnote => wrap::footnote(alloc, text, &OPTIONS),
     }
 }
 
@@ -51,6 +54,7 @@ fn add_line(all: &mut String, depth: usize, word: Word, text: &str) -> Result<()
         Word::Item => all.push_str("i"),
         Word::Code => all.push_str("c"),
         Word::Paragraph => all.push_str("p"),
+        Word::Footnote => all.push_str("f"),
         _ => {
             all.push_str("|")?;
             all.push_str(text)?;
@@ -111,20 +115,20 @@ fn check_meaning(rt: &impl Abort, alloc: Global, around: Around, text: &str, wan
     );
 }
 
-// Texts, each with its bytes as a quote and as an item.
+// Texts, each with its bytes as a quote, as an item and as a footnote definition.
 const WRITTEN: [&str; 8] = [
-    " =  = ",
-    "a = > a = + a",
-    "a\n\n = > a\n> \n = + a\n  \n",
-    "a\r\nb\r = > a\r\n> b\r = + a\r\n  b\r",
-    "a\n\nb = > a\n> \n> b = + a\n  \n  b",
-    "\r\r\n\n\r = > \r> \r\n> \n> \r = + \r  \r\n  \n  \r",
-    "\u{feff}é\n\0 = > \u{feff}é\n> \0 = + \u{feff}é\n  \0",
-    "\u{2028}\n\ta = > \u{2028}\n> \ta = + \u{2028}\n  \ta",
+    " =  =  = ",
+    "a = > a = + a = [^x]: a",
+    "a\n\n = > a\n> \n = + a\n  \n = [^x]: a\n    \n",
+    "a\r\nb\r = > a\r\n> b\r = + a\r\n  b\r = [^x]: a\r\n    b\r",
+    "a\n\nb = > a\n> \n> b = + a\n  \n  b = [^x]: a\n    \n    b",
+    "\r\r\n\n\r = > \r> \r\n> \n> \r = + \r  \r\n  \n  \r = [^x]: \r    \r\n    \n    \r",
+    "\u{feff}é\n\0 = > \u{feff}é\n> \0 = + \u{feff}é\n  \0 = [^x]: \u{feff}é\n    \0",
+    "\u{2028}\n\ta = > \u{2028}\n> \ta = + \u{2028}\n  \ta = [^x]: \u{2028}\n    \ta",
 ];
 
 #[test]
-fn writes_quotes_and_items(rt: HostRuntime) {
+fn writes_containers(rt: HostRuntime) {
     for row in WRITTEN {
         let mut parts = row.split(" = ");
         let text = parts.next().unwrap_or("");
@@ -142,18 +146,27 @@ fn writes_quotes_and_items(rt: HostRuntime) {
             text,
             parts.next().unwrap_or("?"),
         );
+        check_bytes(
+            &rt,
+            rt.alloc(),
+            Around::Footnote,
+            text,
+            parts.next().unwrap_or("?"),
+        );
     }
 }
 
-// Texts, each with its outline, that of its quote and that of its item. Both laws of nesting speak of the first alone: a
-// tab has fewer columns behind a prefix; whitespace in front of the first line makes the item wider than the prefix of
-// the others; an item that starts blank ends with a second blank line; and a byte order mark is one at the front alone.
-const MEANT: [&str; 5] = [
-    "a\n\nb = p.|a|p.|b| = q.p..|a|.p..|b| = +.i..p...|a|..p...|b|",
-    "\ta = c.|a| = q.p..|a| = +.i..p...|a|",
-    " a\n\nb = p.|a|p.|b| = q.p..|a|.p..|b| = +.i..p...|a|p.|b|",
-    "\n\na = p.|a| = q.p..|a| = +.ip.|a|",
-    "\u{feff}a = p.|a| = q.p..|\u{feff}a| = +.i..p...|\u{feff}a|",
+// Texts, each with its outline, and that of its quote, its item and its footnote definition. All laws of nesting speak of
+// the first two alone: a tab has fewer columns behind a prefix, or none; whitespace in front of the first line makes the item
+// wider than the prefix of the others; an item that starts blank ends with a second blank line; and a byte order mark is
+// one at the front alone.
+const MEANT: [&str; 6] = [
+    "a\n\nb = p.|a|p.|b| = q.p..|a|.p..|b| = +.i..p...|a|..p...|b| = f.|x|.p..|a|.p..|b|",
+    "[^a]: b = f.|a|.p..|b| = q.f..|a|..p...|b| = +.i..f...|a|...p....|b| = f.|x|.f..|a|..p...|b|",
+    "\ta = c.|a| = q.p..|a| = +.i..p...|a| = f.|x|.p..|a|",
+    " a\n\nb = p.|a|p.|b| = q.p..|a|.p..|b| = +.i..p...|a|p.|b| = f.|x|.p..|a|.p..|b|",
+    "\n\na = p.|a| = q.p..|a| = +.ip.|a| = f.|x|.p..|a|",
+    "\u{feff}a = p.|a| = q.p..|\u{feff}a| = +.i..p...|\u{feff}a| = f.|x|.p..|\u{feff}a|",
 ];
 
 #[test]
@@ -179,6 +192,13 @@ fn a_container_has_the_text_in_it(rt: HostRuntime) {
             &rt,
             rt.alloc(),
             Around::Item,
+            text,
+            parts.next().unwrap_or("?"),
+        );
+        check_meaning(
+            &rt,
+            rt.alloc(),
+            Around::Footnote,
             text,
             parts.next().unwrap_or("?"),
         );

@@ -40,6 +40,8 @@ use Rattle.markdown_blocks.specs.Parsed.{IsRead, IsWithoutMdx}
 use Rattle.md_front_rooms.proofs.FrontUnlinked.{front-stays}
 use Rattle.markdown_blocks.proofs.TextBlocks.{HasBlocks, blocks-read, has-blocks, parsed-footnotes, parsed-labels}
 use Rattle.md_frame.proofs.TextItemised.{text-itemised}
+use Rattle.md_wrap.specs.Footnoted.{NestsInFootnote, footnoted}
+use Rattle.md_wrap.proofs.FootnoteLaw.{footnote-nests}
 use Rattle.md_frame.proofs.TextQuoted.{text-quoted}
 
 -- What the calls in front of the last loop gave: the front of a text, and what flow reads behind it; and the labels in
@@ -134,6 +136,9 @@ module _ (state : ParseState) (start : Point) (found : Found) (new : World) (mar
         placed = tiles-placed bytes (reads (document_of state)) events frame tiled.0;
         in_quote = λ on may. text-quoted state.options.now bytes events shows on may;
         in_item = λ on may. text-itemised state.options.now bytes events shows on may;
+        in_footnote =
+            subst (NestsInFootnote state.options.now bytes (footnoted bytes)) (sym shows)
+            (footnote-nests state.options.now bytes);
         tree = shows;
         on = ap (are_on state.options.now) shows ∙ tree-on state.options.now bytes;
         events_are = all;

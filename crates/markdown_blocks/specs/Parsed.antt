@@ -20,6 +20,7 @@ use Rattle.md_seam.specs.TextPart.{Document, document_of, text_kind, wants_text}
 use Rattle.md_meaning.specs.Label.{labels}
 use Rattle.md_meaning.specs.Wrapped.{NestsInItem, NestsInQuote, itemised, quoted}
 use Rattle.md_outline.specs.Outlined.{IsOutlined}
+use Rattle.md_wrap.specs.Footnoted.{NestsInFootnote, footnoted}
 pub use Rattle.md_meaning.specs.Wrapped.{IsItemable, IsQuotable, IsSmall}
 use Rattle.md_rows.specs.BlockList.{block_list}
 use Rattle.md_frame.specs.ReadsPlain.{reads_plain}
@@ -47,6 +48,9 @@ pub record IsRead (reads : Document → Part → List Event → Type 0) (text : 
   -- with `+ ` before its first line and two spaces before each other, it means one list, whose one item has this tree in
   -- it, unchanged, and has the same labels
   pub in_item : NestsInItem options text (itemised text) (spelled events text)
+  -- with `[^x]: ` before its first line and four spaces before each other, it means one footnote definition with this
+  -- tree in it, unchanged, and has the same labels, behind `x`
+  pub in_footnote : NestsInFootnote options text (footnoted text) (spelled events text)
   pub tree : spelled events text ≡ tree options text
   -- no construct occurs in it that is off
   pub on : are_on options (spelled events text) ≡ true

@@ -2,7 +2,7 @@
 // refuse the requests of that call alone (`scripts/refuse_memory.sh`). Its argument names the call:
 //
 //     parse, parse_with, outline    it prints the outline of the text
-//     quote, item                   it prints the text in that container
+//     quote, item, footnote         it prints the text in that container
 //     run                           it prints what `blocks_body::run::run` prints of its standard input
 //     states                        the states that take no memory, of those that can be called on their own; it prints what they answer
 //
@@ -20,7 +20,7 @@ use markdown_blocks::event::Event;
 use markdown_blocks::message::Message;
 use markdown_blocks::outline::outline;
 use markdown_blocks::parser::{ParseState, parse, parse_with};
-use markdown_blocks::wrap::{item, quote};
+use markdown_blocks::wrap::{footnote, item, quote};
 use md_program::body::{Body, MOST, Outlined};
 use md_program::print::print;
 use md_program::system::arguments;
@@ -118,6 +118,16 @@ fn in_item(alloc: Global, text: &str, options: &ParseOptions) -> Result<String, 
     wrapped
 }
 
+/// The text in a footnote definition.
+fn in_footnote(alloc: Global, text: &str, options: &ParseOptions) -> Result<String, Message>
+    requires { IsSmall text.now }
+{
+    let _before = mark(alloc, BEFORE)?;
+    let wrapped = footnote(alloc, text, options);
+    let _after = mark(alloc, AFTER)?;
+    wrapped
+}
+
 /// What is printed of a call, or nothing of a word that is none.
 fn answer(alloc: Global, word: &str) -> Result<String, Message> {
     let text = TEXT;
@@ -131,6 +141,7 @@ fn answer(alloc: Global, word: &str) -> Result<String, Message> {
         "outline" => outlined(alloc, text, &options),
         "quote" => in_quote(alloc, text, &options),
         "item" => in_item(alloc, text, &options),
+        "footnote" => in_footnote(alloc, text, &options),
         "states" => states(alloc, &options),
         _ => Ok(String::new(alloc)),
     }

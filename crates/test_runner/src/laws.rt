@@ -1,10 +1,10 @@
-// Tries the laws of nesting: a text that is quoted, or indented as an item, has the same outline one container deeper,
-// and the same labels. Its events nest and tile, too.
+// Tries the laws of nesting: a text that is quoted, or indented as an item or as a footnote definition, has the same
+// outline one container deeper, and the same labels, behind that of the footnote. Its events nest and tile, too.
 
 use crate::events::try_events;
 use crate::report::Report;
 use crate::rows::printed;
-use crate::wraps::{itemised, quoted};
+use crate::wraps::{footnoted, itemised, quoted};
 use md_engine::configuration::Constructs;
 use md_program::body::Body;
 use std::alloc::{AllocError, Global};
@@ -15,7 +15,7 @@ fn is_plain(text: &str) -> bool {
     !text.is_empty() && !text.starts_with('\u{feff}') && !text.contains('\t')
 }
 
-/// Whether the list law speaks of a plain text: its first line is not empty and does not begin with a space.
+/// Whether the list law and the footnote law speak of a plain text: its first line is not empty and does not begin with a space.
 fn begins_with_text(text: &str) -> bool {
     !text.starts_with(' ') && !text.starts_with('\n') && !text.starts_with('\r')
 }
@@ -35,8 +35,26 @@ fn below(alloc: Global, output: &str, heads: &str, indent: &str) -> Result<Strin
     Ok(deeper)
 }
 
-/// Tries both laws on a text with constructs that the body has, as far as they speak of it: not of frontmatter either. The events of
-/// the text in its container are tried with each.
+/// What is printed, with the label `x` in front of those of the other footnote definitions.
+fn with_footnote(alloc: Global, output: &str) -> Result<String, AllocError> {
+    let mut all = String::new(alloc);
+    for line in output.lines() {
+        match line.strip_prefix("footnotes ") {
+            Some(count) => {
+                let others: u64 = count.parse().unwrap_or(0);
+                write!(all, "footnotes {}\n= x\n", others.saturating_add(1))?;
+            }
+            None => {
+                all.push_str(line)?;
+                all.push('\n')?;
+            }
+        }
+    }
+    Ok(all)
+}
+
+/// Tries the laws on a text with constructs that the body has, as far as they speak of it: not of frontmatter either.
+/// The events of the text in its container are tried with each.
 pub fn try_laws<B: Body>(
     alloc: Global,
     text: &str,
@@ -68,6 +86,19 @@ pub fn try_laws<B: Body>(
         let wanted = below(alloc, output.as_str(), "list +\n  item\n", "    ")?;
         report.add("the list law", item.as_str(), wanted.as_str(), got.as_str())?;
         try_events::<B>(alloc, item.as_str(), constructs, report)?;
+    }
+    if constructs.gfm_footnote_definition && begins_with_text(text) {
+        let footnote = footnoted(alloc, text)?;
+        let got = printed::<B>(alloc, footnote.as_str(), constructs)?;
+        let deeper = below(alloc, output.as_str(), "footnote\n  label | x\n", "  ")?;
+        let wanted = with_footnote(alloc, deeper.as_str())?;
+        report.add(
+            "the footnote law",
+            footnote.as_str(),
+            wanted.as_str(),
+            got.as_str(),
+        )?;
+        try_events::<B>(alloc, footnote.as_str(), constructs, report)?;
     }
     Ok(())
 }

@@ -29,6 +29,14 @@ pub fn itemised(alloc: Global, text: &str) -> Result<String, CaseError> {
     wrap::item(alloc, text, &OPTIONS).or(Err(CaseError::Memory))
 }
 
+/// A text in a footnote definition. One beyond the size is refused as no row.
+pub fn footnoted(alloc: Global, text: &str) -> Result<String, CaseError> {
+    if text.len() > MOST {
+        return Err(CaseError::Form);
+    }
+    wrap::footnote(alloc, text, &OPTIONS).or(Err(CaseError::Memory))
+}
+
 /// Tries this on a table of wraps.
 pub fn try_wraps(alloc: Global, rows: &str, report: &mut Report) -> Result<(), CaseError> {
     for row in rows.split("\n\n") {
@@ -38,6 +46,13 @@ pub fn try_wraps(alloc: Global, rows: &str, report: &mut Report) -> Result<(), C
         report.add("a quote", text, wrap.quoted.as_str(), quote.as_str())?;
         let item = itemised(alloc, text)?;
         report.add("an item", text, wrap.itemised.as_str(), item.as_str())?;
+        let footnote = footnoted(alloc, text)?;
+        report.add(
+            "a footnote",
+            text,
+            wrap.footnoted.as_str(),
+            footnote.as_str(),
+        )?;
     }
     Ok(())
 }
