@@ -1,6 +1,6 @@
 -- What a paragraph reads of a line, by the points where it begins and ends.
-use Rattle.std.proofs.Common.{◌≡◌, ℕ, zero, suc, ◌+◌, ◌-◌, ◌%◌, ◌^◌, ◌<◌, ◌≤◌, ◌⊎◌, inl, inr, Bool, true, false, cond, ◌&&◌}
-use Rattle.std.proofs.Common.{List, [], ◌∷◌, refl, ap, sym, ◌∙◌, subst, arith}
+use Rattle.std.proofs.Common.{◌≡◌, ℕ, zero, suc, ◌+◌, ◌-◌, ◌%◌, ◌^◌, ◌<◌, ◌≤◌, ◌⊎◌, inl, inr, Bool, true, false, cond}
+use Rattle.std.proofs.Common.{◌&&◌, List, [], ◌∷◌, refl, ap, sym, ◌∙◌, subst, arith}
 use Rattle.std.specs.Prelude.{◌==◌, not, nat_lt, slice_index}
 use Rattle.std.proofs.Math.Logic.{∥∥₁_elim}
 use Rattle.std.proofs.Props.{props}
@@ -32,8 +32,8 @@ in-order bytes n m not_behind = elim (cases_lt m n) [
 
 -- what the step over an ending does
 ended : (bytes : List ℕ) (p : Point) → is_ending (slice_index bytes p.index) ≡ true →
-    ((next_point bytes p).line ≡ p.line + 1) × ((next_point bytes p).vs ≡ 0)
-ended bytes p e = rw e (refl, refl)
+    (next_point bytes p).line ≡ p.line + 1
+ended bytes p e = rw e refl
 
 -- and the step over another byte, or over a column of a tab
 kept : (bytes : List ℕ) (p : Point) → is_ending (slice_index bytes p.index) ≡ false →
@@ -51,7 +51,7 @@ line-next : (bytes : List ℕ) (p : Point) → p.line ≤ (next_point bytes p).l
 line-next bytes p = go (is_ending (slice_index bytes p.index)) refl
   where
     go : (t : Bool) → is_ending (slice_index bytes p.index) ≡ t → p.line ≤ (next_point bytes p).line
-    go true e = omega (arith, (ended bytes p e).0)
+    go true e = omega (arith, ended bytes p e)
     go false e = omega (arith, (kept bytes p e).0)
 
 lines-grow : (bytes : List ℕ) (d n m : ℕ) → n + d ≡ m → (walked bytes n).line ≤ (walked bytes m).line
@@ -94,7 +94,7 @@ walked-first bytes n zero lt first = absurd (omega (arith, lt))
 walked-first bytes n (suc m) lt first =
     let p = walked bytes m in
     let ends = ends-before bytes p (reached-column bytes p (m, refl)) first in
-    omega (arith, lines-order bytes n m (omega (arith, lt)), (ended bytes p ends).0)
+    omega (arith, lines-order bytes n m (omega (arith, lt)), ended bytes p ends)
 
 -- a point before it is on a line before
 line-first : (bytes : List ℕ) (p q : Point) → IsPlaced bytes p → IsPlaced bytes q → p.index < q.index →
@@ -128,7 +128,12 @@ moved bytes p = go (is_ending (slice_index bytes p.index)) ((slice_index bytes p
   where
     go : (x z : Bool) →
         let q = cond x
-        (record { line = p.line + 1; column = 1; index = cond (is_pair bytes p.index) (p.index + 2) (p.index + 1); vs = 0 })
+        (record {
+          line = p.line + 1;
+          column = 1;
+          index = cond (is_pair bytes p.index) (p.index + 2) (p.index + 1);
+          vs = 0;
+        })
         (cond z (record p { column = p.column + 1; vs = p.vs + 1 })
         (record p { column = p.column + 1; index = p.index + 1; vs = 0 })) in
         p.index < q.index → q.vs ≡ 0
@@ -230,7 +235,7 @@ last-line x q (suc fuel) p small limit k whole enough h line (inl lt) =
     not-ending later = go (is_ending (slice_index x.bytes p.index)) refl
       where
         go : (t : Bool) → is_ending (slice_index x.bytes p.index) ≡ t → is_ending (slice_index x.bytes p.index) ≡ false
-        go true e = absurd (omega (arith, later, line, (ended x.bytes p e).0))
+        go true e = absurd (omega (arith, later, line, ended x.bytes p e))
         go false e = e
 
 -- over a line with its ending
@@ -258,7 +263,7 @@ ended-line x q r events to (suc fuel) p small limit k first whole begun h enough
         Reads x p (exit parts.Data r ∷ enter_link parts.Data r text_link ∷ events) to
     go true e (inl less) _ =
         absurd
-        (omega (arith, line, (ended x.bytes p e).0, line-first x.bytes (next_point x.bytes p) q stands k less first))
+        (omega (arith, line, ended x.bytes p e, line-first x.bytes (next_point x.bytes p) q stands k less first))
     go true e (inr same) _ = read-ending x p r events to small inside e (ap (line_begun x) same ∙ begun) h
     go false e (inl less) rest =
         read-byte x p (exit parts.Data r ∷ enter_link parts.Data r text_link ∷ events) to small inside e (rest e less)

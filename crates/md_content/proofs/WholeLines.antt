@@ -1,7 +1,7 @@
 -- What is read of whole lines where no definition begins: a paragraph over them.
 use Rattle.std.proofs.Common.{◌≡◌, ℕ, zero, suc, ◌+◌, ◌-◌, ◌^◌, ◌<◌, ◌≤◌, inl, inr, Bool, true, false, cond, ◌&&◌}
-use Rattle.std.proofs.Common.{List, Option, get_or, [], ◌∷◌, ◌++◌, length, refl, ap, sym, ◌∙◌, append_assoc, length-append, arith}
-use Rattle.std.proofs.Common.{take}
+use Rattle.std.proofs.Common.{List, Option, get_or, [], ◌∷◌, ◌++◌, length, take, refl, ap, sym, ◌∙◌, append_assoc}
+use Rattle.std.proofs.Common.{length-append, arith}
 use Rattle.std.specs.Prelude.{◌==◌, nat_lt, nat_le, slice_get, slice_index, Some}
 use Rattle.std.specs.List.{All}
 use Rattle.std.proofs.lemmas.Bool.{and_parts, cases_lt, eqb-true, leb-true, or_parts}
@@ -328,13 +328,14 @@ begun-all chunks i d old new some le so_far ends =
     enter parts.Paragraph (first_of chunks) ∷ lines_of cs ++ exit parts.Paragraph (after_of chunks) ∷ [])
     (take_all i chunks le)
 
--- a paragraph over chunks of the text stands at places of it
+-- its events are at places of the text, as the chunks are
 pub paragraph-placed : (bytes : List ℕ) (chunks : List Chunk) → AreChunks bytes chunks →
     ArePlaced bytes (paragraph_of chunks)
 paragraph-placed bytes [] are = absurd (let some = are.some in omega (arith, some))
 paragraph-placed bytes (chunk ∷ chunks) are =
     All-cons At (enter parts.Paragraph chunk.first)
-    (lines_of (chunk ∷ chunks) ++ exit parts.Paragraph (after_of (chunk ∷ chunks)) ∷ []) (All-head (IsChunk bytes) chunk chunks are.each).first
+    (lines_of (chunk ∷ chunks) ++ exit parts.Paragraph (after_of (chunk ∷ chunks)) ∷ [])
+    (All-head (IsChunk bytes) chunk chunks are.each).first
     (All-append At (lines_of (chunk ∷ chunks)) (exit parts.Paragraph (after_of (chunk ∷ chunks)) ∷ [])
     (lines (chunk ∷ chunks) are.each)
     (All-cons At (exit parts.Paragraph (after_of (chunk ∷ chunks))) [] (last chunk chunks are.each) (All-nil At)))

@@ -303,7 +303,7 @@ impl ContentReader<'_> {
         self.read_by_states(alloc, chunks, events)
     }
 
-    /// The same, state by state. Most parts are one paragraph, and need no tokenizer: so it stands apart from them.
+    /// The same, state by state. Most parts are one paragraph and need no tokenizer, so this is not inlined.
     #[inline(never)]
     fn read_by_states(
         &self,
@@ -337,6 +337,9 @@ impl ContentReader<'_> {
 }
 
 /// Whether a chunk ends behind the ending of its line, and the next chunk begins on the next line.
+///
+/// The line of a point counts the endings in front of it. So the chunk has one ending, and by the column it is the last
+/// of its text.
 fn is_followed(chunk: &Chunk, next: &Chunk) -> bool
     ensures { result ≡ is_followed chunk.now next.now }
 {
@@ -355,8 +358,7 @@ fn is_within_line(chunk: &Chunk) -> bool
         && chunk.after.vs == 0
 }
 
-/// Whether the chunks are lines one after another, of which the last has no ending. Their points tell, without a look
-/// at the text.
+/// Whether the chunks are lines one after another, of which the last has no ending. It looks at their points alone.
 fn are_lines(chunks: &[Chunk]) -> bool
     requires { 0 < length chunks.now }
     ensures { result ≡ are_lines chunks.now }
@@ -371,10 +373,10 @@ fn are_lines(chunks: &[Chunk]) -> bool
     is_within_line(&chunks[at])
 }
 
-/// Whether the chunks are lines that are read as one paragraph, by their points and their first byte.
+/// Whether these chunks are the lines of one paragraph, by their points and their first byte. `false` says nothing.
 ///
-/// A definition begins with `[`, behind whitespace at most. Where the first byte is neither, none begins on the first
-/// line, and the paragraph that begins there reaches to the end of the last.
+/// A definition begins with `[`, with whitespace in front of it at most. Where the first byte is neither, no definition
+/// begins, and the paragraph that begins there reaches to the end of the part.
 fn is_paragraph(bytes: &[u8], chunks: &[Chunk]) -> bool
     requires { AreChunks bytes.now chunks.now }
     ensures { result ≡ true → (options : ParseOptions) →
@@ -387,7 +389,7 @@ fn is_paragraph(bytes: &[u8], chunks: &[Chunk]) -> bool
     are_lines(chunks)
 }
 
-/// A paragraph over these chunks, in place of what stands in `events`.
+/// Replaces the events by those of one paragraph over these chunks.
 fn write_paragraph(chunks: &[Chunk], events: &mut Vec<Event>) -> Result<(), Message>
     requires { 0 < length chunks.now }
     ensures { OnOk result (events.new.items ≡ paragraph_of chunks.now) }
