@@ -182,13 +182,15 @@ seen-plain bytes p e =
     go true _ = refl
     go false other = other
 
+pub after-plain : (x : Setting) (p : Point) → is_ending (slice_index x.bytes p.index) ≡ false →
+    after x p ≡ next_point x.bytes p
+after-plain x p e = ap (λ (t : Bool). cond t (line_begun x (next_point x.bytes p)) (next_point x.bytes p)) e
+
 -- over a byte of the line
 read-byte : (x : Setting) (p : Point) (events : List Event) (to : Point) → x.limit < 2 ^ 61 → p.index < x.limit →
     is_ending (slice_index x.bytes p.index) ≡ false → Reads x (next_point x.bytes p) events to → Reads x p events to
 read-byte x p events to small lt plain h =
-    let next : after x p ≡ next_point x.bytes p = ap
-    (λ (t : Bool). cond t (line_begun x (next_point x.bytes p)) (next_point x.bytes p)) plain in
-    rw (feed-next x p small lt, seen-plain x.bytes p plain, next) h
+    rw (feed-next x p small lt, seen-plain x.bytes p plain, after-plain x p plain) h
 
 -- over its ending
 read-ending : (x : Setting) (p q : Point) (events : List Event) (to : Point) → x.limit < 2 ^ 61 → p.index < x.limit →
@@ -207,12 +209,10 @@ read-none : (x : Setting) (p q : Point) → x.limit < 2 ^ 61 → p ≡ q → x.l
     Reads x p (exit parts.Data q ∷ []) q
 read-none x p q small same le = rw (same, feed-none x q small le) (refl, refl)
 
-plain-falls : (x : Setting) (p : Point) → p.index < x.limit → is_ending (slice_index x.bytes p.index) ≡ false →
+pub plain-falls : (x : Setting) (p : Point) → p.index < x.limit → is_ending (slice_index x.bytes p.index) ≡ false →
     cells_left x.limit (next_point x.bytes p) + 1 ≤ cells_left x.limit p
 plain-falls x p lt plain =
-    let next : after x p ≡ next_point x.bytes p = ap
-    (λ (t : Bool). cond t (line_begun x (next_point x.bytes p)) (next_point x.bytes p)) plain in
-    subst (λ (r : Point). cells_left x.limit r + 1 ≤ cells_left x.limit p) next (cells-fall x p lt)
+    subst (λ (r : Point). cells_left x.limit r + 1 ≤ cells_left x.limit p) (after-plain x p plain) (cells-fall x p lt)
 
 -- to the end of the text, where the line has no ending
 pub last-line : (x : Setting) (q : Point) (fuel : ℕ) (p : Point) → x.limit < 2 ^ 61 → x.limit ≡ q.index →
