@@ -1,4 +1,5 @@
--- Whether a definition may begin with a line, by the bytes of its label (CommonMark 4.7): `true` where that is not known.
+-- Whether a definition may begin with a line, by the bytes of its label (CommonMark 4.7): `true` where that is not
+-- known.
 use Rattle.std.specs.Prelude.{ℕ, Bool, true, false, ◌||◌, ◌==◌, if◌then◌else◌, List, [], ◌∷◌}
 use Rattle.md_engine.specs.Place.{is_ending}
 use Rattle.md_meaning.specs.Ascii.{backslash, colon, left_bracket, right_bracket}
@@ -9,8 +10,8 @@ abbrev pub may_mark : List ℕ → Bool
 may_mark [] = true
 may_mark (b ∷ bytes) = b == colon
 
--- Behind `[`: whether the label may end in front of a colon. It ends at the first bracket that no backslash escapes; what
--- is behind a backslash, or on a further line, is not known.
+-- Behind `[`: whether the label may end in front of a colon. It ends at the first bracket that no backslash escapes;
+-- what is behind a backslash, or on a further line, is not known.
 abbrev pub may_close : List ℕ → Bool
 may_close [] = true
 may_close (b ∷ bytes) =

@@ -375,8 +375,8 @@ fn are_lines(chunks: &[Chunk]) -> bool
 
 /// Whether a label may end in front of a colon, by the text behind its `[`: `true` where that is not known.
 ///
-/// A label ends at the first bracket that no backslash escapes. This looks no further than to a backslash, or to the end
-/// of the line.
+/// A label ends at the first bracket that no backslash escapes. This looks no further than to a backslash, or to the
+/// end of the line.
 fn may_close(text: &[u8]) -> bool
     ensures { result ≡ may_close text.now }
 {
