@@ -16,6 +16,7 @@ pub mod JoinedLemmas
 pub mod ContentReadsLemmas
 pub mod SettledLemmas
 pub mod LineReads
+pub mod LabelLook
 pub mod WholeLines
 pub mod LabelTexts
 pub mod LabelWalks

@@ -1,6 +1,6 @@
 -- What a paragraph reads of a line, by the points where it begins and ends.
-use Rattle.std.proofs.Common.{◌≡◌, ℕ, zero, suc, ◌+◌, ◌-◌, ◌%◌, ◌^◌, ◌<◌, ◌≤◌, ◌⊎◌, inl, inr, Bool, true, false, cond, ◌&&◌}
-use Rattle.std.proofs.Common.{List, [], ◌∷◌, refl, ap, sym, ◌∙◌, subst, arith}
+use Rattle.std.proofs.Common.{◌≡◌, ℕ, zero, suc, ◌+◌, ◌-◌, ◌%◌, ◌^◌, ◌<◌, ◌≤◌, ◌⊎◌, inl, inr, Bool, true, false, cond}
+use Rattle.std.proofs.Common.{◌&&◌, List, [], ◌∷◌, refl, ap, sym, ◌∙◌, subst, arith}
 use Rattle.std.specs.Prelude.{◌==◌, not, nat_lt, slice_index}
 use Rattle.std.proofs.Math.Logic.{∥∥₁_elim}
 use Rattle.std.proofs.Props.{props}
@@ -128,7 +128,12 @@ moved bytes p = go (is_ending (slice_index bytes p.index)) ((slice_index bytes p
   where
     go : (x z : Bool) →
         let q = cond x
-        (record { line = p.line + 1; column = 1; index = cond (is_pair bytes p.index) (p.index + 2) (p.index + 1); vs = 0 })
+        (record {
+          line = p.line + 1;
+          column = 1;
+          index = cond (is_pair bytes p.index) (p.index + 2) (p.index + 1);
+          vs = 0;
+        })
         (cond z (record p { column = p.column + 1; vs = p.vs + 1 })
         (record p { column = p.column + 1; index = p.index + 1; vs = 0 })) in
         p.index < q.index → q.vs ≡ 0
@@ -177,13 +182,15 @@ seen-plain bytes p e =
     go true _ = refl
     go false other = other
 
+pub after-plain : (x : Setting) (p : Point) → is_ending (slice_index x.bytes p.index) ≡ false →
+    after x p ≡ next_point x.bytes p
+after-plain x p e = ap (λ (t : Bool). cond t (line_begun x (next_point x.bytes p)) (next_point x.bytes p)) e
+
 -- over a byte of the line
 read-byte : (x : Setting) (p : Point) (events : List Event) (to : Point) → x.limit < 2 ^ 61 → p.index < x.limit →
     is_ending (slice_index x.bytes p.index) ≡ false → Reads x (next_point x.bytes p) events to → Reads x p events to
 read-byte x p events to small lt plain h =
-    let next : after x p ≡ next_point x.bytes p = ap
-    (λ (t : Bool). cond t (line_begun x (next_point x.bytes p)) (next_point x.bytes p)) plain in
-    rw (feed-next x p small lt, seen-plain x.bytes p plain, next) h
+    rw (feed-next x p small lt, seen-plain x.bytes p plain, after-plain x p plain) h
 
 -- over its ending
 read-ending : (x : Setting) (p q : Point) (events : List Event) (to : Point) → x.limit < 2 ^ 61 → p.index < x.limit →
@@ -202,12 +209,10 @@ read-none : (x : Setting) (p q : Point) → x.limit < 2 ^ 61 → p ≡ q → x.l
     Reads x p (exit parts.Data q ∷ []) q
 read-none x p q small same le = rw (same, feed-none x q small le) (refl, refl)
 
-plain-falls : (x : Setting) (p : Point) → p.index < x.limit → is_ending (slice_index x.bytes p.index) ≡ false →
+pub plain-falls : (x : Setting) (p : Point) → p.index < x.limit → is_ending (slice_index x.bytes p.index) ≡ false →
     cells_left x.limit (next_point x.bytes p) + 1 ≤ cells_left x.limit p
 plain-falls x p lt plain =
-    let next : after x p ≡ next_point x.bytes p = ap
-    (λ (t : Bool). cond t (line_begun x (next_point x.bytes p)) (next_point x.bytes p)) plain in
-    subst (λ (r : Point). cells_left x.limit r + 1 ≤ cells_left x.limit p) next (cells-fall x p lt)
+    subst (λ (r : Point). cells_left x.limit r + 1 ≤ cells_left x.limit p) (after-plain x p plain) (cells-fall x p lt)
 
 -- to the end of the text, where the line has no ending
 pub last-line : (x : Setting) (q : Point) (fuel : ℕ) (p : Point) → x.limit < 2 ^ 61 → x.limit ≡ q.index →

@@ -1,10 +1,10 @@
 -- What is read of whole lines where no definition begins: a paragraph over them.
-use Rattle.std.proofs.Common.{◌≡◌, ℕ, zero, suc, ◌+◌, ◌-◌, ◌^◌, ◌<◌, ◌≤◌, inl, inr, Bool, true, false, cond, ◌&&◌}
-use Rattle.std.proofs.Common.{List, Option, get_or, [], ◌∷◌, ◌++◌, length, refl, ap, sym, ◌∙◌, append_assoc, length-append, arith}
-use Rattle.std.proofs.Common.{take}
-use Rattle.std.specs.Prelude.{◌==◌, nat_lt, nat_le, slice_get, slice_index, Some}
+use Rattle.std.proofs.Common.{◌≡◌, ℕ, zero, suc, ◌+◌, ◌-◌, ◌^◌, ◌<◌, ◌≤◌, inl, inr, Bool, true, false, cond}
+use Rattle.std.proofs.Common.{List, Option, get_or, [], ◌∷◌, ◌++◌, length, take, refl, ap, sym, ◌∙◌, append_assoc}
+use Rattle.std.proofs.Common.{length-append, arith}
+use Rattle.std.specs.Prelude.{◌==◌, nat_le, slice_get, slice_range, Some}
 use Rattle.std.specs.List.{All}
-use Rattle.std.proofs.lemmas.Bool.{and_parts, cases_lt, eqb-true, leb-true, or_parts}
+use Rattle.std.proofs.lemmas.Bool.{and_parts, cases_lt, eqb-true, leb-true}
 use Rattle.std.proofs.lemmas.Bool.Decides.{nat_tests}
 use Rattle.std.proofs.lemmas.List.{append-nil, take_all, take_more}
 use Rattle.std.proofs.lemmas.List.Elements.{All-append, All-cons, All-head, All-nil, All-tail}
@@ -12,27 +12,26 @@ use Rattle.md_engine.specs.declared.configuration.ParseOptions.{ParseOptions}
 use Rattle.md_engine.specs.declared.event.Event.{Event}
 use Rattle.md_engine.specs.declared.event.Name.TheVariants as parts
 use Rattle.md_engine.specs.declared.event.Point.{Point}
-use Rattle.md_engine.specs.Place.{IsPlaced, begun_at, is_ending}
+use Rattle.md_engine.specs.Place.{IsPlaced, begun_at}
 use Rattle.md_engine.specs.Scheme.{cells_left}
 use Rattle.md_engine.specs.TextFeed.{text_feed}
 use Rattle.md_engine.specs.World.{Setting, World, fresh, line_begun, skipping}
 use Rattle.md_content.specs.ContentReads.{content_events, end_of, first_of, part_world, settled, skipping_all}
 use Rattle.md_content.specs.ContentRule.{content_by, content_over}
-use Rattle.md_content.specs.Definitions.{may_define}
+use Rattle.md_content.specs.LabelLook.{may_define_in}
 use Rattle.md_content.specs.Paragraph.{text_link}
 use Rattle.md_content.specs.ParagraphRule.{line_events}
 use Rattle.md_content.specs.WholeLines.{after_of, are_lines, is_followed, is_within_line, lines_of, paragraph_of}
 use Rattle.md_content.proofs.ContentReadsLemmas.{skipping-same}
-use Rattle.md_content.proofs.ContentRuleLemmas.{content-unfolds, in-none}
+use Rattle.md_content.proofs.ContentRuleLemmas.{content-unfolds}
+use Rattle.md_content.proofs.LabelLook.{look-none}
 use Rattle.md_content.proofs.LineReads.{Reads, ended-line, last-line, line-order}
 use Rattle.md_content.proofs.SettledLemmas.{settled-end, settled-other}
 use Rattle.md_link_definitions.specs.DefinitionRule.{DefinitionParts}
 use Rattle.md_seam.specs.Ahead.{point_after}
 use Rattle.md_seam.specs.declared.inline.Chunk.{Chunk}
 use Rattle.md_seam.specs.Events.Nested.{enter, enter_link, exit}
-use Rattle.md_seam.specs.Look.{first_seen}
 use Rattle.md_seam.specs.Parts.{AreChunks, ArePlaced, IsChunk}
-use Rattle.md_seam.proofs.FeedLines.{feed-next, feed-none}
 use Rattle.md_seam.proofs.PlainSteps.{Before}
 
 -- Chunks that are lines.
@@ -227,24 +226,10 @@ world-point bytes options chunk chunks lines =
     go true false = refl
     go false t = refl
 
--- no definition begins with another byte as a state sees it
-seen-none : (b : ℕ) (ends cut : Bool) → may_define (Some b) ≡ false →
-    may_define (Some (cond ends 10 (cond ((b == 9) && cut) 32 b))) ≡ false
-seen-none b true cut h = refl
-seen-none b false cut h =
-    let other : (b == 9) ≡ false = (or_parts _ _ (or_parts _ _ h).0).1 in rw other h
-
-no-definition : (x : Setting) (p : Point) → x.limit < 2 ^ 61 → may_define (Some (slice_index x.bytes p.index)) ≡ false →
-    may_define (first_seen (text_feed x p)) ≡ false
-no-definition x p small h = elim (cases_lt p.index x.limit) [
-  | inl lt ↦ rw (feed-next x p small lt)
-      (seen-none (slice_index x.bytes p.index) (is_ending (slice_index x.bytes p.index)) (nat_lt 0 p.vs) h)
-  | inr le ↦ rw (feed-none x p small le) refl
-]
-
--- Whole lines are read as one paragraph, where the first byte is neither whitespace nor `[`.
+-- Whole lines are read as one paragraph, where a look at the first refuses a definition.
 read-whole : (bytes : List ℕ) (options : ParseOptions) (chunk : Chunk) (chunks : List Chunk) →
-    All (IsChunk bytes) (chunk ∷ chunks) → may_define (Some (slice_index bytes chunk.first.index)) ≡ false →
+    All (IsChunk bytes) (chunk ∷ chunks) →
+    may_define_in (slice_range bytes chunk.first.index chunk.after.index) ≡ false →
     are_lines (chunk ∷ chunks) ≡ true → content_events bytes options (chunk ∷ chunks) ≡ paragraph_of (chunk ∷ chunks)
 unfolding content_events
 read-whole bytes options chunk chunks are first lines =
@@ -254,7 +239,8 @@ read-whole bytes options chunk chunks are first lines =
     let small = end-small bytes chunk chunks are in
     let cells = text_feed x p in
     let to = point_after cells p in
-    let none = in-none options cells (no-definition x p small first) in
+    let is = (All-head (IsChunk bytes) chunk chunks are).after in
+    let none = look-none x options chunk.after.index p small (end-behind bytes chunk chunks are lines) is.index first in
     ap (λ (s : Setting). settled all
     (content_over options (text_feed s (part_world bytes options all).point) (part_world bytes options all).point))
     (world-setting bytes options chunk chunks)
@@ -271,7 +257,8 @@ read-whole bytes options chunk chunks are first lines =
     (read-lines x chunk chunks (p ∷ []) small refl refl (omega arith) are lines))
 
 pub whole-lines : (bytes : List ℕ) (options : ParseOptions) (chunks : List Chunk) (d : Chunk) →
-    AreChunks bytes chunks → may_define (Some (slice_index bytes (get_or chunks 0 d).first.index)) ≡ false →
+    AreChunks bytes chunks →
+    may_define_in (slice_range bytes (get_or chunks 0 d).first.index (get_or chunks 0 d).after.index) ≡ false →
     are_lines chunks ≡ true → content_events bytes options chunks ≡ paragraph_of chunks
 whole-lines bytes options [] d are first lines = absurd (let some = are.some in omega (arith, some))
 whole-lines bytes options (chunk ∷ chunks) d are first lines =
@@ -328,13 +315,14 @@ begun-all chunks i d old new some le so_far ends =
     enter parts.Paragraph (first_of chunks) ∷ lines_of cs ++ exit parts.Paragraph (after_of chunks) ∷ [])
     (take_all i chunks le)
 
--- a paragraph over chunks of the text stands at places of it
+-- its events are at places of the text, as the chunks are
 pub paragraph-placed : (bytes : List ℕ) (chunks : List Chunk) → AreChunks bytes chunks →
     ArePlaced bytes (paragraph_of chunks)
 paragraph-placed bytes [] are = absurd (let some = are.some in omega (arith, some))
 paragraph-placed bytes (chunk ∷ chunks) are =
     All-cons At (enter parts.Paragraph chunk.first)
-    (lines_of (chunk ∷ chunks) ++ exit parts.Paragraph (after_of (chunk ∷ chunks)) ∷ []) (All-head (IsChunk bytes) chunk chunks are.each).first
+    (lines_of (chunk ∷ chunks) ++ exit parts.Paragraph (after_of (chunk ∷ chunks)) ∷ [])
+    (All-head (IsChunk bytes) chunk chunks are.each).first
     (All-append At (lines_of (chunk ∷ chunks)) (exit parts.Paragraph (after_of (chunk ∷ chunks)) ∷ [])
     (lines (chunk ∷ chunks) are.each)
     (All-cons At (exit parts.Paragraph (after_of (chunk ∷ chunks))) [] (last chunk chunks are.each) (All-nil At)))

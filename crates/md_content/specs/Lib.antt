@@ -13,3 +13,4 @@ pub mod FootnoteLabels
 pub mod LabelTexts
 pub mod ContentReads
 pub mod WholeLines
+pub mod LabelLook

@@ -29,6 +29,7 @@ ghost use Rattle.md_content.specs.ContentReads.{content_events, is_piece_end, se
 ghost use Rattle.md_content.specs.Joined.{GoesOnAt, JoinsAt, ends_content, goes_on, is_content, is_of_prefix};
 ghost use Rattle.md_content.specs.Joined.{joined};
 ghost use Rattle.md_content.specs.Resolves.{Resolves, is_all_read};
+ghost use Rattle.md_content.specs.LabelLook.{may_close, may_define_in};
 ghost use Rattle.md_content.specs.WholeLines.{are_lines, is_followed, is_within_line, paragraph_of};
 ghost use Rattle.md_engine.specs.declared.configuration.ParseOptions.{ParseOptions};
 ghost use Rattle.md_seam.specs.Events.Inline.{is_line_ending};
@@ -39,7 +40,6 @@ ghost use Rattle.md_seam.specs.Spaces.{ends_line};
 ghost use Rattle.md_seam.specs.Stays.{TakesEach};
 ghost use Rattle.md_seam.specs.Transition.{IsAt, NeedsNothing};
 
-use crate::definitions::may_define;
 pub use crate::definitions::{definition_after, definition_before};
 use crate::labels::{between, labels};
 use crate::{definitions, paragraph};
@@ -373,17 +373,49 @@ fn are_lines(chunks: &[Chunk]) -> bool
     is_within_line(&chunks[at])
 }
 
-/// Whether these chunks are the lines of one paragraph, by their points and their first byte. `false` says nothing.
+/// Whether a label may end in front of a colon, by the text behind its `[`: `true` where that is not known.
 ///
-/// A definition begins with `[`, with whitespace in front of it at most. Where the first byte is neither, no definition
-/// begins, and the paragraph that begins there reaches to the end of the part.
+/// A label ends at the first bracket that no backslash escapes. This looks no further than to a backslash, or to the
+/// end of the line.
+fn may_close(text: &[u8]) -> bool
+    ensures { result ≡ may_close text.now }
+{
+    let mut at = 0;
+    while at < text.len() {
+        match text[at] {
+            b'\n' | b'\r' | b'\\' => return true,
+            b'[' => return false,
+            b']' => return at + 1 == text.len() || text[at + 1] == b':',
+            _ => at += 1,
+        }
+    }
+    true
+}
+
+/// Whether a definition may begin with a line: `true` where that is not known.
+///
+/// A definition begins with `[`, with whitespace in front of it at most, and a colon follows its label.
+fn may_define_in(line: &[u8]) -> bool
+    ensures { result ≡ may_define_in line.now }
+{
+    match line {
+        [] | [b' ' | b'\t', ..] => true,
+        [b'[', text @ ..] => may_close(text),
+        _ => false,
+    }
+}
+
+/// Whether these chunks are the lines of one paragraph: `false` where that is not known.
+///
+/// Definitions come before the paragraph of a part. Where none begins with the first line, the paragraph does, and it
+/// reaches to the end of the part.
 fn is_paragraph(bytes: &[u8], chunks: &[Chunk]) -> bool
     requires { AreChunks bytes.now chunks.now }
     ensures { result ≡ true → (options : ParseOptions) →
         content_events bytes.now options chunks.now ≡ paragraph_of chunks.now }
 {
     let Chunk { first, after } = chunks[0];
-    if first.index >= after.index || may_define(Some(bytes[first.index])) {
+    if first.index >= after.index || may_define_in(&bytes[first.index..after.index]) {
         return false;
     }
     are_lines(chunks)

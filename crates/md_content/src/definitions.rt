@@ -26,7 +26,7 @@ use md_engine::tokenizer::Tokenizer;
 use md_seam::space_or_tab::is_space_or_tab;
 
 /// Whether a definition may begin with what stands here.
-pub(crate) fn may_define(current: Option<u8>) -> bool
+fn may_define(current: Option<u8>) -> bool
     ensures { result ≡ may_define current }
 {
     is_space_or_tab(current) || current == Some(b'[')
