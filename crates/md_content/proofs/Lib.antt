@@ -15,6 +15,7 @@ pub mod ContentRuns
 pub mod JoinedLemmas
 pub mod ContentReadsLemmas
 pub mod SettledLemmas
+pub mod PointOrder
 pub mod LineReads
 pub mod LabelLook
 pub mod WholeLines
