@@ -736,6 +736,7 @@ impl<'a> Tokenizer<'a> {
 
     /// Ends the containers behind the first `keep`, the innermost first, in front of the event at `at` and at its
     /// point, or at the tokenizer's point behind the last event; or changes nothing.
+    #[inline(always)]
     pub fn close(&mut self, keep: usize, at: usize) -> Result<(), Message>
         ensures world { world self.new ≡ (if is_ok result then closed (world self.old) keep at else world self.old) }
         ensures full { is_err result ≡ true → keep < length (world self.old).flags.containers }
@@ -743,6 +744,15 @@ impl<'a> Tokenizer<'a> {
         if self.containers.len() <= keep {
             return Ok(());
         }
+        self.end_containers(keep, at)
+    }
+
+    /// The same, where a container ends. Most lines end none, so this is not inlined.
+    #[inline(never)]
+    fn end_containers(&mut self, keep: usize, at: usize) -> Result<(), Message>
+        requires { keep < length (world self.old).flags.containers }
+        ensures { world self.new ≡ (if is_ok result then closed (world self.old) keep at else world self.old) }
+    {
         let point = self.end_point(at);
         let at = at.min(self.events.len());
         let count = self.containers.len() - keep;

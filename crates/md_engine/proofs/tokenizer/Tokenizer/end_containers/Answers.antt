@@ -1,6 +1,6 @@
 use Rattle.std.proofs.Common.{refl, drop, arith}
 use Rattle.md_engine.proofs.Closing.{ends-placed, ends-put, ends-turn, sound-put}
-use Rattle.md_engine.proofs.tokenizer.Tokenizer.close.Goals as goal
+use Rattle.md_engine.proofs.tokenizer.Tokenizer.end_containers.Goals as goal
 
 pub turn-requires : goal.turn-requires
 turn-requires c =
@@ -25,7 +25,4 @@ returns c =
     let new = ends-put c.args.keep c.args.at _ _ c.args.self.now.containers.items c.deref.result.now _
     c.args.self.now.events.items _ c.turn.new.events.items (omega arith) (omega arith) c.deref.ensures.value
     c.in_ok-add_ends.ensures c.turn.ensures in
-    record {
-      world = rw (new, c.truncate.ensures.items, c.end_point-point.ensures.value) refl;
-      full = λ e. cc;
-    }
+    rw (new, c.truncate.ensures.items, c.end_point-point.ensures.value) refl
