@@ -7,7 +7,8 @@
 # which have a field for it in the copy, or in `md_program` of the program's name. The copy of `bench` then tries the rows with the
 # number of its argument, and 0 stands for the bodies as they are. It also tells the events of a text, by a sum of what is printed of
 # them, and the status of a run with an argument that is none. An edit of a crate of the plain program changes that body, each
-# other the parser. One with the line `# bench` is tried with each construct off too, and by its events, and something must be wrong.
+# other the parser. One with the line `# bench` is tried with each construct off too, by its events, and on long labels, and
+# something must be wrong.
 set -euo pipefail
 cd "$(dirname "$0")/.."
 work=$(mktemp -d)
@@ -63,6 +64,7 @@ main = """#![tactic(auto)]
 ghost use Rattle.std.specs.Prelude.{Unit};
 use blocks_body::Blocks;
 use events_body::Events;
+use test_runner::long::try_labels;
 use test_runner::report::Report;
 use test_runner::rows::try_rows;
 use test_runner::without::try_without;
@@ -81,10 +83,11 @@ use std::{env, io};
 const TEXT: &str = "\\u{feff}> a\\n\\tb\\n>\\n# c #\\n\\t\\n***\\n\\n1. d\\n\\n   >  > e\\n2. f\\n\\n-\\n\\tg\\n\\n\\th\\n\\n\
   ~~~ i m\\n   j\\n  ~~~\\n> ```\\n>\\nk\\n- ```\\n\\nl";
 
-/// Tries a body on rows, and on their texts with each construct off.
+/// Tries a body on rows, on their texts with each construct off, and on long labels.
 fn try_bench<B: Body>(alloc: Global, rows: &str, report: &mut Report) -> Result<(), CaseError> {
     try_rows::<B>(alloc, rows, report)?;
-    try_without::<B>(alloc, rows, report)
+    try_without::<B>(alloc, rows, report)?;
+    try_labels::<B>(alloc, report)
 }
 
 /// A sum of what is printed of the events of a text.
@@ -136,6 +139,10 @@ fn main(rt: HostRuntime) -> io::Result<()> {{
             ran_out |= match arg.as_str() {{
 {arms}                _ => true,
             }};
+            // one row that changes is enough
+            if report.wrong > 0 {{
+                break;
+            }}
         }}
         let sum = match arg.as_str() {{
 {sums}            _ => Ok(0),
