@@ -8,7 +8,7 @@ use Rattle.md_engine.specs.declared.event.Point.{Point}
 use Rattle.md_engine.specs.Found.{Found}
 use Rattle.md_engine.specs.Place.{first_point}
 use Rattle.md_engine.specs.World.{World}
-use Rattle.md_frame.specs.Joins.{lines_joined}
+use Rattle.md_registry.specs.Resolving.{lines_joined}
 use Rattle.md_content.specs.ContentReads.{content_readings, wants_content}
 use Rattle.md_seam.specs.Substituted.{Substituted}
 use Rattle.md_meaning.specs.Texts.{split_lines}
@@ -29,7 +29,7 @@ use Rattle.md_rows.proofs.RowFacts.{AreRows}
 use Rattle.markdown_blocks.proofs.RowLemmas.{fresh-rows}
 use Rattle.md_rows.proofs.AloneGroups.{leaves-alone}
 use Rattle.md_content.specs.Joined.{joined}
-use Rattle.md_frame.specs.Resolving.{heads_read}
+use Rattle.md_table_rooms.specs.Headed.{heads_read}
 use Rattle.md_rows.specs.Rows.{rows_events}
 use Rattle.md_order.specs.Alone.{HoldNoBlock, Nothing}
 use Rattle.markdown_blocks.proofs.FlowReads.{FlowFlushed}

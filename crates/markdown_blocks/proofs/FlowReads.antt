@@ -33,14 +33,14 @@ use Rattle.md_content.specs.Resolves.{Resolves, found_in_content}
 use Rattle.md_leaves.specs.HeadingText.{headings_resolved}
 use Rattle.md_leaves.specs.Turned.{turned}
 use Rattle.md_tables.specs.Tabled.{tabled}
-use Rattle.md_frame.specs.Joins.{lines_joined}
+use Rattle.md_registry.specs.Resolving.{lines_joined}
 use Rattle.md_seam.specs.Substituted.{Substituted}
 use Rattle.markdown_blocks.specs.Fed.{FlowRan}
 use Rattle.markdown_blocks.specs.FlowReads.{FlowReads, has_text}
 use Rattle.md_rows.specs.TextRows.{text_cells, text_rows, text_setting}
-use Rattle.md_frame.specs.Resolved.{resolved_as}
+use Rattle.md_registry.specs.Resolving.{resolved_as}
 use Rattle.md_registry.specs.FlowRule.{flow_at}
-use Rattle.md_frame.specs.Resolving.{heads_read}
+use Rattle.md_table_rooms.specs.Headed.{heads_read}
 use Rattle.md_frame.specs.Row.{BlankRow, LeafRow, Row, RowKind, TextRow}
 use Rattle.md_rows.specs.Rows.{is_text, leaf_events, row_events}
 use Rattle.md_rows.specs.Rows.{row_events_by, rows_events, tail_events}
@@ -194,7 +194,8 @@ content-step : (bytes : List ℕ) (options : ParseOptions) (rows : List Row) (b 
     (b ≡ false → NoEnds is_content (rows_events rows)) → RanIf resolved_as r.Content b at nothing found new →
     ContentRead bytes options rows at found new
 content-step bytes options rows true at found new framed quiet events text set others h =
-    let resolves : Resolves (record at { events = heads_read at.setting.options at.setting.bytes at.events }) h.more new =
+    let read : List Event = heads_read at.setting.options at.setting.bytes at.events in
+    let resolves : Resolves (record at { events = read }) h.more new =
     h.resolved in
     let A : List ℕ →
     Type 0 = λ l. Substituted wants_content (content_readings l at.setting.options) [] 0
@@ -224,7 +225,8 @@ content-step bytes options rows false at found new framed quiet events text set 
     let Q : List Event →
     Type 0 = λ l. Substituted wants_content (content_readings bytes options) [] 0 (joined l) (rows_events rows) in
     let headless : heads_read options bytes (rows_events rows) ≡ rows_events rows =
-    heads-none options bytes (rows_events rows) (rows-no_content nothing_wanted nothing-wanted rows framed quiet none) in
+    heads-none options bytes (rows_events rows)
+    (rows-no_content nothing_wanted nothing-wanted rows framed quiet none) in
     record {
       rest = h.1 ∙ ap (λ (l : List Event). record at { events = l }) (sym (ap (λ (w : World). w.events) h.1));
       read =

@@ -23,6 +23,8 @@ pub mod Parses
 pub mod ContentAre
 pub mod StaysAlone
 pub mod TextBlocks
+pub mod TextItemised
+pub mod TextQuoted
 pub mod ReadsWith
 pub mod DocumentReads
 pub mod Labels

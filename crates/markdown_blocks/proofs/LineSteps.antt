@@ -11,7 +11,8 @@ use Rattle.md_containers.specs.Interrupts.{is_interrupted}
 use Rattle.md_meaning.specs.Containers.{Taken, continues, opens}
 use Rattle.md_meaning.specs.Leaves.{LeafResult, LazyText, NoText, Opened, goes_on, starts, underline_depth, with_line}
 use Rattle.md_meaning.specs.Rest.{Rest, is_blank}
-use Rattle.md_meaning.specs.State.{At, Container, ParagraphLine, Leaf, NoLeaf, OpenParagraph, Path, Innermost, Within, at_spot}
+use Rattle.md_meaning.specs.State.{At, Container, ParagraphLine, Leaf, NoLeaf, OpenParagraph, Path, Innermost, Within}
+use Rattle.md_meaning.specs.State.{at_spot}
 use Rattle.md_meaning.specs.State.{closed, container_block, kept, shut, spot, texts, then_block, then_leaf}
 use Rattle.md_meaning.specs.Step.{all_continued, all_continued_by, came, entered, fresh_by, fresh_line, is_concrete}
 use Rattle.md_meaning.specs.Step.{is_open_text, lazy_by, leaf_line, leaf_line_by, on_or_fresh, opened, spot_of, step}
@@ -31,7 +32,8 @@ use Rattle.md_registry.specs.Registry.{leaf, bars_containers}
 use Rattle.md_frame.specs.Row.{BlankRow, LeafRow, RowKind, TextRow}
 use Rattle.md_rows.specs.Rows.{is_further, is_lazy, is_text, takes_head}
 use Rattle.md_rows.specs.Rows.{kind_of, line_kind}
-use Rattle.md_frame.specs.HeldLeaf.{IsBuiltLeaf, kind_of_leaf, met_by}
+use Rattle.md_frame.specs.HeldLeaf.{kind_of_leaf, met_by}
+use Rattle.md_registry.specs.OpenSpan.{IsBuiltLeaf, IsOpenSpan}
 use Rattle.md_rows.specs.Stands.{IsPlain, containers_of, still_of}
 use Rattle.md_frame.specs.Leaf.Paragraph.{held_of, open_lines}
 use Rattle.md_rows.proofs.ContainedLemmas.{change-opens, ended-open, lazy-some, lines-unlazy}
@@ -105,7 +107,7 @@ span-lazy options r _ e = refl
 built-concrete : (open_leaf : Leaf) → IsBuiltLeaf open_leaf →
     is_concrete open_leaf ≡ bars_containers (kind_of_leaf open_leaf)
 built-concrete open_leaf plain =
-    text-laws.cases (λ (l : Leaf). is_concrete l ≡ bars_containers (kind_of_leaf l))
+    text-laws.cases IsOpenSpan (λ (l : Leaf). is_concrete l ≡ bars_containers (kind_of_leaf l))
     (sym (bars_containers-none held_leaf.None refl))
     (λ k ks. sym (bars_containers-none (text_on (k ∷ ks)) refl)) (λ l is. (further-span l is).concrete) open_leaf plain
 
@@ -169,7 +171,8 @@ text_spot options bs lines r kind =
     (come_by options (text_leaf.held lines) r kind))
     (spot_by options bs lines r kind)
 
-text-found : (options : ParseOptions) (bs : Blocks) (k : ParagraphLine) (ks : List ParagraphLine) (r : Rest) → IsWithoutMdx options →
+text-found : (options : ParseOptions) (bs : Blocks) (k : ParagraphLine) (ks : List ParagraphLine) (r : Rest) →
+    IsWithoutMdx options →
     text_line options bs (k ∷ ks) r ≡ text_spot options bs (k ∷ ks) r (line_kind options (text_on (k ∷ ks)) r)
 unfolding text_line
 text-found options bs k ks r built =
@@ -277,8 +280,8 @@ abbrev pub new_line : ParseOptions → HeldLeaf → List Container → Rest → 
 new_line options on [] r bs = At (spot_by options bs [] r (line_kind options on r))
 new_line options on (c ∷ cs) r bs = Within bs c (new_line options on cs r End)
 
--- with what the innermost leaf came to; of a text, that stands behind the definitions at its front, or, where a line takes
--- the last line of it as its head, behind what the others come to
+-- with what the innermost leaf came to; of a text, that stands behind the definitions at its front, or, where a line
+-- takes the last line of it as its head, behind what the others come to
 abbrev pub with_came : ParseOptions → Bool → Path → LeafResult → Path
 with_came options heads (At s) c = At (came (front_before heads options s.here s.leaf) c)
 with_came options heads (Within before container p) c = Within before container (with_came options heads p c)
@@ -328,7 +331,8 @@ stepped-more options p went c new =
 -- the containers that open in a new one
 opened-new : (options : ParseOptions) (n : ℕ) (r : Rest) → IsWithoutMdx options →
     opened options n r ≡
-    new_line options held_leaf.None (prefixes_new options false n r).containers (prefixes_new options false n r).rest End
+    new_line options held_leaf.None (prefixes_new options false n r).containers
+    (prefixes_new options false n r).rest End
 opened-new options zero r built = ap At (fresh-found options End r built)
 opened-new options (suc n) r built = go (λ s. opened-new options n s built) (opens options false r)
   where
@@ -356,7 +360,8 @@ IsStepped options bs r open_leaf =
     At (leaf_line options (record { here = bs; leaf = open_leaf }) r) ≡
     stepped options (At (record { here = bs; leaf = open_leaf })) [] (no_prefix r)
 
-text-stepped : (options : ParseOptions) (bs : Blocks) (r : Rest) → IsWithoutMdx options → (k : ParagraphLine) (ks : List ParagraphLine) →
+text-stepped : (options : ParseOptions) (bs : Blocks) (r : Rest) → IsWithoutMdx options →
+    (k : ParagraphLine) (ks : List ParagraphLine) →
     IsStepped options bs r (text_leaf.held (k ∷ ks))
 text-stepped options bs r built k ks =
     ap At (text-found options bs k ks r built) ∙ go (line_kind options (text_on (k ∷ ks)) r)
@@ -443,7 +448,7 @@ span-stepped options bs r built open_leaf is =
 leaf-stepped : (options : ParseOptions) (bs : Blocks) (open_leaf : Leaf) (r : Rest) → IsWithoutMdx options →
     IsBuiltLeaf open_leaf → IsStepped options bs r open_leaf
 leaf-stepped options bs open_leaf r built plain =
-    text-laws.cases (IsStepped options bs r) none (text-stepped options bs r built)
+    text-laws.cases IsOpenSpan (IsStepped options bs r) none (text-stepped options bs r built)
     (λ l is. span-stepped options bs r built l (further-span l is)) open_leaf plain
   where
     none : IsStepped options bs r NoLeaf
@@ -522,7 +527,7 @@ lazy-stepped : (options : ParseOptions) (before : Blocks) (c : Container) (p : P
     (spot_by options (then_block before (container_block c (closed options p))) [] r
     (line_kind options (met_by false (kind_of_leaf leaf)) r)))
 lazy-stepped options before c p r built leaf e plain =
-    text-laws.cases By (λ e. fresh) text (λ l is. span l (further-span l is)) leaf plain e
+    text-laws.cases IsOpenSpan By (λ e. fresh) text (λ l is. span l (further-span l is)) leaf plain e
   where
     bs : Blocks
     bs = then_block before (container_block c (closed options p))

@@ -39,10 +39,10 @@ use Rattle.md_front_rooms.specs.Front.{body_point, front_events}
 use Rattle.markdown_blocks.specs.Parsed.{IsRead, IsWithoutMdx}
 use Rattle.md_front_rooms.proofs.FrontUnlinked.{front-stays}
 use Rattle.markdown_blocks.proofs.TextBlocks.{HasBlocks, blocks-read, has-blocks, parsed-footnotes, parsed-labels}
-use Rattle.md_frame.proofs.TextItemised.{text-itemised}
+use Rattle.markdown_blocks.proofs.TextItemised.{text-itemised}
 use Rattle.md_wrap.specs.Footnoted.{NestsInFootnote, footnoted}
 use Rattle.md_wrap.proofs.FootnoteLaw.{footnote-nests}
-use Rattle.md_frame.proofs.TextQuoted.{text-quoted}
+use Rattle.markdown_blocks.proofs.TextQuoted.{text-quoted}
 
 -- What the calls in front of the last loop gave: the front of a text, and what flow reads behind it; and the labels in
 -- the state are those that were found.

@@ -10,7 +10,8 @@ use Rattle.markdown_blocks.proofs.SpelledGroups.{IsTurnLeft, Follows, IsTurned, 
 use Rattle.markdown_blocks.proofs.SpelledGroups.{text_path, text_tail, first_come, reading-came, StartsText}
 use Rattle.markdown_blocks.proofs.SpelledGroups.{starts-alike}
 use Rattle.md_frame.specs.HeldLeaf.{kind_of_leaf, takes_lazy}
-use Rattle.md_frame.specs.Leaf.Paragraph.{open_lines, then_front}
+use Rattle.md_frame.specs.Leaf.Paragraph.{open_lines}
+use Rattle.md_content_rooms.specs.Defined.{then_front}
 use Rattle.md_registry.specs.Registry.{further_of, leaf}
 use Rattle.md_rows.specs.Rows.{front_done, group_done, is_further, onto_span, onto_leaf, takes_head, Group, Single}
 use Rattle.md_rows.specs.Rows.{groups, groups_events, is_lazy, is_text, leaf_done, line_kind, onto_groups}
@@ -36,7 +37,8 @@ use Rattle.md_meaning.specs.State.{kept, spot, texts}
 use Rattle.md_meaning.specs.Step.{came, step}
 use Rattle.md_meaning.specs.Tree.{Block}
 use Rattle.md_seam.proofs.SpelledLemmas.{read-from}
-use Rattle.md_frame.specs.TextLines.{text_leaf, turn_leaf}
+use Rattle.md_frame.specs.TextLines.{text_leaf}
+use Rattle.md_registry.specs.Registry.{turn_leaf}
 use Rattle.md_frame.specs.Change.{Change}
 use Rattle.md_frame.specs.Closed.{close_containers}
 use Rattle.md_rows.specs.Fronted.{Contained, rest_from}
@@ -76,7 +78,8 @@ text-parts options bytes row rows (Some under) gs = refl
 
 -- Where no leaf was open, a text that is turned is the definitions at its front and the block of the lines after
 -- them.
-reading-turned : (options : ParseOptions) (o : Path) (lines : List ParagraphLine) (r : Rest) (l : LeafName) → TurnsText l →
+reading-turned : (options : ParseOptions) (o : Path) (lines : List ParagraphLine) (r : Rest) (l : LeafName) →
+    TurnsText l →
     (leaf l).heads ≡ false → (spot o).leaf ≡ NoLeaf →
     reading options
     (with_came options (leaf l).heads (longer o lines) ((leaf l).comes options (spot (longer o lines)).leaf r)) ≡
@@ -84,7 +87,8 @@ reading-turned : (options : ParseOptions) (o : Path) (lines : List ParagraphLine
 reading-turned options o lines r l turns heads none =
     ap
     (λ (x : Bool).
-    reading options (with_came options x (longer o lines) ((leaf l).comes options (spot (longer o lines)).leaf r))) heads
+    reading options (with_came options x (longer o lines)
+    ((leaf l).comes options (spot (longer o lines)).leaf r))) heads
     ∙ ap (λ (x : Path). reading options (with_came options false x ((leaf l).comes options (spot x).leaf r)))
     (longer-with o lines none)
     ∙ ap (λ (s : Innermost). reading options (with_came options false held ((leaf l).comes options s.leaf r))) open_text
@@ -206,7 +210,8 @@ module _ (options : ParseOptions) (bytes : List ℕ) (p : Path) (a : Point) (lin
       by false = refl
 
   -- one that is no text, and no line of a leaf of several, is read as its block
-  single-means : (gs : List Group) (last : Reading) → row.kind ≢ TextRow → EndsOnLine row.kind → Follows options bytes (leads_to row.kind) row gs last →
+  single-means : (gs : List Group) (last : Reading) → row.kind ≢ TextRow → EndsOnLine row.kind →
+      Follows options bytes (leads_to row.kind) row gs last →
       Reads options bytes p row.change.closes (Single row ∷ gs) last
   single-means gs last other ends further =
       single-reads options bytes p here row gs last (leads_to row.kind) (ending_of row.kind row)
@@ -219,11 +224,13 @@ module _ (options : ParseOptions) (bytes : List ℕ) (p : Path) (a : Point) (lin
       ∙ shown-leaf options opened here.rest row.kind other
       (subst EndsOnLine refl ends)
       ∙ sym (reading-with options opened (λ bs. spot_by options bs [] here.rest row.kind) opened-none))
-      (ending-role (is_blank_row row)) (no-joins options bytes (rest_line here.rest) (leads_to row.kind) row gs last is.is
+      (ending-role (is_blank_row row)) (no-joins options bytes (rest_line here.rest)
+      (leads_to row.kind) row gs last is.is
       (other-kind row.kind other) ends further)
 
   -- one of text is read with the lines that continue it, and with the one that turns it
-  text-means : (gs : List Group) (last : Reading) → StartsText options bytes opened row (onto_groups row TextRow gs) last →
+  text-means : (gs : List Group) (last : Reading) →
+      StartsText options bytes opened row (onto_groups row TextRow gs) last →
       Reads options bytes p row.change.closes (onto_groups row TextRow gs) last
   text-means gs last (inr starts) =
       let start : Reading = close_containers (length row.change.closes) (reading options p) in
@@ -254,7 +261,8 @@ module _ (options : ParseOptions) (bytes : List ℕ) (p : Path) (a : Point) (lin
       ∙ reads.behind
 
   -- one of a leaf of several is read with the lines that continue that
-  span-means : (gs : List Group) (last : Reading) (l : LeafName) → row.kind ≡ LeafRow l → (leaf l).ends ≡ false → goes_further options here ≡ false →
+  span-means : (gs : List Group) (last : Reading) (l : LeafName) → row.kind ≡ LeafRow l → (leaf l).ends ≡ false →
+      goes_further options here ≡ false →
       Follows options bytes (leads_to row.kind) row gs last →
       Reads options bytes p row.change.closes (onto_span row gs) last
   span-means gs last l e ends begins further =
@@ -272,7 +280,8 @@ module _ (options : ParseOptions) (bytes : List ℕ) (p : Path) (a : Point) (lin
       (subst (λ (x : Path). Follows options bytes x row gs last) on further))
 
   -- so a line of any kind that continues no leaf is read with what follows
-  begun-means : (gs : List Group) (last : Reading) (kind : RowKind) → row.kind ≡ kind → goes_further options here ≡ false →
+  begun-means : (gs : List Group) (last : Reading) (kind : RowKind) → row.kind ≡ kind →
+      goes_further options here ≡ false →
       Follows options bytes (leads_to row.kind) row gs last →
       Reads options bytes p row.change.closes (onto_groups row kind gs) last
   begun-means gs last BlankRow e begins further =
@@ -297,7 +306,8 @@ module _ (options : ParseOptions) (bytes : List ℕ) (p : Path) (a : Point) (lin
       (subst (λ (x : Path). Follows options bytes x row gs last) on further))
 
   -- after the end of the text no line turns one
-  still-over : nat_lt a.index (length bytes) ≡ false → (goes : GoesOn options p here) → (x : Bool) → takes_lazy (still_of p) ≡ x → x ≡ false
+  still-over : nat_lt a.index (length bytes) ≡ false → (goes : GoesOn options p here) → (x : Bool) →
+      takes_lazy (still_of p) ≡ x → x ≡ false
   still-over past goes false lazy = refl
   still-over past goes true lazy =
       let text = lazy-open (spot p).leaf lazy in
@@ -329,7 +339,8 @@ module _ (options : ParseOptions) (bytes : List ℕ) (p : Path) (a : Point) (lin
   further-step true built plain in_text f goes =
       ap (λ (x : Bool). cond x (renewed here.change.stays p) (step options p (rest_from a line))) f
       ∙ sym (came-open options (leaf goes.is.name).heads (renewed here.change.stays p) (open-over in_text goes))
-      ∙ ap (λ (s : Innermost). with_came options (leaf goes.is.name).heads (renewed here.change.stays p) (Opened s.leaf))
+      ∙ ap (λ (s : Innermost). with_came options (leaf goes.is.name).heads
+      (renewed here.change.stays p) (Opened s.leaf))
       (renewed-spot here.change.stays p)
       ∙ ap
       (λ (x : Bool).
@@ -358,7 +369,8 @@ module _ (options : ParseOptions) (bytes : List ℕ) (p : Path) (a : Point) (lin
   -- one that continues the leaf of several lines that is open is read with what follows
   further-means : (gs : List Group) (last : Reading) (over : Bool) → IsWithoutMdx options → IsPlain p →
       nat_lt a.index (length bytes) ≡ not over →
-      Follows options bytes (step_over options over p (rest_from a line)) row gs last → goes_further options here ≡ true →
+      Follows options bytes (step_over options over p (rest_from a line)) row gs last →
+      goes_further options here ≡ true →
       (l : LeafName) × StartsSpan options bytes l p a row (onto_groups row row.kind gs) last
   further-means gs last over built plain in_text follows f =
       let goes : GoesOn options p here = goes-on options p (rest_from a line) plain f in
@@ -370,7 +382,8 @@ module _ (options : ParseOptions) (bytes : List ℕ) (p : Path) (a : Point) (lin
       let base : Path = renewed here.change.stays p in
       let stepped_to : step_over options over p (rest_from a line) ≡ with_came options (leaf l).heads base come =
       further-step over built plain in_text f goes in
-      let spans : ReadsSpan options bytes l base come row (onto_span row gs) last = span-rows options bytes l l base come
+      let spans : ReadsSpan options bytes l base come row (onto_span row gs) last =
+      span-rows options bytes l l base come
       row gs last (ap is_text e) goes.is.same of
       (subst (λ (x : Path). Follows options bytes x row gs last) stepped_to follows) in
       let whole : ReadsSpan options bytes l p come row (onto_span row gs) last = span-alike options bytes l base p come
@@ -395,7 +408,8 @@ module _ (options : ParseOptions) (bytes : List ℕ) (p : Path) (a : Point) (lin
   begins-text e false f = refl
 
   -- what it means, by whether it continues the text or another leaf
-  means-by : (gs : List Group) (last : Reading) (x y : Bool) → goes_lazy options p here ≡ x → goes_further options here ≡ y →
+  means-by : (gs : List Group) (last : Reading) (x y : Bool) → goes_lazy options p here ≡ x →
+      goes_further options here ≡ y →
       Means options bytes p a x y row (onto_groups row row.kind gs) last →
       MeansLine options bytes p a row (onto_groups row row.kind gs) last
   means-by gs last x y e f h =
@@ -407,7 +421,8 @@ module _ (options : ParseOptions) (bytes : List ℕ) (p : Path) (a : Point) (lin
 
   -- one that continues the text
   text_line-means : (gs : List Group) (last : Reading) (over : Bool) → IsWithoutMdx options → IsPlain p →
-      Follows options bytes (step_over options over p (rest_from a line)) row gs last → goes_lazy options p here ≡ true → goes_further options here ≡ false →
+      Follows options bytes (step_over options over p (rest_from a line)) row gs last →
+      goes_lazy options p here ≡ true → goes_further options here ≡ false →
       StartsText options bytes p row (onto_groups row row.kind gs) last
   text_line-means gs last over built plain follows e begins =
       let text : is_text row.kind ≡ true = ap is_text kind-is
@@ -425,12 +440,15 @@ module _ (options : ParseOptions) (bytes : List ℕ) (p : Path) (a : Point) (lin
   -- any line
   pub row-means : (gs : List Group) (last : Reading) (over : Bool) → IsWithoutMdx options → IsPlain p →
       nat_lt a.index (length bytes) ≡ not over →
-      Follows options bytes (step_over options over p (rest_from a line)) row gs last → MeansLine options bytes p a row (onto_groups row row.kind gs) last
-  row-means gs last over built plain in_text follows = go (goes_lazy options p here) (goes_further options here) refl refl
+      Follows options bytes (step_over options over p (rest_from a line)) row gs last →
+      MeansLine options bytes p a row (onto_groups row row.kind gs) last
+  row-means gs last over built plain in_text follows =
+      go (goes_lazy options p here) (goes_further options here) refl refl
     where
       go : (x y : Bool) → goes_lazy options p here ≡ x → goes_further options here ≡ y →
           MeansLine options bytes p a row (onto_groups row row.kind gs) last
-      go true y e f = means-by gs last true y e f (text_line-means gs last over built plain follows e (f ∙ begins-text e y f))
+      go true y e f =
+          means-by gs last true y e f (text_line-means gs last over built plain follows e (f ∙ begins-text e y f))
       go false true e f = means-by gs last false true e f (further-means gs last over built plain in_text follows f)
       go false false e f =
           means-by gs last false false e f
@@ -440,13 +458,15 @@ module _ (options : ParseOptions) (bytes : List ℕ) (p : Path) (a : Point) (lin
           ∙ ap₂ (path_by options p here) e f ∙ new-path options p here row.kind (sym kind-is)) follows))
 
 -- any line after which nothing follows
-pub row-ends : (options : ParseOptions) (bytes : List ℕ) (p : Path) (a : Point) (line : List ℕ) (row : Row) (over : Bool) →
+pub row-ends : (options : ParseOptions) (bytes : List ℕ) (p : Path) (a : Point) (line : List ℕ)
+    (row : Row) (over : Bool) →
     IsWithoutMdx options → IsPlain p → f.IsLine options bytes (containers_of p) (still_of p) a line row →
     nat_lt a.index (length bytes) ≡ not over →
     MeansLine options bytes p a row (groups (row ∷ []))
     (close_containers (length row.closed_after) (reading options (step_over options over p (rest_from a line))))
 row-ends options bytes p a line row over built plain is in_text =
     row-means options bytes p a line row is []
-    (close_containers (length row.closed_after) (reading options (step_over options over p (rest_from a line)))) over built
+    (close_containers (length row.closed_after)
+    (reading options (step_over options over p (rest_from a line)))) over built
     plain in_text
     (inl (record { apart = λ text. refl; alone = refl; reads = refl }))

@@ -11,7 +11,8 @@ use Rattle.md_engine.specs.declared.tokenizer.held_leaf.OpenText.{OpenText}
 use Rattle.md_meaning.specs.Definition.{Defined, cut_at_most, cut_definitions}
 use Rattle.md_meaning.specs.Leaves.{LeafResult, Opened}
 use Rattle.md_meaning.specs.Rest.{is_blank, trim}
-use Rattle.md_meaning.specs.State.{At, ParagraphLine, Leaf, NoLeaf, OpenTable, Path, Within, kept, shut, shut_paragraph, spot}
+use Rattle.md_meaning.specs.State.{At, ParagraphLine, Leaf, NoLeaf, OpenTable, Path, Within, kept, shut, shut_paragraph}
+use Rattle.md_meaning.specs.State.{spot}
 use Rattle.md_meaning.specs.State.{texts, then_definitions, then_leaf, then_paragraph}
 use Rattle.md_meaning.specs.Step.{came}
 use Rattle.md_meaning.specs.Table.{row_cells}
@@ -23,7 +24,8 @@ use Rattle.md_frame.specs.EndingName.{ending_name}
 use Rattle.md_frame.specs.LeafName.{GfmTable, LeafName}
 use Rattle.md_frame.specs.TextLines.{text_leaf}
 use Rattle.md_registry.specs.Registry.{leaf}
-use Rattle.md_frame.specs.Row.{LeafRow, Row, TextRow, headed_done}
+use Rattle.md_frame.specs.Row.{LeafRow, Row, TextRow}
+use Rattle.md_table_rooms.specs.Headed.{headed_done}
 use Rattle.md_rows.specs.Rows.{Group, Headed, groups_events}
 use Rattle.md_frame.specs.Row.{is_blank_row, last_row}
 use Rattle.md_rows.specs.Rows.{tail_events}
@@ -90,8 +92,8 @@ head_path options bytes row next rows are q =
 abbrev pub span_tail : Row → List Row → List Event
 span_tail row rows = tail_events (ending_name (is_blank_row (last_row row rows))) (last_row row rows)
 
--- A line of text is the head of a table, and with the lines of that and what follows is read as this, where this path is
--- open.
+-- A line of text is the head of a table, and with the lines of that and what follows is read as this, where this path
+-- is open.
 pub record StartsHead (options : ParseOptions) (bytes : List ℕ) (p : Path) (row : Row) (gs : List Group)
     (last : Reading) : Type 0 where
   pub line : List ℕ

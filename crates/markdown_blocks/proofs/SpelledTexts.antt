@@ -15,7 +15,8 @@ use Rattle.md_registry.proofs.UnderNames.{further-text, heads-table, under-shuts
 use Rattle.md_frame.specs.HeldLeaf.{may_go_on}
 use Rattle.md_rows.specs.Rows.{front_done, Headed, is_further, is_last, takes_head, LeafLines, Turned, line_behind}
 use Rattle.md_rows.specs.Rows.{Group, Lines, groups_events, onto_groups, tail_events}
-use Rattle.md_frame.specs.Row.{headed_done, Row, TextRow, last_row}
+use Rattle.md_frame.specs.Row.{Row, TextRow, last_row}
+use Rattle.md_table_rooms.specs.Headed.{headed_done}
 use Rattle.md_table_rooms.specs.Leaf.GfmTable.{table_leaf}
 use Rattle.md_frame.specs.Leaf.Paragraph.{held_of}
 use Rattle.md_rows.proofs.GroupLines.{kept-of}
@@ -112,7 +113,8 @@ turn-lines options bytes line p row gs last is text joins heads =
     come =
         ap (λ (x : Bool). cond x ((leaf joins.name).comes options (spot q).leaf rest) (Opened (spot q).leaf))
         (line-inside options bytes joins.name joins.after under of
-        (met-dark options bytes joins.starts.line under joins.name at joins.starts.is joins.starts.kind on) joins.fronts)
+        (met-dark options bytes joins.starts.line under joins.name at joins.starts.is
+        joins.starts.kind on) joins.fronts)
 
     may : may_turn options under.on ≡ true
     may =
@@ -129,7 +131,8 @@ turn-lines options bytes line p row gs last is text joins heads =
         (are : AreBehind options bytes (leaf joins.name) under rows) →
         read bytes
         (reading options
-        (with_came options (leaf joins.name).heads q (come_behind options bytes (leaf joins.name) under rows are first)))
+        (with_came options (leaf joins.name).heads q
+        (come_behind options bytes (leaf joins.name) under rows are first)))
         (span_tail under rows ++ groups_events options bytes reads.below) ≡
         last →
         StartsLines options bytes p row (onto_groups row TextRow gs) last
@@ -228,7 +231,8 @@ head-lines options bytes line p row gs last is text joins name = record {
     starts : StartsSpan options bytes GfmTable q joins.after next gs last
     starts = subst (λ (l : LeafName). StartsSpan options bytes l q joins.after next gs last) name joins.starts
 
-    reads : ReadsSpan options bytes GfmTable q (first_come options bytes GfmTable q joins.after starts.is.rest) next gs last
+    reads : ReadsSpan options bytes GfmTable q
+        (first_come options bytes GfmTable q joins.after starts.is.rest) next gs last
     reads = starts.reads
 
     of : IsLineOf options bytes table_leaf next

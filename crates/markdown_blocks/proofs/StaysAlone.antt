@@ -1,5 +1,6 @@
 -- Where all events stay as they are, joining lines and running the resolvers changes nothing.
-use Rattle.std.proofs.Common.{◌≡◌, ℕ, Bool, true, false, cond, not, ◌+◌, ◌≤◌, ◌&&◌, List, [], ◌∷◌, length, refl, ap, ◌∙◌, arith}
+use Rattle.std.proofs.Common.{◌≡◌, ℕ, Bool, true, false, cond, not, ◌+◌, ◌≤◌, ◌&&◌, List, [], ◌∷◌, length, refl, ap}
+use Rattle.std.proofs.Common.{◌∙◌, arith}
 use Rattle.std.specs.List.{prefix_len}
 use Rattle.std.proofs.lemmas.Bool.{and_parts}
 use Rattle.md_engine.specs.declared.configuration.ParseOptions.{ParseOptions}
@@ -15,8 +16,8 @@ use Rattle.md_order.specs.Left.{is_same}
 use Rattle.md_resolve.proofs.Same.{in_order-same, none-third}
 use Rattle.md_seam.specs.Events.Spelled.{role}
 use Rattle.md_tables.specs.Tabled.{begins_table, bound_of}
-use Rattle.md_frame.specs.Joins.{lines_joined}
-use Rattle.md_frame.specs.Resolving.{joins_lines}
+use Rattle.md_registry.specs.Resolving.{lines_joined}
+use Rattle.md_registry.specs.Resolving.{joins_lines}
 use Rattle.markdown_blocks.specs.Alone.{stays_alone}
 
 -- what passes one test passes another
@@ -59,4 +60,5 @@ alone-passes es = fewer stays_alone (passes_on Outside) on es
         let parts = and_parts (passes Outside e) (is_same every e) h in
         both (passes Outside e) (is_no_underline e) parts.0
         (ap not
-        (none-third (is_item (role e.name)) (begins is_heading e) (is_underline e.name) (begins_table (bound_of e)) parts.1))
+        (none-third (is_item (role e.name)) (begins is_heading e) (is_underline e.name)
+        (begins_table (bound_of e)) parts.1))

@@ -11,18 +11,21 @@ use Rattle.md_engine.specs.declared.tokenizer.held_leaf.Progress.{Progress}
 use Rattle.md_meaning.specs.Leaves.{LeafResult, Finished, Opened}
 use Rattle.md_meaning.specs.Rest.{Rest}
 use Rattle.md_meaning.specs.Rest.{trim_start}
-use Rattle.md_meaning.specs.State.{At, Container, ParagraphLine, Leaf, NoLeaf, OpenParagraph, Path, Innermost, Within, cut, kept, spot, texts}
+use Rattle.md_meaning.specs.State.{At, Container, ParagraphLine, Leaf, NoLeaf, OpenParagraph, Path, Innermost, Within}
+use Rattle.md_meaning.specs.State.{cut, kept, spot, texts}
 use Rattle.md_meaning.specs.Step.{came, step}
 use Rattle.md_meaning.specs.Tree.{Blocks, End}
 use Rattle.md_rows.proofs.TextProgress.{IsFresh, contained-progress, unlazy-fresh}
 use Rattle.md_frame.specs.Change.{is_none, open_behind}
 use Rattle.md_rows.specs.Fronted.{Contained}
-use Rattle.md_frame.specs.HeldLeaf.{IsBuiltLeaf, has_lines, kind_of_leaf, left_by, may_go_on, takes_lazy}
+use Rattle.md_frame.specs.HeldLeaf.{has_lines, kind_of_leaf, left_by, may_go_on, takes_lazy}
+use Rattle.md_registry.specs.OpenSpan.{IsBuiltLeaf}
 use Rattle.md_frame.specs.Leaf.Paragraph.{held_of, open_lines}
 use Rattle.markdown_blocks.specs.Parsed.{IsWithoutMdx}
 use Rattle.md_frame.specs.LeafName.{GfmTable, LeafName}
-use Rattle.md_frame.specs.OpenSpan.{IsOpenSpan}
-use Rattle.md_frame.specs.TextLines.{text_leaf, turn_leaf}
+use Rattle.md_registry.specs.OpenSpan.{IsOpenSpan}
+use Rattle.md_frame.specs.TextLines.{text_leaf}
+use Rattle.md_registry.specs.Registry.{turn_leaf}
 use Rattle.md_registry.specs.Registry.{further_of, leaf}
 use Rattle.md_frame.specs.Row.{BlankRow, LeafRow, RowKind, TextRow}
 use Rattle.md_rows.specs.Rows.{is_further, is_lazy, is_text, line_behind}
@@ -78,7 +81,8 @@ pub record GoesOn (options : ParseOptions) (p : Path) (c : Contained) : Type 0 w
 pub span-open : (open_leaf : Leaf) → IsBuiltLeaf open_leaf → has_lines (kind_of_leaf open_leaf) ≡ true →
     FurtherSpan open_leaf
 span-open open_leaf plain =
-    text-laws.cases (λ (l : Leaf). has_lines (kind_of_leaf l) ≡ true → FurtherSpan l) (λ e. cc) (λ k ks e. cc)
+    text-laws.cases IsOpenSpan (λ (l : Leaf). has_lines (kind_of_leaf l) ≡ true → FurtherSpan l)
+    (λ e. cc) (λ k ks e. cc)
     (λ l is e. further-span l is) open_leaf plain
 
 -- a line that goes on a leaf of several lines is one of the leaf that takes its further lines
@@ -172,7 +176,7 @@ takes : (options : ParseOptions) (r : Rest) (open_leaf : Leaf) → IsBuiltLeaf o
     is_further (line_kind options (kind_of_leaf open_leaf) r) (kind_of_leaf open_leaf) ≡ true →
     Takes options open_leaf r
 takes options r open_leaf plain =
-    text-laws.cases
+    text-laws.cases IsOpenSpan
     (λ (l : Leaf). is_further (line_kind options (kind_of_leaf l) r) (kind_of_leaf l) ≡ true → Takes options l r)
     (λ e. let none = none-further options held_leaf.None r refl in absurd (cc))
     (λ k ks e. text-takes options r (k ∷ ks) e) (λ l is e. span-takes options r l (further-span l is) e) open_leaf plain
@@ -377,7 +381,8 @@ containers-step options p r built plain =
         ∙ all goes.closes ∙ sym (append-nil c.change.stays)
         ∙ ap (λ (l : List Container). c.change.stays ++ l) (sym goes.opens)
     go false false e f =
-        containers-behind (kept_to options c.change.stays p) (new_line options c.on c.change.opens c.rest) c.change.opens
+        containers-behind (kept_to options c.change.stays p)
+        (new_line options c.on c.change.opens c.rest) c.change.opens
         (λ bs. containers-new_line options c.on c.change.opens c.rest bs)
         ∙ ap (λ (l : List Container). l ++ c.change.opens)
         (containers-kept options c.change.stays p (omega (arith, sizes)))
@@ -434,7 +439,8 @@ still-line options on bs r begins fresh = go (line_kind options on r) refl
         ap kind_of_leaf (came-leaf bs ((leaf l).comes options NoLeaf r)) ∙ (begun-leaf options on r begins l e).holds
     go TextRow e =
         one-longer NoLeaf r
-        ∙ ap (λ (at : Progress). held_leaf.Text (open_text (stepped.step at (trim_start r.bytes)) (kept r))) (sym (fresh e))
+        ∙ ap (λ (at : Progress). held_leaf.Text (open_text (stepped.step at (trim_start r.bytes))
+        (kept r))) (sym (fresh e))
 
 still-new_line : (options : ParseOptions) (on : HeldLeaf) (cs : List Container) (r : Rest) (bs : Blocks) →
     is_further (line_kind options on r) on ≡ false → (line_kind options on r ≡ TextRow → IsFresh on) →
@@ -494,9 +500,11 @@ still-step options p r built plain =
     go true y e f =
         still-longer (renewed c.change.stays p) c.rest
         ∙ ap (λ (s : Innermost). text_behind (kind_of_leaf s.leaf) c.rest) (renewed-spot c.change.stays p)
-        ∙ ap (λ (at : Progress). held_leaf.Text (open_text (stepped.step at (trim_start c.rest.bytes)) (kept c.rest))) (sym (lazy-on e))
+        ∙ ap (λ (at : Progress). held_leaf.Text (open_text (stepped.step at (trim_start c.rest.bytes))
+        (kept c.rest))) (sym (lazy-on e))
         ∙ sym (text-left options c.on c.rest kind (lazy-text (still_of p) c.change.opens kind e))
     go false true e f = still-further options p c (goes-on options p r plain f)
     go false false e f =
         still-behind (kept_to options c.change.stays p) (new_line options c.on c.change.opens c.rest)
-        (line_behind options c.on c.rest kind) (λ bs. still-new_line options c.on c.change.opens c.rest bs f (λ text. unlazy-on text e))
+        (line_behind options c.on c.rest kind) (λ bs. still-new_line options c.on c.change.opens c.rest bs f
+        (λ text. unlazy-on text e))

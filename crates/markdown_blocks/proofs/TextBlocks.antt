@@ -14,7 +14,7 @@ use Rattle.md_engine.specs.World.{World}
 use Rattle.md_containers.specs.ItemsHeld.{ItemsHeld}
 use Rattle.md_containers.specs.ItemsStand.{ItemsStand, root}
 use Rattle.md_containers.specs.Listed.{listed}
-use Rattle.md_frame.specs.Joins.{lines_joined}
+use Rattle.md_registry.specs.Resolving.{lines_joined}
 use Rattle.md_containers.proofs.ListedBlocks.{IsUnlisted, listed-blocks, listed-covers}
 use Rattle.md_containers.proofs.ListedFilled.{listed-plain, plain-inline}
 use Rattle.md_containers.proofs.ListedKept.{listed-placed}
@@ -90,10 +90,12 @@ resolved-are options bytes built small found new flow =
     ∙ ap (λ (l : List Event). tabled (turned (headings_resolved (listed bytes (lines_joined options l)))))
     (content-are options bytes built small flow.content flow.content_read)
     ∙ lists-first bytes (lines_joined options (unread_groups options bytes (groups (rows_of options bytes))))
-    (leaves-alone options bytes [] held_leaf.None (body_point options bytes) lines (rows_of options bytes) (refl, refl) are
+    (leaves-alone options bytes [] held_leaf.None (body_point options bytes) lines
+    (rows_of options bytes) (refl, refl) are
     quiet)
     ∙ ap (listed bytes)
-    (chain options bytes [] held_leaf.None (body_point options bytes) lines (rows_of options bytes) (refl, refl) are quiet)
+    (chain options bytes [] held_leaf.None (body_point options bytes) lines (rows_of options bytes)
+    (refl, refl) are quiet)
 
 -- The labels that content found are those of the tree.
 labels-are : (options : ParseOptions) (bytes : List ℕ) → IsWithoutMdx options → length bytes < 2 ^ 61 →

@@ -24,7 +24,8 @@ use Rattle.md_meaning.specs.Preamble.{Preamble, rest_at}
 use Rattle.md_meaning.specs.Preamble.{rests_at}
 use Rattle.md_meaning.specs.Rest.{Rest}
 use Rattle.md_seam.specs.Events.Spelled.{spelled}
-use Rattle.md_meaning.specs.State.{At, Container, ParagraphLine, Leaf, Path, Innermost, Within, closed, container_block, kept}
+use Rattle.md_meaning.specs.State.{At, Container, ParagraphLine, Leaf, Path, Innermost, Within, closed, container_block}
+use Rattle.md_meaning.specs.State.{kept}
 use Rattle.md_meaning.specs.State.{shut, texts, then_block, then_leaf}
 use Rattle.md_meaning.specs.Step.{spot_of, step, steps}
 use Rattle.md_meaning.specs.Texts.{split_lines}
@@ -39,7 +40,7 @@ use Rattle.md_frame.specs.TextLines.{text_leaf}
 use Rattle.md_frame.specs.Row.{BlankRow, LeafRow, Row, RowKind, TextRow}
 use Rattle.md_rows.specs.Rows.{groups, groups_events, is_lazy}
 use Rattle.md_rows.specs.Rows.{line_kind}
-use Rattle.md_frame.specs.HeldLeaf.{IsBuiltLeaf}
+use Rattle.md_registry.specs.OpenSpan.{IsBuiltLeaf, IsOpenSpan}
 use Rattle.md_rows.specs.Stands.{IsPlain, containers_of, still_of}
 use Rattle.md_rows.proofs.ContainedLemmas.{contained-kinds}
 use Rattle.md_rows.proofs.KindLemmas.{kind-plain}
@@ -95,7 +96,8 @@ read-open : (options : ParseOptions) (cs : List Container) (still : HeldLeaf) (r
     AreRead (contained options cs still r).change.opens
 unfolding contained
 read-open options cs still r built =
-    go (is_lazy still new.containers (line_kind options (against still (others_of cs on.containers) new.containers) new.rest))
+    go (is_lazy still new.containers (line_kind options
+    (against still (others_of cs on.containers) new.containers) new.rest))
   where
     on : Prefixed
     on = prefixes_on options cs r
@@ -131,10 +133,11 @@ shallow-shut : (options : ParseOptions) (s : Innermost) → IsWithoutMdx options
     are_shallow s.here ≡ true →
     are_shallow (shut options s) ≡ true
 shallow-shut options s built plain h =
-    text-laws.cases (λ (leaf : Leaf). are_shallow (then_leaf options s.here leaf) ≡ true) h text
+    text-laws.cases IsOpenSpan (λ (leaf : Leaf). are_shallow (then_leaf options s.here leaf) ≡ true) h text
     (λ l is. (further-span l is).closed options s.here h) s.leaf plain
   where
-    text : (k : ParagraphLine) (ks : List ParagraphLine) → are_shallow (then_leaf options s.here (text_leaf.held (k ∷ ks))) ≡ true
+    text : (k : ParagraphLine) (ks : List ParagraphLine) →
+        are_shallow (then_leaf options s.here (text_leaf.held (k ∷ ks))) ≡ true
     text k ks =
         subst (λ (bs : Blocks). are_shallow bs ≡ true) (sym (text-laws.shut options s.here (k ∷ ks)))
         (text-laws.shallow options s.here (texts (k ∷ ks)) h)

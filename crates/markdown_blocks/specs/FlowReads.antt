@@ -17,11 +17,11 @@ use Rattle.md_leaves.specs.Turned.{turned}
 use Rattle.md_tables.specs.Tabled.{tabled}
 use Rattle.md_seam.specs.Substituted.{Substituted}
 use Rattle.markdown_blocks.specs.Fed.{FlowRan}
-use Rattle.md_frame.specs.Resolving.{heads_read}
+use Rattle.md_table_rooms.specs.Headed.{heads_read}
 use Rattle.md_frame.specs.Row.{Row}
 use Rattle.md_rows.specs.Rows.{is_text, rows_events}
 use Rattle.md_rows.specs.TextRows.{text_rows, text_setting}
-use Rattle.md_frame.specs.Joins.{lines_joined}
+use Rattle.md_registry.specs.Resolving.{lines_joined}
 
 -- whether a line is content
 abbrev pub has_text : List Row → Bool

@@ -8,7 +8,7 @@ ghost use Rattle.md_engine.specs.World.{fresh, world};
 ghost use Rattle.md_seam.specs.TextPart.{IsTextPart, document_of, text_kind, wants_text};
 ghost use Rattle.md_registry.specs.Document.{ReadsFront};
 ghost use Rattle.md_front_rooms.specs.Front.{body_point};
-ghost use Rattle.md_frame.specs.Joins.{lines_joined};
+ghost use Rattle.md_registry.specs.Resolving.{lines_joined};
 ghost use Rattle.md_leaves.specs.Spanned.{passes_on};
 ghost use Rattle.md_leaves.specs.Turned.{HoldNoUnderline};
 ghost use Rattle.markdown_blocks.specs.Alone.{stays_alone};

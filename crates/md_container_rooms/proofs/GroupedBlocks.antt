@@ -1,5 +1,5 @@
 -- Events of no leaf of several lines: no table begins with them.
-use Rattle.std.proofs.Common.{◌≡◌, true, ◌&&◌, [], refl}
+use Rattle.std.proofs.Common.{◌≡◌, true, ◌&&◌, refl}
 use Rattle.std.specs.Prelude.{not}
 use Rattle.md_engine.specs.declared.event.Kind.{Kind}
 use Rattle.md_engine.specs.declared.event.Kind.TheVariants.{Enter, Exit}

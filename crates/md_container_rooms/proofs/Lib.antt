@@ -1,4 +1,5 @@
 pub mod BlockQuote
+pub mod Continued
 pub mod GfmFootnoteDefinition
 pub mod ListItem
 pub mod ListedOutlined

@@ -548,7 +548,7 @@ pub struct DocumentTable;
 impl Table for DocumentTable {
     ghost use Rattle.md_frame.specs.HeldLeaf.{lazy_of, takes_lazy};
     ghost use Rattle.md_registry.specs.Document.{DocumentStep};
-    ghost use Rattle.md_frame.specs.Resolved.{resolved_as};
+    ghost use Rattle.md_registry.specs.Resolving.{resolved_as};
 
     ghost step = { DocumentStep };
 

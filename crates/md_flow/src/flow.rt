@@ -377,7 +377,7 @@ pub fn call(tokenizer: &mut Tokenizer, state: FlowState) -> State
 pub struct FlowTable;
 
 impl Table for FlowTable {
-    ghost use Rattle.md_frame.specs.Resolved.{resolved_as};
+    ghost use Rattle.md_registry.specs.Resolving.{resolved_as};
 
     ghost step = { FlowStep };
 

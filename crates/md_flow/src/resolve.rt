@@ -4,7 +4,7 @@ ghost use Rattle.std.specs.Prelude.{◌≡◌, [], IfOk, OnOk};
 ghost use Rattle.std.specs.Option.{option_map};
 ghost use Rattle.md_engine.specs.Found.{found_in};
 ghost use Rattle.md_engine.specs.World.{world};
-ghost use Rattle.md_frame.specs.Resolved.{resolved_as};
+ghost use Rattle.md_registry.specs.Resolving.{resolved_as};
 
 use md_content::content;
 use md_engine::message::Message;

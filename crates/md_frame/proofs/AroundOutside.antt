@@ -4,7 +4,7 @@ use Rattle.md_engine.specs.declared.event.Event.{Event}
 use Rattle.md_engine.specs.declared.event.Name.{Name}
 use Rattle.md_engine.specs.declared.event.Point.{Point}
 use Rattle.md_seam.specs.Events.Nested.{around, exit}
-use Rattle.md_frame.specs.Resolving.{is_own}
+use Rattle.md_frame.proofs.EventNames.{is_own}
 use Rattle.md_frame.proofs.OutsideFacts.{AreOutside, outside-append}
 
 -- what stands in a part

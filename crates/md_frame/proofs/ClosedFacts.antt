@@ -8,9 +8,9 @@ use Rattle.md_engine.specs.declared.event.Name.TheVariants as n
 use Rattle.md_engine.specs.declared.event.Point.{Point}
 use Rattle.md_seam.specs.Events.Nested.{around, exit, is_enter, is_exit, pair}
 use Rattle.md_seam.specs.Events.Prefix.{is_prefix}
-use Rattle.md_order.specs.Alone.{HoldNoBlock, InHeading, InParagraph, InTable, InUnderline, MayStand, Nothing, Open}
+use Rattle.md_order.specs.Alone.{HoldNoBlock, InParagraph, MayStand, Nothing, Open}
 use Rattle.md_order.specs.Alone.{closed_by, is_set, open_behind, opened_by}
-use Rattle.md_frame.proofs.ContainerNames.{is_front}
+use Rattle.md_frame.proofs.EventNames.{front-opens}
 use Rattle.md_frame.proofs.EachEvent.{Each, each-as}
 use Rattle.md_frame.proofs.PrefixNames.{AreFront, ArePrefixes, IsFrontEvent, IsNamed}
 
@@ -46,14 +46,6 @@ closed-each (e ∷ es) h = λ ys k. (
         go false = refl
 
 -- prefixes and containers
-front-opens : (name : Name) → is_front name ≡ true → opened_by name ≡ Nothing
-front-opens n.HeadingAtx h = cc
-front-opens n.Paragraph h = cc
-front-opens n.HeadingSetextUnderline h = cc
-front-opens n.GfmTable h = cc
-front-opens n.LineEnding h = cc
-front-opens _ h = refl
-
 pub closed-front : (es : List Event) → AreFront es → IsClosed es
 closed-front es h =
     closed-each es (each-as IsFrontEvent OpensNothing (λ e is. front-opens e.name is.0) es h)
@@ -64,7 +56,7 @@ closed-ending p q = λ ys k. (λ exits. cc, (λ goes. cc, k))
 
 -- Blocks.
 
--- an event of no item, and of none of these blocks
+-- an event of no container and no block that resolvers set
 abbrev pub IsUnset : Event → Type 0
 IsUnset e = is_set e.name ≡ false
 
@@ -102,24 +94,12 @@ closed-around name is p q inside h = λ ys k. (
       (is.ends q, subst (λ (x : Open). HoldNoBlock x ys) (sym (is.shuts q)) k)),
 )
 
--- Each of them: no other ends it.
-
-stays-open : (x : Open) (e : Event) → closed_by x e.name ≡ false → cond (is_exit e.kind && closed_by x e.name) Nothing x ≡ x
+-- no other ends it
+pub stays-open : (x : Open) (e : Event) → closed_by x e.name ≡ false →
+    cond (is_exit e.kind && closed_by x e.name) Nothing x ≡ x
 stays-open x e h = ap (λ (closes : Bool). cond closes Nothing x) (and_right (is_exit e.kind) (closed_by x e.name) h)
 
-unset-heading : (name : Name) → is_set name ≡ false → closed_by InHeading name ≡ false
-unset-heading n.HeadingAtx h = cc
-unset-heading _ h = refl
-
-pub heading-block : IsBlock n.HeadingAtx
-heading-block = record {
-  inside = InHeading;
-  opens = refl;
-  stands = λ e h goes. h;
-  stays = λ e h. stays-open InHeading e (unset-heading e.name h);
-  ends = λ q goes. cc;
-  shuts = λ q. refl;
-}
+-- Text is such a block.
 
 unset-paragraph : (name : Name) → is_set name ≡ false → closed_by InParagraph name ≡ false
 unset-paragraph n.Paragraph h = cc
@@ -131,34 +111,6 @@ paragraph-block = record {
   opens = refl;
   stands = λ e h goes. h;
   stays = λ e h. stays-open InParagraph e (unset-paragraph e.name h);
-  ends = λ q goes. cc;
-  shuts = λ q. refl;
-}
-
-unset-underline : (name : Name) → is_set name ≡ false → closed_by InUnderline name ≡ false
-unset-underline n.HeadingSetextUnderline h = cc
-unset-underline _ h = refl
-
-pub underline-block : IsBlock n.HeadingSetextUnderline
-underline-block = record {
-  inside = InUnderline;
-  opens = refl;
-  stands = λ e h goes. h;
-  stays = λ e h. stays-open InUnderline e (unset-underline e.name h);
-  ends = λ q goes. cc;
-  shuts = λ q. refl;
-}
-
-unset-table : (name : Name) → is_set name ≡ false → closed_by InTable name ≡ false
-unset-table n.GfmTable h = cc
-unset-table _ h = refl
-
-pub table-block : IsBlock n.GfmTable
-table-block = record {
-  inside = InTable;
-  opens = refl;
-  stands = λ e h goes. h;
-  stays = λ e h. stays-open InTable e (unset-table e.name h);
   ends = λ q goes. cc;
   shuts = λ q. refl;
 }

@@ -1,8 +1,7 @@
--- The containers of the line definition, built or not: what is known of the names of their events, and of what these
--- tell. It is the one place of the frame's proofs that goes through them.
-use Rattle.std.proofs.Common.{◌≡◌, Bool, true, false, cond, List, [], ◌∷◌, ◌++◌, refl, ap, map, sym, ℕ, zero, suc}
-use Rattle.std.specs.Prelude.{None, Some}
-use Rattle.md_engine.specs.declared.configuration.ParseOptions.{ParseOptions}
+-- A table of the containers of the line definition, built or not: what is known of the names of their events, and of
+-- what these tell. It is the one place of the frame's proofs that goes through them.
+use Rattle.std.proofs.Common.{◌≡◌, Bool, true, false, cond, List, [], ◌∷◌, ◌++◌, refl, ap, map, ℕ, zero, suc}
+use Rattle.std.specs.Prelude.{None}
 use Rattle.md_engine.specs.declared.event.Event.{Event}
 use Rattle.md_engine.specs.declared.event.Kind.TheVariants.{Exit}
 use Rattle.md_engine.specs.declared.event.Name.{Name}
@@ -11,7 +10,6 @@ use Rattle.md_engine.specs.declared.event.Point.{Point}
 use Rattle.md_engine.specs.declared.tokenizer.container.name.ContainerKind.{ContainerKind}
 use Rattle.md_engine.specs.declared.tokenizer.container.name.ContainerKind.TheVariants as kind
 use Rattle.md_engine.specs.ContainerName.{name_of}
-use Rattle.md_containers.specs.ItemsStand.{is_item_shape}
 use Rattle.md_containers.specs.Listed.{is_item}
 use Rattle.md_containers.proofs.UnlistedLemmas.{among}
 use Rattle.md_content.specs.Joined.{content_behind}
@@ -24,37 +22,14 @@ use Rattle.md_seam.specs.Events.Nested.{enter, exit}
 use Rattle.md_seam.specs.Events.Prefix.{is_prefix}
 use Rattle.md_seam.specs.Events.Spelled.{ContainerRole, Reading, Shape, block_around, left, read, role}
 use Rattle.md_seam.specs.Events.Tiles.{part_kind}
-use Rattle.md_meaning.specs.Containers.{Taken, continues, footnote_continues, item_continues, quote_taken}
-use Rattle.md_meaning.specs.Rest.{Rest}
 use Rattle.md_meaning.specs.State.{Container, InFootnote, InItem, InQuote, container_block}
 use Rattle.md_meaning.specs.Tree.{Blocks}
 use Rattle.md_seam.proofs.EndingsLemmas.{is_other}
-use Rattle.md_frame.specs.ContainerNames.{IsOf, container_kind, container_name, shape_name, shape_of}
+use Rattle.md_frame.specs.ContainerNames.{IsOf, container_name, is_listed, shape_name, shape_of}
+use Rattle.md_frame.proofs.EventNames.{is_front}
 use Rattle.md_frame.proofs.LeafStands.{Moves}
 use Rattle.md_frame.proofs.PartedFacts.{Still}
 use Rattle.md_frame.proofs.PlainFacts.{Untold}
-
--- names of prefixes and of containers, and of what they tell where they open
-abbrev pub is_front : Name → Bool
-is_front n.BlockQuote = true
-is_front n.ListItem = true
-is_front n.ListItemPrefix = true
-is_front n.ListItemValue = true
-is_front n.ListItemMarker = true
-is_front n.GfmFootnoteDefinition = true
-is_front n.GfmFootnoteDefinitionPrefix = true
-is_front n.GfmFootnoteDefinitionLabel = true
-is_front n.GfmFootnoteDefinitionLabelMarker = true
-is_front n.GfmFootnoteDefinitionMarker = true
-is_front n.GfmFootnoteDefinitionLabelString = true
-is_front n.DefinitionMarker = true
-is_front n.Data = true
-is_front name = is_prefix name
-
--- so names of prefixes are among them
-pub front-name : (name : Name) → is_prefix name ≡ true → is_front name ≡ true
-front-name n.Data h = cc
-front-name _ h = cc
 
 -- Each container.
 
@@ -69,9 +44,9 @@ pub record ContainerFacts (c : Container) : Type 0 where
   pub no_ending : is_line_ending (container_name c) ≡ false
   -- it is a block, and an item or none; where it is innermost it ends between blocks
   pub block_role : is_block (role (container_name c)) ≡ true
-  pub item_role : is_item (role (container_name c)) ≡ is_item_shape (shape_of c)
+  pub item_role : is_item (role (container_name c)) ≡ is_listed c
   pub ends : (bytes : List ℕ) (items : List Bool) (p : Point) →
-      Moves bytes (among (is_item_shape (shape_of c) ∷ items)) (among items) Exit (role (container_name c)) p
+      Moves bytes (among (is_listed c ∷ items)) (among items) Exit (role (container_name c)) p
   -- no text begins or ends with it, and it has a plain name, if an outline shows it
   pub still : Still (role (container_name c))
   pub untold : is_plain (ContainerRole (shape_of c)) ≡ true → Untold (role (container_name c))
@@ -168,29 +143,6 @@ shape_names (s ∷ ss) = shape_names ss ++ shape_name s ∷ []
 pub names-shapes : (cs : List Container) → open_names cs ≡ shape_names (map shape_of cs)
 names-shapes [] = refl
 names-shapes (c ∷ cs) = ap (λ (l : List Name). l ++ container_name c ∷ []) (names-shapes cs)
-
--- What the events tell of a container does not change while it is open.
-
--- what is taken, if anything is, is in this container
-when-container : (x : Bool) (u t : Taken) → cond x (Some u) None ≡ Some t → t.container ≡ u.container
-when-container true u t e = let same : u ≡ t = cc in sym (ap (λ (x : Taken). x.container) same)
-when-container false u t e = cc
-
--- so a container that goes on has the shape that it had,
-pub continues-shape : (options : ParseOptions) (c : Container) (r : Rest) (t : Taken) →
-    continues options c r ≡ Some t → shape_of t.container ≡ shape_of c
-unfolding quote_taken item_continues footnote_continues
-continues-shape options InQuote r t e = ap shape_of (when-container _ _ t e)
-continues-shape options (InItem digits marker width starts_blank) r t e = ap shape_of (when-container _ _ t e)
-continues-shape options (InFootnote label) r t e = ap shape_of (when-container _ _ t e)
-
--- and the kind
-pub continues-kind : (options : ParseOptions) (c : Container) (r : Rest) (t : Taken) →
-    continues options c r ≡ Some t → container_kind t.container ≡ container_kind c
-unfolding quote_taken item_continues footnote_continues
-continues-kind options InQuote r t e = ap container_kind (when-container _ _ t e)
-continues-kind options (InItem digits marker width starts_blank) r t e = ap container_kind (when-container _ _ t e)
-continues-kind options (InFootnote label) r t e = ap container_kind (when-container _ _ t e)
 
 -- What holds of the name of each kind of container that the tokenizer holds.
 pub held-names : (P : Name → Type 0) → P n.BlockQuote → P n.ListItem → P n.GfmFootnoteDefinition →

@@ -5,13 +5,10 @@ use Rattle.md_engine.specs.declared.event.Content.{Content}
 use Rattle.md_engine.specs.declared.event.Content.TheVariants as content
 use Rattle.md_engine.specs.declared.event.Event.{Event}
 use Rattle.md_content.specs.ContentReads.{wants_content}
-use Rattle.md_content.specs.Joined.{is_content}
-use Rattle.md_content.specs.Labels.{is_label}
 use Rattle.md_content.proofs.LabelsLemmas.{has_no_label}
 use Rattle.std.proofs.lemmas.Bool.{and_from}
-use Rattle.md_engine.specs.declared.event.Name.{Name}
-use Rattle.md_engine.specs.declared.event.Name.TheVariants as n
 use Rattle.md_seam.specs.Substituted.{wanted}
+use Rattle.md_frame.proofs.EventNames.{is_told, told-label}
 use Rattle.md_frame.proofs.SubstitutedLemmas.{Unwanted}
 
 -- no text, no string and no flow is wanted: content alone may be
@@ -22,20 +19,6 @@ pub record WantsContent (wants : Content → Bool) : Type 0 where
 
 pub content-alone : WantsContent wants_content
 content-alone = record { text = refl; string = refl; flow = refl }
-
--- whether content, or the label of a definition, has this name
-abbrev pub is_told : Name → Bool
-is_told n.Content = true
-is_told n.DefinitionLabelString = true
-is_told _ = false
-
-pub told-content : (name : Name) → is_told name ≡ false → is_content name ≡ false
-told-content n.Content h = cc
-told-content _ h = refl
-
-pub told-label : (name : Name) → is_told name ≡ false → is_label name ≡ false
-told-label n.DefinitionLabelString h = cc
-told-label _ h = refl
 
 -- events none of which is content or a label, or begins a chunk that the reader wants
 abbrev pub NoContent : (Content → Bool) → List Event → Type 0

@@ -1,11 +1,8 @@
 -- What holds of the events in front of a line: they are prefixes and begins of containers. So it is with the ends of
 -- containers, of which nothing is read later, and with prefixes where no container begins.
-use Rattle.md_frame.proofs.ContentFacts.{is_told}
-use Rattle.std.proofs.Common.{◌≡◌, ℕ, Bool, true, false, cond, ◌&&◌, List, [], ◌∷◌, ◌++◌, refl, ap, sym, ◌∙◌, subst}
+use Rattle.std.proofs.Common.{◌≡◌, ℕ, Bool, false, cond, ◌&&◌, List, [], ◌∷◌, ◌++◌, refl, ap, sym, ◌∙◌, subst}
 use Rattle.std.proofs.Common.{append_assoc}
 use Rattle.md_engine.specs.declared.event.Event.{Event}
-use Rattle.md_engine.specs.declared.event.Name.{Name}
-use Rattle.md_engine.specs.declared.event.Name.TheVariants as n
 use Rattle.md_engine.specs.declared.event.Point.{Point}
 use Rattle.md_content.specs.Joined.{content_behind, is_content}
 use Rattle.md_seam.specs.Events.Nested.{exit, is_enter}
@@ -18,7 +15,7 @@ use Rattle.md_frame.specs.Change.{ends_of, is_none}
 use Rattle.md_frame.specs.Row.{Row}
 use Rattle.md_frame.proofs.FrontFacts.{LinePrefix, ReadFront}
 use Rattle.md_frame.proofs.FrontFacts.LinePrefix.{Begins, Behind, Goes}
-use Rattle.md_frame.proofs.ContainerNames.{container-facts, is_front}
+use Rattle.md_frame.proofs.ContainerNames.{container-facts}
 use Rattle.md_frame.proofs.PrefixNames.{names-no_parts, names-unlinked, AreFront, ArePrefixes, prefixes-front}
 use Rattle.md_frame.proofs.PrefixNames.{IsFrontEvent, IsNamed}
 use Rattle.md_frame.proofs.PartFacts.{IsNoPart, IsUnlinked, NoLinks, NoParts}
@@ -64,12 +61,6 @@ ends-first P c [] p es h = h c es
 ends-first P c (d ∷ cs) p es h =
     subst P (sym (append_assoc (ends_of (d ∷ cs) p) (exit (container_name c) p ∷ []) es))
     (ends-first P d cs p (exit (container_name c) p ∷ es) h)
-
--- none of them is content
-pub front-content : (name : Name) → is_front name ≡ true → is_told name ≡ false
-front-content n.Content h = cc
-front-content n.DefinitionLabelString h = cc
-front-content _ h = refl
 
 -- What goes on behind them.
 

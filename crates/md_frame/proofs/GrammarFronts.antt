@@ -1,4 +1,4 @@
--- What stands in front of a line and behind it keeps the grammar of events without lists.
+-- What is in front of a line and behind it keeps the grammar of events around which nothing is put yet.
 use Rattle.std.proofs.Common.{◌≡◌, Bool, true, false, cond, ℕ, List, [], ◌∷◌, ◌++◌, refl, ap, sym, ◌∙◌, append_assoc}
 use Rattle.md_engine.specs.declared.event.Event.{Event}
 use Rattle.md_engine.specs.declared.event.Name.{Name}

@@ -1,4 +1,4 @@
--- The laws of a leaf on one line: what the frame asks of each (`LineLeaf`), and of the registry.
+-- The laws of a leaf on one line: what the frame asks of each (`LineLeaf`), where this resolver sets such leaves.
 use Rattle.std.proofs.Common.{◌≡◌, ℕ, ◌^◌, ◌<◌, ◌≤◌, Bool, true, false, cond, List, ◌++◌, length}
 use Rattle.md_frame.specs.HeldLeaf.{kind_of_leaf, left_by, may_go_on, takes_lazy}
 use Rattle.std.specs.Prelude.{◌&&◌, ◌||◌, Some}
@@ -21,10 +21,10 @@ use Rattle.md_seam.proofs.RestCells.{RestAt, rest_cells}
 use Rattle.md_meaning.proofs.TextsLemmas.{NoEnding}
 use Rattle.md_frame.specs.RestLine.{rest_line}
 use Rattle.md_frame.specs.LineLeaf.{LineLeaf}
-use Rattle.md_frame.specs.Resolving.{resolved}
 use Rattle.md_frame.proofs.ClosedFacts.{IsClosed}
 use Rattle.md_frame.proofs.LeafFacts.{LeafFacts, LineAt}
 use Rattle.md_frame.proofs.LinedFacts.{AreLined}
+use Rattle.md_frame.proofs.OutsideFacts.{LineResolver}
 use Rattle.md_frame.proofs.SpannedFacts.{AreUnspanned}
 use Rattle.md_frame.proofs.UnturnedFacts.{AreUnturned}
 use Rattle.md_frame.specs.HeldLeaf.{has_lines}
@@ -58,7 +58,7 @@ pub cond-shrinks : (n : ℕ) (x : Bool) (a b : Outcome) → Shrinks n a → Shri
 cond-shrinks n true a b p q = p
 cond-shrinks n false a b p q = q
 
-pub record LeafLaws (l : LineLeaf) : Type 1 where
+pub record LeafLaws (resolver : LineResolver) (l : LineLeaf) : Type 1 where
   -- It takes no line where it may not begin, by what stands first behind whitespace, and whether such stands in front.
   pub looked : (options : ParseOptions) (on : HeldLeaf) (cells : List Cell) (b : ℕ) → seen_behind cells ≡ Some b →
       l.may_begin on (begins_white cells) b ≡ false → l.takes options on cells ≡ false
@@ -118,11 +118,11 @@ pub record LeafLaws (l : LineLeaf) : Type 1 where
       l.starts options on r ≡ true → AreUnspanned (l.added options on (rest_line r) p)
   pub alone : l.ends ≡ true → (options : ParseOptions) (on : HeldLeaf) (r : Rest) (p : Point) →
       l.starts options on r ≡ true → IsClosed (l.added options on (rest_line r) p)
-  -- resolvers set what is its own,
+  -- the resolver sets what is its own,
   pub set : l.ends ≡ true → (options : ParseOptions) (on : HeldLeaf) (r : Rest) (p : Point) (es : List Event) →
       l.starts options on r ≡ true →
-      resolved (l.added options on (rest_line r) p ++ es) ≡ l.unread (rest_line r) p ++ resolved es
-  -- and those that set setext headings and tables pass it;
+      resolver.resolved (l.added options on (rest_line r) p ++ es) ≡ l.unread (rest_line r) p ++ resolver.resolved es
+  -- and those behind it pass what it has set;
   pub unturned : l.ends ≡ true → (options : ParseOptions) (on : HeldLeaf) (r : Rest) (p : Point) →
       l.starts options on r ≡ true → AreUnturned (l.unread (rest_line r) p)
   pub unspanned : l.ends ≡ true → (options : ParseOptions) (on : HeldLeaf) (r : Rest) (p : Point) →

@@ -1,5 +1,5 @@
--- What stands between blocks or in a leaf leaves open what is open: so lists are told behind it as in front of it. And
--- it has no item and no list.
+-- Events between blocks or in a leaf leave open what is open, and nothing is put around them or in their place
+-- (`NoListing`).
 use Rattle.std.proofs.Common.{◌≡◌, ℕ, Bool, true, false, List, [], ◌∷◌, ◌++◌, refl}
 use Rattle.std.specs.Prelude.{None, Option, Some}
 use Rattle.md_engine.specs.declared.event.Event.{Event}
@@ -16,6 +16,7 @@ use Rattle.md_seam.specs.Events.Spelled.{ContainerRole, IsEnding, IsPrefix, IsQu
 use Rattle.md_seam.specs.Events.Spelled.{role}
 use Rattle.md_seam.proofs.SpelledLemmas.{Between, Quiet, Roles}
 use Rattle.md_frame.specs.EndingName.{ending_name}
+use Rattle.md_frame.proofs.EventNames.{part-unlisted}
 use Rattle.md_frame.specs.Row.{Row, ending_events}
 
 -- What is open.
@@ -81,7 +82,8 @@ leaf-encloses bytes held kind = record {
   ends = λ p. record { may = tt; behind = refl };
 }
 
-pub around-stands : (bytes : List ℕ) (held : List Bool) (inner : Inner) (name : Name) (p q : Point) (inside : List Event) →
+pub around-stands : (bytes : List ℕ) (held : List Bool) (inner : Inner) (name : Name) (p q : Point)
+    (inside : List Event) →
     Encloses bytes held inner (role name) → StandsTo bytes (site_of held inner) (site_of held inner) inside →
     StandsTo bytes (among held) (among held) (around name p q inside)
 around-stands bytes held inner name p q inside h stands =
@@ -98,14 +100,7 @@ leaf-stands bytes held name kind p q inside is parts =
     around-stands bytes held InLeaf name p q inside (rw is (leaf-encloses bytes held kind))
     (roles-stand bytes (site_of held InLeaf) IsPart (part-stays bytes held) inside parts)
 
--- No items and no lists.
-
--- none is a part of a leaf: each name is tested
-part-unlisted : (name : Name) → IsPart (role name) → in_place name ≡ name
-part-unlisted n.ListItem h = absurd h
-part-unlisted n.ListOrdered h = absurd h
-part-unlisted n.ListUnordered h = absurd h
-part-unlisted _ h = refl
+-- Nothing is put around events in a leaf.
 
 pub parts-unlisted : (es : List Event) → Roles IsPart es → NoListing es
 parts-unlisted [] h = tt

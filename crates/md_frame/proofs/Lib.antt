@@ -10,6 +10,7 @@ pub mod ContentFacts
 pub mod EachEvent
 pub mod EndingFacts
 pub mod Enters
+pub mod EventNames
 pub mod FillFacts
 pub mod FilledAround
 pub mod FromEnding
@@ -64,8 +65,6 @@ pub mod SpanLemmas
 pub mod SpannedFacts
 pub mod SubstitutedLemmas
 pub mod TextBehind
-pub mod TextItemised
 pub mod TextLaws
-pub mod TextQuoted
 pub mod UnturnedFacts
 pub mod WhiteQuiet

@@ -1,6 +1,3 @@
--- Runs of one marker and of whitespace, whatever the name of the markers is: a thematic break has them, and the underline
--- of a setext heading.
-pub mod Cells
+-- Runs of one marker and of whitespace, whatever the name of the markers is.
 pub mod Each
 pub mod Fits
-pub mod Line

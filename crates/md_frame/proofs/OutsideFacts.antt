@@ -1,12 +1,12 @@
 -- Events among which no part of some names begins, or ends.
 --
--- The resolver of headings asks for the begins of the parts that it rewrites; that of content is registered where a part
--- of it ends.
-use Rattle.std.proofs.Common.{◌≡◌, Bool, false, ◌&&◌, List, [], ◌∷◌, ◌++◌, refl, ap}
+-- A resolver of leaves on one line asks for the begins of the parts that it rewrites; that of content is registered
+-- where a part of it ends.
+use Rattle.std.proofs.Common.{◌≡◌, Bool, false, ◌&&◌, List, ◌++◌}
 use Rattle.md_engine.specs.declared.event.Event.{Event}
 use Rattle.md_engine.specs.declared.event.Name.{Name}
 use Rattle.md_seam.specs.Events.Nested.{is_enter, is_exit}
-use Rattle.md_frame.specs.Resolving.{is_own, resolved}
+use Rattle.md_frame.proofs.EventNames.{is_own}
 use Rattle.md_frame.proofs.EachEvent.{Each, each-append}
 
 -- no part with such a name ends with an event
@@ -26,7 +26,7 @@ AreOutside es = Each IsOutside es
 pub outside-append : (xs ys : List Event) → AreOutside xs → AreOutside ys → AreOutside (xs ++ ys)
 outside-append xs ys h k = each-append IsOutside xs ys h k
 
--- resolvers pass them
-pub resolved-outside : (xs ys : List Event) → AreOutside xs → resolved (xs ++ ys) ≡ xs ++ resolved ys
-resolved-outside [] ys h = refl
-resolved-outside (e ∷ xs) ys h = rw h.0 (ap (λ (l : List Event). e ∷ l) (resolved-outside xs ys h.1))
+-- The interface of such a resolver: what it makes of events, and that it passes these.
+pub record LineResolver : Type 0 where
+  pub resolved : List Event → List Event
+  pub passes : (xs ys : List Event) → AreOutside xs → resolved (xs ++ ys) ≡ xs ++ resolved ys

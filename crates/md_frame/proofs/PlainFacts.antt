@@ -11,15 +11,13 @@ use Rattle.md_seam.specs.declared.inline.Chunk.{Chunk}
 use Rattle.md_seam.specs.Events.Inline.{line_end, plain_chunk}
 use Rattle.md_seam.specs.Events.Nested.{around, enter, exit, pair}
 use Rattle.md_seam.specs.Events.Places.{past_byte, past_text, same_place}
-use Rattle.md_seam.specs.Events.Spelled.{AsCell, AsDelimiter, AsDestination, AsHeading, AsInfo, AsLabel, AsLine, AsMeta}
-use Rattle.md_seam.specs.Events.Spelled.{AsTitle, IsCell, IsFence, IsQuiet, IsRow, IsTitle, OfCode, OfDefinition}
-use Rattle.md_seam.specs.Events.Spelled.{OfFence, OfFrontmatter, OfHeadingSetext, OfHtml, OfMath, OfTable, LeafRole}
-use Rattle.md_seam.specs.Events.Spelled.{Role, TextRole, role}
+use Rattle.md_seam.specs.Events.Spelled.{IsQuiet, Role, role}
 use Rattle.md_seam.proofs.SpelledLemmas.{Quiet, Roles}
 use Rattle.md_outline.specs.LinesStand.{Outside, Site}
 use Rattle.md_outline.specs.Outlined.{has_unlisted_name}
 use Rattle.md_outline.specs.Roles.{is_plain, is_told, is_unlisted}
 use Rattle.md_outline.proofs.LinesPass.{Passes, keeps-plain, passes-append, passes-kept, passes-none, passes-quiet}
+use Rattle.md_frame.proofs.EventNames.{unlisted-plain}
 use Rattle.md_frame.proofs.PartedFacts.{clear}
 
 -- whether a text begins or ends at such a point
@@ -86,31 +84,6 @@ plain-nil bytes = plain-none bytes Outside
 pub plain-append : (bytes : List ℕ) (xs ys : List Event) → ArePlain bytes xs → ArePlain bytes ys →
     ArePlain bytes (xs ++ ys)
 plain-append bytes xs ys h k = plain-through bytes Outside Outside Outside xs ys h k
-
--- a role that is plain is shown, and of no list
-unlisted-plain : (x : Role) → is_plain x ≡ true → is_unlisted x ≡ true
-unlisted-plain (LeafRole OfCode) h = refl
-unlisted-plain (LeafRole OfFence) h = refl
-unlisted-plain (LeafRole OfMath) h = refl
-unlisted-plain (LeafRole OfHtml) h = refl
-unlisted-plain (LeafRole OfHeadingSetext) h = refl
-unlisted-plain (LeafRole OfDefinition) h = refl
-unlisted-plain (LeafRole OfTable) h = refl
-unlisted-plain (LeafRole OfFrontmatter) h = refl
-unlisted-plain IsFence h = refl
-unlisted-plain IsTitle h = refl
-unlisted-plain IsRow h = refl
-unlisted-plain IsCell h = refl
-unlisted-plain (TextRole AsLine) h = refl
-unlisted-plain (TextRole AsInfo) h = refl
-unlisted-plain (TextRole AsMeta) h = refl
-unlisted-plain (TextRole AsHeading) h = refl
-unlisted-plain (TextRole AsLabel) h = refl
-unlisted-plain (TextRole AsDestination) h = refl
-unlisted-plain (TextRole AsTitle) h = refl
-unlisted-plain (TextRole AsCell) h = refl
-unlisted-plain (TextRole AsDelimiter) h = refl
-unlisted-plain x h = h
 
 pub plain-cons : (bytes : List ℕ) (e : Event) (es : List Event) → is_plain (role e.name) ≡ true →
     is_clear bytes e ≡ true → ArePlain bytes es → ArePlain bytes (e ∷ es)

@@ -4,7 +4,6 @@ use Rattle.std.proofs.Common.{◌≡◌, ◌≢◌, ℕ, ◌≤◌, Bool, true, 
 use Rattle.std.specs.Prelude.{◌==◌}
 use Rattle.md_engine.specs.declared.event.Event.{Event}
 use Rattle.md_engine.specs.declared.event.Point.{Point}
-use Rattle.md_containers.specs.ItemsStand.{is_item_shape}
 use Rattle.md_containers.proofs.UnlistedLemmas.{NoListing, StandsTo, Unlists, among}
 use Rattle.md_meaning.specs.State.{Container}
 use Rattle.md_seam.specs.Events.Grammar.{Expression, behind_block, blocks}
@@ -18,7 +17,7 @@ use Rattle.md_frame.proofs.CollectFacts.{Collects}
 use Rattle.md_seam.proofs.EndingsLemmas.{AreOthers}
 use Rattle.md_seam.proofs.GrammarLemmas as grammar
 use Rattle.md_outline.specs.Between.{is_between}
-use Rattle.md_frame.specs.ContainerNames.{container_name, shape_of}
+use Rattle.md_frame.specs.ContainerNames.{container_name, is_listed, shape_of}
 use Rattle.md_frame.proofs.BetweenFacts.{AreBetween}
 use Rattle.md_seam.specs.declared.inline.PartKind.{PartKind}
 use Rattle.md_frame.proofs.PartsStand.{Inside}
@@ -84,13 +83,13 @@ pub record Opens (bytes : List ℕ) (c : Container) (p q : Point) (es : List Eve
   -- an outline knows them, and a text that begins in them ends in them
   pub plain : ArePlain bytes es
   pub sits : PrefixesAtLineStart bytes es
-  -- with the begin of the container, they keep the grammar of events without lists
+  -- with the begin of the container, they keep the grammar of events around which nothing is put yet
   pub leads : (text : Expression) → TakesData text →
       Unlists text (blocks ∷ []) (blocks ∷ behind_block ∷ []) (enter (container_name c) p ∷ es)
-  -- blocks may stand in it behind them, and an item tells its marker
+  -- blocks may follow in it, and they tell what its events are to tell
   pub stands : (held : List Bool) →
-      StandsTo bytes (among held) (among (is_item_shape (shape_of c) ∷ held)) (enter (container_name c) p ∷ es)
-  -- no item and no list is among them
+      StandsTo bytes (among held) (among (is_listed c ∷ held)) (enter (container_name c) p ∷ es)
+  -- nothing is put around any of them
   pub unlisted : NoListing es
   -- the container is read, and they are not
   pub read : (r : Reading) → r.text ≡ None → read bytes r (enter (container_name c) p ∷ es) ≡ begins c r

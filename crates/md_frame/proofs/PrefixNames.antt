@@ -14,7 +14,7 @@ use Rattle.md_seam.specs.Events.Prefix.{is_prefix}
 use Rattle.md_seam.proofs.SpelledLemmas.{Roles}
 use Rattle.md_frame.proofs.EachEvent.{Each, each-as}
 use Rattle.md_frame.proofs.PartFacts.{NoLinks, NoParts, IsUnlinked, IsNoPart}
-use Rattle.md_frame.proofs.ContainerNames.{is_front, front-name}
+use Rattle.md_frame.proofs.EventNames.{is_front, front-name}
 
 -- an event with such a name, which begins no chunk
 abbrev pub IsNamed : (Name → Bool) → Event → Type 0

@@ -1,6 +1,5 @@
 -- A text that is read reaches to a point of a line: it began no further, whole lines of it stand in front of this one,
--- and of this one whitespace alone. So a prefix of a quote may stand there, or whitespace of an item, and the text goes
--- on behind it.
+-- and of this one whitespace alone. So prefixes of containers may be there, and the text continues behind them.
 use Rattle.std.proofs.Common.{◌≡◌, ℕ, zero, suc, ◌+◌, ◌-◌, ◌<◌, ◌≤◌, Bool, true, false, cond, ◌||◌, List, [], ◌∷◌, ◌++◌}
 use Rattle.std.proofs.Common.{get_or, take, drop, slice_range, refl, ap, sym, ◌∙◌, subst, arith}
 use Rattle.std.specs.Prelude.{◌==◌, nat_lt, not, slice_index, Some}

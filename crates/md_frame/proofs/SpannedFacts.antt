@@ -1,13 +1,11 @@
 -- Events of no leaf of several lines: the walk that joins the lines of such leaves gives them as they are.
 use Rattle.std.proofs.Common.{◌≡◌, Bool, true, false, not, ◌&&◌, List, [], ◌∷◌, refl}
 use Rattle.md_engine.specs.declared.event.Event.{Event}
-use Rattle.md_engine.specs.declared.event.Name.{Name}
-use Rattle.md_engine.specs.declared.event.Name.TheVariants as n
 use Rattle.md_leaves.specs.declared.spans.Place.TheVariants.{Outside}
-use Rattle.md_leaves.specs.Spanned.{has_lines, is_code_line, passes}
+use Rattle.md_leaves.specs.Spanned.{has_lines, is_renamed, passes}
 use Rattle.md_leaves.proofs.SpannedLines.{NoLines, Pass}
 use Rattle.md_seam.specs.Events.Spelled.{role}
-use Rattle.md_frame.proofs.ContainerNames.{is_front}
+use Rattle.md_frame.proofs.EventNames.{front-unspanned}
 use Rattle.md_frame.proofs.EachEvent.{Each, each-as}
 use Rattle.md_frame.proofs.PrefixNames.{AreFront, IsFrontEvent}
 
@@ -24,21 +22,12 @@ unspanned-pass (e ∷ es) h = (h.0, unspanned-pass es h.1)
 
 pub unspanned-lines : (es : List Event) → AreUnspanned es → NoLines es
 unspanned-lines [] h = tt
-unspanned-lines (e ∷ es) h = (go (has_lines (role e.name)) (is_code_line e.name) h.0, unspanned-lines es h.1)
+unspanned-lines (e ∷ es) h = (go (has_lines (role e.name)) (is_renamed Outside e.name) h.0, unspanned-lines es h.1)
   where
     go : (x y : Bool) → (not x && not y) ≡ true → x ≡ false
     go true y k = absurd (let no : false ≡ true = k in cc)
     go false y k = refl
 
 -- prefixes and containers are none
-front-unspanned : (name : Name) → is_front name ≡ true → (not (has_lines (role name)) && not (is_code_line name)) ≡ true
-front-unspanned n.CodeIndented h = cc
-front-unspanned n.CodeFenced h = cc
-front-unspanned n.MathFlow h = cc
-front-unspanned n.HtmlFlow h = cc
-front-unspanned n.GfmTable h = cc
-front-unspanned n.CodeFlowChunk h = cc
-front-unspanned _ h = refl
-
 pub fronts-unspanned : (es : List Event) → AreFront es → AreUnspanned es
 fronts-unspanned es h = each-as IsFrontEvent IsUnspanned (λ e is. front-unspanned e.name is.0) es h

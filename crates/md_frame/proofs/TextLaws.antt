@@ -12,16 +12,15 @@ use Rattle.md_seam.proofs.SpelledLemmas.{Between, Roles}
 use Rattle.md_meaning.specs.State.{ParagraphLine, Leaf, NoLeaf, texts, then_leaf}
 use Rattle.md_meaning.specs.Tree.{Blocks}
 use Rattle.md_outline.specs.HeadingDepths.{are_shallow}
-use Rattle.md_frame.specs.HeldLeaf.{IsBuiltLeaf}
-use Rattle.md_frame.specs.OpenSpan.{IsOpenSpan}
+use Rattle.md_frame.specs.HeldLeaf.{IsNoneTextOr}
 use Rattle.md_frame.specs.TextLeaf.{TextLeaf}
 use Rattle.md_frame.proofs.OutsideFacts.{AreOutside}
 
 pub record TextLaws (t : TextLeaf) : Type 1 where
-  -- What may be open is nothing, lines of it, or a leaf of several lines that are no text.
-  pub cases : (P : Leaf → Type 0) → P NoLeaf → ((k : ParagraphLine) (ks : List ParagraphLine) → P (t.held (k ∷ ks))) →
-      ((leaf : Leaf) → IsOpenSpan leaf → P leaf) →
-      (leaf : Leaf) → IsBuiltLeaf leaf → P leaf
+  -- What may be open is nothing, lines of it, or one of the leaves that are no text.
+  pub cases : (IsSpan P : Leaf → Type 0) → P NoLeaf →
+      ((k : ParagraphLine) (ks : List ParagraphLine) → P (t.held (k ∷ ks))) → ((leaf : Leaf) → IsSpan leaf → P leaf) →
+      (leaf : Leaf) → IsNoneTextOr IsSpan leaf → P leaf
   -- It is shut as what its lines come to, which an outline can show.
   pub shut : (options : ParseOptions) (bs : Blocks) (ks : List ParagraphLine) →
       then_leaf options bs (t.held ks) ≡ t.behind options bs (texts ks)

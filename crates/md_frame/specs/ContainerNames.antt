@@ -1,9 +1,11 @@
--- Containers of the line definition, built or not: what the events tell of one, and as which kind it is held.
-use Rattle.std.specs.Prelude.{◌≡◌, ℕ, zero, suc, Option, Some, None}
+-- A table of the containers of the line definition, built or not: what the events tell of one, and as which kind it is
+-- held.
+use Rattle.std.specs.Prelude.{◌≡◌, ℕ, zero, suc, Bool, Option, Some, None}
 use Rattle.md_engine.specs.declared.event.Name.{Name}
 use Rattle.md_engine.specs.declared.event.Name.TheVariants as n
 use Rattle.md_engine.specs.declared.tokenizer.container.name.ContainerKind.{ContainerKind}
 use Rattle.md_engine.specs.declared.tokenizer.container.name.ContainerKind.TheVariants as kind
+use Rattle.md_containers.specs.ItemsStand.{is_item_shape}
 use Rattle.md_seam.specs.Events.Spelled.{FootnoteShape, ItemShape, OrderedShape, QuoteShape, Shape, UnorderedShape}
 use Rattle.md_meaning.specs.State.{Container, InFootnote, InItem, InQuote}
 
@@ -23,6 +25,10 @@ shape_name (FootnoteShape label) = n.GfmFootnoteDefinition
 
 abbrev pub container_name : Container → Name
 container_name c = shape_name (shape_of c)
+
+-- whether it is one of those around which lists are put
+abbrev pub is_listed : Container → Bool
+is_listed c = is_item_shape (shape_of c)
 
 -- an item that is held is a column wide at least
 abbrev kind_of_item : ℕ → Option ContainerKind

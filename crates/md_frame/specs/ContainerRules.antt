@@ -1,4 +1,4 @@
--- The interface of a container, as a block quote: what the frame knows of it.
+-- The interface of a container: what the frame knows of it.
 --
 -- A value says the same line three times: by what is left at its states, by the cells of the line, and by the rest of
 -- the line, as the line definition has it. Its laws (`ContainerLaws`) say that these fit.

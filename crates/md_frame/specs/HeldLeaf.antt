@@ -1,15 +1,14 @@
 -- The leaf that is open between two lines: what the frame asks of each kind.
 --
--- A kind that keeps more than its name between lines (the fence of fenced code, the kind of HTML) keeps it in
--- `HeldLeaf`; what it is by the line definition is said here. Whether containers may open in it, the registry says
--- (`shuts_out`); whether one that opens interrupts it, containers ask themselves (`is_interrupted` of `Interrupts`).
+-- A kind that keeps more than its name between lines keeps it in `HeldLeaf`; what it is by the line definition is said
+-- here. Whether containers may open in it, the registry says (`bars_containers`); whether one that opens interrupts it,
+-- containers ask themselves (`is_interrupted` of `Interrupts`).
 use Rattle.std.specs.Prelude.{◌≡◌, Bool, true, false, if◌then◌else◌}
 use Rattle.md_engine.specs.declared.tokenizer.held_leaf.HeldLeaf.{HeldLeaf}
 use Rattle.md_engine.specs.declared.tokenizer.held_leaf.HeldLeaf.TheVariants as held_leaf
 use Rattle.md_meaning.specs.Leaves.{LeafResult, Finished, Opened}
 use Rattle.md_meaning.specs.State.{Leaf, NoLeaf, OpenCode, OpenFence, OpenHtml, OpenTable}
 use Rattle.md_frame.specs.Leaf.Paragraph.{IsTextOr, held_or}
-use Rattle.md_frame.specs.OpenSpan.{IsOpenSpan}
 
 -- whether a line that starts no other leaf goes on it although not all containers went on (CommonMark 5.1, "laziness"):
 -- so it does on text, also where a lazy line meets it
@@ -25,26 +24,26 @@ has_lines (held_leaf.Text at) = false
 has_lines (held_leaf.LazyText at) = false
 has_lines leaf = true
 
--- whether a line may go on it where all containers went on: a leaf of several lines, and text, which an underline turns
+-- whether a line may go on it where all containers went on: a leaf of several lines, and text, which a line may turn
 abbrev pub may_go_on : HeldLeaf → Bool
 may_go_on held_leaf.None = false
 may_go_on (held_leaf.LazyText at) = false
 may_go_on leaf = true
 
--- a leaf as a lazy line meets it: text that the line is lazy for, if the leaf takes lazy lines, and none if not, since it
--- has ended with its containers
+-- a leaf as a lazy line meets it: text that the line is lazy for, if the leaf takes lazy lines, and none if not, since
+-- it has ended with its containers
 abbrev pub lazy_of : HeldLeaf → HeldLeaf
 lazy_of (held_leaf.Text at) = held_leaf.LazyText at
 lazy_of (held_leaf.LazyText at) = held_leaf.LazyText at
 lazy_of _ = held_leaf.None
 
--- what a line meets of a leaf, where no container opens: the leaf itself where all containers went on, and else the leaf
--- as a lazy line meets it
+-- what a line meets of a leaf, where no container opens: the leaf itself where all containers went on, and else the
+-- leaf as a lazy line meets it
 abbrev pub met_by : Bool → HeldLeaf → HeldLeaf
 met_by all leaf = if all then leaf else lazy_of leaf
 
--- the kind of an open leaf of the line definition, of one that is no text and of any: between two lines text is held as
--- `Text` alone
+-- The kind of an open leaf of the line definition, of one that is no text (a table of names) and of any: between two
+-- lines text is held as `Text` alone.
 abbrev pub kind_of_other : Leaf → HeldLeaf
 kind_of_other (OpenCode lines) = held_leaf.Code
 kind_of_other (OpenFence o lines) = held_leaf.Fence o.marker o.size o.indent
@@ -55,7 +54,7 @@ kind_of_other leaf = held_leaf.None
 abbrev pub kind_of_leaf : Leaf → HeldLeaf
 kind_of_leaf leaf = held_or kind_of_other leaf
 
--- the leaf that is open behind a line, by what the line definition came to with it
+-- the leaf that is open behind a line, by what the line definition has with it
 abbrev pub left_by : LeafResult → Leaf
 left_by (Opened leaf) = leaf
 left_by (Finished block) = NoLeaf
@@ -64,10 +63,10 @@ left_by (Finished block) = NoLeaf
 abbrev pub MatchesLeaf : HeldLeaf → Leaf → Type 0
 MatchesLeaf held leaf = held ≡ kind_of_leaf leaf
 
--- What may be open in what is built: nothing, a leaf of several lines, or a text.
-abbrev pub IsNoneOrSpan : Leaf → Type 0
-IsNoneOrSpan NoLeaf = Unit {0}
-IsNoneOrSpan leaf = IsOpenSpan leaf
+-- What may be open, where of the leaves that are no text these may: nothing, one of them, or a text.
+abbrev pub IsNoneOr : (Leaf → Type 0) → Leaf → Type 0
+IsNoneOr IsSpan NoLeaf = Unit {0}
+IsNoneOr IsSpan leaf = IsSpan leaf
 
-abbrev pub IsBuiltLeaf : Leaf → Type 0
-IsBuiltLeaf leaf = IsTextOr IsNoneOrSpan leaf
+abbrev pub IsNoneTextOr : (Leaf → Type 0) → Leaf → Type 0
+IsNoneTextOr IsSpan leaf = IsTextOr (IsNoneOr IsSpan) leaf

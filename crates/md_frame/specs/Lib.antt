@@ -6,7 +6,6 @@ pub mod ContainerRules
 pub mod Context
 pub mod EndingName
 pub mod HeldLeaf
-pub mod Joins
 pub mod Laid
 pub mod Leaf
 pub mod LeafName
@@ -14,11 +13,8 @@ pub mod LineColumns
 pub mod LineLeaf
 pub mod Linked
 pub mod MarkRuns
-pub mod OpenSpan
 pub mod Passed
 pub mod ReadsPlain
-pub mod Resolved
-pub mod Resolving
 pub mod RestLine
 pub mod Row
 pub mod Rule

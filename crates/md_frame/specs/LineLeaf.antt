@@ -1,9 +1,9 @@
--- The interface of a leaf that takes the rest of one line and is no text, as a heading: what the frame knows of it.
+-- The interface of a leaf that takes the rest of one line and is no text: what the frame knows of it.
 --
 -- A value says what its trial takes by the cells of a line, as its states do; what the line definition has of it, by
 -- the rest of the line; and which events it has, from its begin to its end, at three stages. The first two, and the
--- events as its states leave them, are said where the line meets a leaf (`met`), or none. Its laws (`LeafLaws`) say that
--- these fit.
+-- events as its states leave them, are said where the line meets a leaf (`met`), or none. Its laws (`LeafLaws`) say
+-- that these fit.
 use Rattle.std.specs.Prelude.{ℕ, Bool, List}
 use Rattle.md_engine.specs.declared.configuration.ParseOptions.{ParseOptions}
 use Rattle.md_engine.specs.declared.event.Event.{Event}
@@ -40,8 +40,8 @@ pub record LineLeaf : Type 0 where
   pub takes : ParseOptions → HeldLeaf → List Cell → Bool
   pub adds : ParseOptions → HeldLeaf → List Cell → Point → List Event
   pub keeps : ParseOptions → HeldLeaf → List Cell → Point → HeldLeaf
-  -- By the rest of a line, as the line definition has it: whether it starts there, what is held behind it, what the open
-  -- leaf comes to with it, and its block, if it always ends on its line.
+  -- By the rest of a line, as the line definition has it: whether it starts there, what is held behind it, what the
+  -- open leaf comes to with it, and its block, if it always ends on its line.
   pub starts : ParseOptions → HeldLeaf → Rest → Bool
   pub holds : ParseOptions → HeldLeaf → Rest → HeldLeaf
   pub comes : ParseOptions → Leaf → Rest → LeafResult

@@ -15,13 +15,10 @@ use Rattle.md_seam.specs.Events.Inline.{plain_chunk}
 use Rattle.md_seam.specs.Events.Places.{past_text}
 use Rattle.md_seam.specs.Events.Nested.{around, pair}
 use Rattle.md_meaning.specs.State.{Container}
-use Rattle.md_frame.specs.Laid.{Break, laid}
+use Rattle.md_frame.specs.Laid.{Break}
 use Rattle.md_frame.specs.EndingName.{ending_name}
-use Rattle.md_link_definitions.specs.DefinitionRule.{DefinitionParts, definition_events}
-use Rattle.md_tables.specs.GfmTableLine.{head_line}
-use Rattle.md_tables.specs.Tabled.{tabled}
 use Rattle.md_frame.specs.LeafName.{LeafName}
-use Rattle.md_frame.specs.TextLines.{turn_leaf}
+use Rattle.md_frame.specs.TurnLeaf.{TurnLeaf}
 use Rattle.md_frame.specs.Change.{Change}
 
 -- what the rest of a line is, behind the prefixes of its containers
@@ -64,8 +61,8 @@ ending_events name row = elim row.after [ None ↦ [] | Some q ↦ pair name row
 abbrev pub is_empty_row : Row → Bool
 is_empty_row row = row.first.index == row.end.index
 
--- whether a line is blank to its ending: so is a line of a leaf that stays blank, and one on which nothing at all
--- stands, no prefix either, as an empty one of fenced code; a line of text never is
+-- whether a line is blank to its ending: so is a line of a leaf that stays blank, and an empty one, without a prefix; a
+-- line of text never is
 abbrev pub is_blank_by : RowKind → Row → Bool
 is_blank_by BlankRow row = true
 is_blank_by (LeafRow l) row = row.empty
@@ -105,21 +102,13 @@ abbrev pub breaks_of : Row → List Row → List Break
 breaks_of row [] = []
 breaks_of row (next ∷ rows) = (record { after = behind_row row; front = next.front }) ∷ breaks_of next rows
 
--- a definition over these lines, and once its texts are read
-abbrev pub defined_unread : DefinitionParts → Row → List Row → List Event
-defined_unread d row rows = laid (breaks_of row rows) (definition_events d row.first)
-
 -- What a line turns these lines into: their text, the ending of the last, and that line behind the prefixes of its
 -- containers.
-abbrev pub turned_by : List Event → Row → List Row → Row → List Event
-turned_by text row rows under =
-    around turn_leaf.name row.first under.end
-    (around turn_leaf.text row.first (last_row row rows).end text
+abbrev pub turned_by : TurnLeaf → List Event → Row → List Row → Row → List Event
+turned_by turn text row rows under =
+    around turn.name row.first under.end
+    (around turn.text row.first (last_row row rows).end text
     ++ ending_events n.LineEnding (last_row row rows) ++ under.front ++ under.inside)
-
--- once they are read
-abbrev pub heading_done : List ℕ → Row → Row → List Row → List Event
-heading_done bytes under row rows = turned_by (read_lines bytes row rows) row rows under
 
 abbrev pub but_end : List Event → List Event
 but_end es = without_last es
@@ -154,14 +143,17 @@ end_by end es = if is_framed es then end_of es else end
 abbrev pub span_behind : (Row → List Event) → Row → List Row → List Event
 span_behind f row [] = []
 span_behind f row (next ∷ rows) =
-    ending_events (ending_of row.kind row) row ++ next.front ++ map (renamed Outside) (f next) ++ span_behind f next rows
+    ending_events (ending_of row.kind row) row ++ next.front ++ map (renamed Outside) (f next)
+    ++ span_behind f next rows
 
 -- behind the first line, where this is the end of the leaf so far
 abbrev pub span_rest : (Row → List Event) → List Event → Row → List Row → List Event
 span_rest f end row [] = end
 span_rest f end row (next ∷ rows) =
     if any_framed f (next ∷ rows)
-    then ending_events n.LineEnding row ++ next.front ++ inside_leaf (f next) ++ span_rest f (end_by end (f next)) next rows
+    then
+    ending_events n.LineEnding row ++ next.front ++ inside_leaf (f next)
+    ++ span_rest f (end_by end (f next)) next rows
     else end ++ span_behind f row (next ∷ rows)
 
 abbrev pub span_by : (Row → List Event) → Row → List Row → List Event
@@ -170,15 +162,3 @@ span_by f row rows = but_end (f row) ++ span_rest f (end_of (f row)) row rows
 -- once their text parts are read
 abbrev pub span_done : List ℕ → Row → List Row → List Event
 span_done bytes row rows = plain_read bytes (span_by (λ (r : Row). r.inside) row rows)
-
--- A line of text as a head: what its states leave of it, in the place of its text.
-abbrev pub headed_row : List ℕ → Row → Row
-headed_row bytes row = record row { inside = head_line (row_line bytes row) row.first }
-
--- with the line that takes it as its head, and those that go on that: joined, with what the last resolver puts in
-abbrev pub headed_unread : List ℕ → Row → Row → List Row → List Event
-headed_unread bytes row next rows = tabled (span_by (λ (r : Row). r.inside) (headed_row bytes row) (next ∷ rows))
-
--- once their text parts are read
-abbrev pub headed_done : List ℕ → Row → Row → List Row → List Event
-headed_done bytes row next rows = plain_read bytes (headed_unread bytes row next rows)

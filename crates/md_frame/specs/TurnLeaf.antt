@@ -1,5 +1,4 @@
--- The interface of what a line turns a text into, as an underline does: what the frame knows of it, beside the line
--- (`LineLeaf`).
+-- The interface of what a line turns a text into: what the frame knows of it, beside the line (`LineLeaf`).
 use Rattle.std.specs.Prelude.{ℕ, List}
 use Rattle.md_engine.specs.declared.event.Name.{Name}
 use Rattle.md_meaning.specs.Rest.{Rest}

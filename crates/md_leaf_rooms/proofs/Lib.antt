@@ -1,3 +1,4 @@
 pub mod HeadingAtx
 pub mod HeadingSetext
+pub mod MarkRuns
 pub mod ThematicBreak

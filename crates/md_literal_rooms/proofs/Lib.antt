@@ -4,3 +4,4 @@ pub mod FenceFurther
 pub mod FenceSpan
 pub mod HtmlFlow
 pub mod HtmlSpan
+pub mod IndentRemoved

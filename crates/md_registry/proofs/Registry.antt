@@ -17,15 +17,16 @@ use Rattle.md_meaning.specs.Containers.{Taken, opens, opens_footnote, opens_item
 use Rattle.md_meaning.specs.Rest.{Rest, indent}
 use Rattle.md_frame.specs.HeldLeaf.{has_lines}
 use Rattle.md_literal_rooms.specs.Leaf.CodeIndented.{is_code}
-use Rattle.md_frame.specs.OpenSpan.{is_fence}
+use Rattle.md_code.specs.Fence.{is_open as is_fence}
 use Rattle.md_frame.specs.LeafName.{CodeFurther, CodeIndented, Fence, FenceFurther, HeadingAtx, HeadingSetext, GfmTable}
 use Rattle.md_frame.specs.LeafName.{HtmlFlow, HtmlFurther, LeafName, ThematicBreak}
-use Rattle.md_frame.specs.Resolving.{is_own, resolved}
+use Rattle.md_registry.specs.Resolving.{resolved}
+use Rattle.md_frame.proofs.EventNames.{is_own}
 use Rattle.md_frame.specs.TextLines.{text_leaf}
 use Rattle.md_container_rooms.proofs.BlockQuote.Laws.{quote-laws}
 use Rattle.md_registry.proofs.BlockQuote.Plain.{quote-plain}
 use Rattle.md_frame.proofs.ContainerLaws.{ContainerLaws}
-use Rattle.md_frame.proofs.ContainerNames.{is_front}
+use Rattle.md_frame.proofs.EventNames.{is_front}
 use Rattle.md_literal_rooms.proofs.CodeIndented.Laws.{code-laws, code_further-laws}
 use Rattle.md_literal_rooms.proofs.Fence.Laws.{fence-laws}
 use Rattle.md_literal_rooms.proofs.FenceFurther.Laws.{fence_further-laws}
@@ -35,12 +36,12 @@ use Rattle.md_table_rooms.proofs.GfmTable.Laws.{table-laws}
 use Rattle.md_literal_rooms.proofs.HtmlFlow.Laws.{html-laws, html_further-laws}
 use Rattle.md_html.specs.Html.{is_html}
 use Rattle.md_leaf_rooms.proofs.HeadingAtx.Laws.{heading-laws}
-use Rattle.md_leaf_rooms.proofs.HeadingAtx.Outside.{front-heading}
+use Rattle.md_leaf_rooms.proofs.HeadingAtx.Outside.{front-heading, heading_resolver}
 use Rattle.md_leaf_rooms.proofs.HeadingSetext.Laws.{setext-laws}
 use Rattle.md_frame.proofs.LeafLaws.{LeafLaws}
 use Rattle.md_container_rooms.proofs.ListItem.Laws.{item-laws}
 use Rattle.md_registry.proofs.ListItem.Plain.{item-plain}
-use Rattle.md_frame.proofs.OutsideFacts.{AreOutside, resolved-outside}
+use Rattle.md_frame.proofs.OutsideFacts.{AreOutside}
 use Rattle.md_content_rooms.proofs.Paragraph.Laws.{paragraph-laws}
 use Rattle.md_registry.proofs.PlainLaws.{PlainLaws}
 use Rattle.md_frame.proofs.TextLaws.{TextLaws}
@@ -48,17 +49,17 @@ use Rattle.md_leaf_rooms.proofs.ThematicBreak.Laws.{break-laws}
 
 -- Leaves.
 
-pub laws : (l : LeafName) → LeafLaws (leaf l)
-laws CodeIndented = code-laws
-laws CodeFurther = code_further-laws
-laws Fence = fence-laws
-laws FenceFurther = fence_further-laws
-laws HtmlFlow = html-laws
-laws HtmlFurther = html_further-laws
+pub laws : (l : LeafName) → LeafLaws heading_resolver (leaf l)
+laws CodeIndented = code-laws heading_resolver
+laws CodeFurther = code_further-laws heading_resolver
+laws Fence = fence-laws heading_resolver
+laws FenceFurther = fence_further-laws heading_resolver
+laws HtmlFlow = html-laws heading_resolver
+laws HtmlFurther = html_further-laws heading_resolver
 laws HeadingAtx = heading-laws
-laws HeadingSetext = setext-laws
-laws ThematicBreak = break-laws
-laws GfmTable = table-laws
+laws HeadingSetext = setext-laws heading_resolver
+laws ThematicBreak = break-laws heading_resolver
+laws GfmTable = table-laws heading_resolver
 
 -- A leaf that is tried after others is asked whichever leaf is open.
 
@@ -144,7 +145,7 @@ text-laws = paragraph-laws
 
 -- it passes events in which no event of its own begins
 pub outside-passes : (xs ys : List Event) → AreOutside xs → resolved (xs ++ ys) ≡ xs ++ resolved ys
-outside-passes xs ys h = resolved-outside xs ys h
+outside-passes xs ys h = heading_resolver.passes xs ys h
 
 -- no such event is among the prefixes of a line
 pub front-own : (name : Name) → is_front name ≡ true → is_own name ≡ false

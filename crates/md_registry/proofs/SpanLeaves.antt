@@ -3,7 +3,8 @@
 use Rattle.std.proofs.Common.{◌≡◌, Bool, true, false, cond, ◌&&◌, ◌||◌, List, [], ◌∷◌, ◌++◌, refl, sym, ◌∙◌, ap, ℕ}
 use Rattle.std.specs.Option.{is_some}
 use Rattle.md_engine.specs.declared.tokenizer.held_leaf.HeldLeaf.TheVariants as held_leaf
-use Rattle.md_frame.specs.OpenSpan.{IsOpenSpan, is_fence}
+use Rattle.md_code.specs.Fence.{is_open as is_fence}
+use Rattle.md_registry.specs.OpenSpan.{IsOpenSpan}
 use Rattle.md_registry.specs.Registry.{asked_first, bars_containers, further_of, leaf}
 use Rattle.md_engine.specs.declared.tokenizer.held_leaf.HeldLeaf.{HeldLeaf}
 use Rattle.std.specs.Prelude.{Option, Some, None, nat_le, not}
@@ -14,7 +15,8 @@ use Rattle.md_meaning.specs.Rest.{Rest, indent, is_blank, line_of, lose}
 use Rattle.md_meaning.specs.State.{NoLeaf, OpenCode, OpenFence, OpenHtml, Opening, fence_block, without_trailing_blank}
 use Rattle.md_meaning.specs.Tree.{Break, Code, Html, Line}
 use Rattle.md_leaves.specs.HeadingSetext.{is_text}
-use Rattle.md_frame.specs.HeldLeaf.{IsBuiltLeaf, kind_of_leaf, left_by, takes_lazy}
+use Rattle.md_frame.specs.HeldLeaf.{kind_of_leaf, left_by, takes_lazy}
+use Rattle.md_registry.specs.OpenSpan.{IsBuiltLeaf}
 use Rattle.md_frame.specs.LineLeaf.{LineLeaf}
 use Rattle.md_literal_rooms.specs.Leaf.CodeIndented.{code_further, code_leaf, is_code}
 use Rattle.md_literal_rooms.specs.Leaf.Fence.{fence_leaf, opening_at}
@@ -23,7 +25,7 @@ use Rattle.md_table_rooms.specs.Leaf.GfmTable.{may_be_table}
 use Rattle.md_leaf_rooms.specs.Leaf.HeadingAtx.{heading_leaf}
 use Rattle.md_frame.specs.LeafName.{CodeFurther, CodeIndented, Fence, FenceFurther, HeadingAtx, HeadingSetext, GfmTable}
 use Rattle.md_frame.specs.LeafName.{HtmlFlow, HtmlFurther, LeafName, ThematicBreak}
-use Rattle.md_frame.specs.Resolving.{joins_lines}
+use Rattle.md_registry.specs.Resolving.{joins_lines}
 use Rattle.md_literal_rooms.proofs.CodeIndented.Cells.{code-rest}
 use Rattle.md_literal_rooms.proofs.CodeIndented.Found.{code-goes}
 use Rattle.md_literal_rooms.proofs.CodeIndented.Span.{code-span}

@@ -3,6 +3,8 @@ pub mod Document
 pub mod Flow
 pub mod FlowRule
 pub mod LineFlags
+pub mod OpenSpan
 pub mod Registry
+pub mod Resolving
 pub mod States
 pub mod Dispatch

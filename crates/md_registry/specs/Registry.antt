@@ -34,7 +34,7 @@ use Rattle.md_meaning.specs.Ascii.{asterisk, backtick, dollar, equals_sign, hash
 use Rattle.md_meaning.specs.State.{Container}
 use Rattle.md_code.specs.Code.{code_scheme, code_transition}
 use Rattle.md_code.specs.CodeRule.{code_behaves}
-use Rattle.md_code.specs.Fence.{fence_scheme, fence_transition}
+use Rattle.md_code.specs.Fence.{fence_scheme, fence_transition, is_open as is_fence}
 use Rattle.md_code.specs.FenceRule.{fence_behaves}
 use Rattle.md_html.specs.Html.{html_scheme, html_transition, is_html}
 use Rattle.md_html.specs.HtmlRule.{html_behaves}
@@ -47,23 +47,23 @@ use Rattle.md_container_rooms.specs.Containers.GfmFootnoteDefinition.{footnote_r
 use Rattle.md_container_rooms.specs.Containers.ListItem.{item_rules}
 use Rattle.md_literal_rooms.specs.Leaf.CodeIndented.{code_further, code_leaf, is_code}
 use Rattle.md_literal_rooms.specs.Leaf.Fence.{fence_leaf}
-use Rattle.md_frame.specs.OpenSpan.{is_fence}
 use Rattle.md_literal_rooms.specs.Leaf.FenceFurther.{fence_further}
 use Rattle.md_table_rooms.specs.Leaf.GfmTable.{table_leaf}
 use Rattle.md_leaf_rooms.specs.Leaf.HeadingAtx.{heading_leaf}
-use Rattle.md_leaf_rooms.specs.Leaf.HeadingSetext.{setext_leaf}
+use Rattle.md_leaf_rooms.specs.Leaf.HeadingSetext.{setext_leaf, setext_turn}
 use Rattle.md_literal_rooms.specs.Leaf.HtmlFlow.{html_further, html_leaf}
 use Rattle.md_leaf_rooms.specs.Leaf.ThematicBreak.{break_leaf}
 use Rattle.md_frame.specs.LineLeaf.{LineLeaf}
 use Rattle.md_frame.specs.Passed.{Passed}
+use Rattle.md_frame.specs.TurnLeaf.{TurnLeaf}
 use Rattle.md_frame.specs.LeafName.{CodeFurther, CodeIndented, Fence, FenceFurther, GfmTable, HeadingAtx}
 use Rattle.md_frame.specs.LeafName.{HeadingSetext, HtmlFlow, HtmlFurther, LeafName, ThematicBreak, behind_in}
 use Rattle.md_frame.specs.LeafName.{number}
 use Rattle.md_frame.specs.ContainerNames.{IsOf, container_kind, kind_number}
 
--- Leaves that take a line: of indented code, of fenced code and math, and of HTML, one takes the first line, and one each
--- further line. The underline of a setext heading takes a line that turns the text in front of it; one more leaf takes the
--- delimiter row of a table, which makes the line of text in front of it a head, and the rows of its body.
+-- Leaves that take a line: of indented code, of fenced code and math, and of HTML, one takes the first line, and one
+-- each further line. The underline of a setext heading takes a line that turns the text in front of it; one more leaf
+-- takes the delimiter row of a table, which makes the line of text in front of it a head, and the rows of its body.
 
 abbrev pub leaf : LeafName → LineLeaf
 leaf CodeIndented = code_leaf
@@ -81,8 +81,8 @@ leaf GfmTable = table_leaf
 abbrev pub trials : List LeafName
 trials = CodeIndented ∷ Fence ∷ HtmlFlow ∷ HeadingAtx ∷ HeadingSetext ∷ ThematicBreak ∷ GfmTable ∷ []
 
--- The row of a byte that is neither whitespace nor an ending: the leaves that are tried, in order, where it comes first on
--- the rest of a line, and behind them content. Where whitespace comes first all of them are tried.
+-- The row of a byte that is neither whitespace nor an ending: the leaves that are tried, in order, where it comes first
+-- on the rest of a line, and behind them content. Where whitespace comes first all of them are tried.
 unfoldable pub row : ℕ → List LeafName
 row b =
     if b == hash then HeadingAtx ∷ GfmTable ∷ []
@@ -156,9 +156,9 @@ rank_of l = ranked (weight l) (low_weight l).0
 abbrev pub tries_of : LeafName → Rank
 tries_of l = ranked (suc (weight l)) (low_weight l).1
 
--- Lines of text.
-
--- Containers: those of the line definition, built or not, and what the events tell of one.
+-- What a line turns lines of text into.
+abbrev pub turn_leaf : TurnLeaf
+turn_leaf = setext_turn
 
 -- Containers that are built, by the kind as which the tokenizer holds them.
 

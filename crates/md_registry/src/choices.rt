@@ -14,7 +14,8 @@ ghost use Rattle.md_engine.specs.World.{World, container_of, world};
 ghost use Rattle.md_engine.specs.declared.state.Name.{Name as StateName};
 ghost use Rattle.md_engine.specs.declared.state.flow.State.{State as FlowState};
 ghost use Rattle.md_registry.specs.LineFlags.{asking};
-ghost use Rattle.md_frame.specs.Resolving.{heads_read, joins_lines};
+ghost use Rattle.md_registry.specs.Resolving.{joins_lines};
+ghost use Rattle.md_table_rooms.specs.Headed.{heads_read};
 ghost use Rattle.md_registry.specs.Registry.{bars_containers};
 ghost use Rattle.md_registry.specs.Registry.{goes_on_with, asked_first, leaf};
 ghost use Rattle.md_registry.specs.AtOnce.{HasPrefix, all_asked, content_alone, is_common, opens_none, prefix_taken};
@@ -452,7 +453,7 @@ pub fn goes_on_with(kind: ContainerKind) -> StateName
 
 /// Whether a leaf of several lines may be on, so that its lines are joined.
 #[inline(always)]
-#[tactic(auto, unfolding(md_frame::specs::Resolving::joins_lines))]
+#[tactic(auto, unfolding(crate::specs::Resolving::joins_lines))]
 pub fn joins_lines(options: &ParseOptions) -> bool
     ensures { result ≡ joins_lines options.now }
 {
@@ -471,7 +472,9 @@ pub fn read_heads(tokenizer: &mut Tokenizer) -> Result<(), Message>
     ensures { OnOk result
         (world tokenizer.new ≡
         record (world tokenizer.old) {
-          events = heads_read (world tokenizer.old).setting.options (world tokenizer.old).setting.bytes (world tokenizer.old).events;
+          events =
+              heads_read (world tokenizer.old).setting.options (world tokenizer.old).setting.bytes
+              (world tokenizer.old).events;
         }) }
 {
     if tokenizer.options.constructs.gfm_table {

@@ -12,8 +12,9 @@ use Rattle.md_order.specs.Alone.{HoldNoBlock, Nothing}
 use Rattle.md_seam.specs.Events.Nested.{pair}
 use Rattle.md_frame.specs.Change.{ends_of}
 use Rattle.md_frame.specs.EndingName.{ending_name}
-use Rattle.md_frame.specs.Joins.{lines_joined}
-use Rattle.md_frame.specs.Row.{Row, blank_line, ending_events, ending_of, headed_row, is_blank_by, last_row, span_by}
+use Rattle.md_registry.specs.Resolving.{lines_joined}
+use Rattle.md_frame.specs.Row.{Row, blank_line, ending_events, ending_of, is_blank_by, last_row, span_by}
+use Rattle.md_table_rooms.specs.Headed.{headed_row}
 use Rattle.md_frame.specs.TextLines.{text_leaf}
 use Rattle.md_frame.specs.UnreadText.{linked_lines}
 use Rattle.md_rows.specs.BlockList.{lines_unread, text_unread, unread_lines}

@@ -15,7 +15,7 @@ use Rattle.md_frame.specs.ContainerNames.{container_kind, shape_of}
 use Rattle.md_rows.specs.Fronted.{Prefixed, contained, no_prefix, one_more, prefixes_behind, prefixes_on}
 use Rattle.md_frame.specs.Row.{RowKind}
 use Rattle.md_rows.specs.Rows.{is_lazy, is_text, line_kind}
-use Rattle.md_frame.proofs.ContainerNames.{continues-kind, continues-shape}
+use Rattle.md_container_rooms.proofs.Continued.{continues-kind, continues-shape}
 
 -- What a container keeps while it is open: what its events tell of it, and its kind.
 
@@ -51,7 +51,9 @@ contained-same : {A : Type 0} (f : Container → A) (options : ParseOptions) →
     (cs : List Container) (still : HeldLeaf) (r : Rest) →
     map f ((contained options cs still r).change.stays ++ (contained options cs still r).change.closes) ≡ map f cs
 unfolding contained
-contained-same f options keeps cs still r = go (is_lazy still new.containers (line_kind options (against still (others_of cs on.containers) new.containers) new.rest))
+contained-same f options keeps cs still r =
+    go (is_lazy still new.containers (line_kind options
+    (against still (others_of cs on.containers) new.containers) new.rest))
   where
     on : Prefixed
     on = prefixes_on options cs r

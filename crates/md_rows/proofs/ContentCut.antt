@@ -16,7 +16,8 @@ use Rattle.md_content.specs.ContentRule.{behind_definition, content_by, content_
 use Rattle.md_content.specs.Paragraph.{text_link}
 use Rattle.md_content.specs.ParagraphRule.{paragraph_over}
 use Rattle.md_content.proofs.ContentRuleLemmas.{content-unfolds}
-use Rattle.md_link_definitions.specs.DefinitionRule.{DefinitionParts, definition_end, definition_events, definition_parts}
+use Rattle.md_link_definitions.specs.DefinitionRule.{DefinitionParts, definition_end, definition_events}
+use Rattle.md_link_definitions.specs.DefinitionRule.{definition_parts}
 use Rattle.md_seam.specs.declared.inline.Chunk.{Chunk}
 use Rattle.md_seam.specs.Events.Nested.{around, enter, exit, pair}
 use Rattle.md_seam.specs.Substituted.{belongs}
@@ -24,7 +25,8 @@ use Rattle.md_rows.specs.BlockList.{lines_unread, text_unread}
 use Rattle.md_frame.specs.Laid.{Break, laid}
 use Rattle.md_frame.specs.Row.{Row, behind_row, breaks_of, chunks_of}
 use Rattle.md_rows.specs.Rows.{behind_cut, cut_at_most, cut_by}
-use Rattle.md_frame.specs.Row.{defined_unread, ending_events, last_row}
+use Rattle.md_frame.specs.Row.{ending_events, last_row}
+use Rattle.md_content_rooms.specs.Defined.{defined_unread}
 use Rattle.md_rows.specs.Rows.{further_lines, lines_cells}
 use Rattle.md_frame.specs.Linked.{linked}
 use Rattle.md_rows.proofs.Defined.Cells.{world-first}
@@ -172,7 +174,8 @@ pub last-split : (row : Row) (own : List Row) (next : Row) (more : List Row) →
 last-split row [] next more = refl
 last-split row (x ∷ own) next more = last-split x own next more
 
-pub lines-split : (options : ParseOptions) (bytes : List ℕ) (row : Row) (own : List Row) (next : Row) (more : List Row) →
+pub lines-split : (options : ParseOptions) (bytes : List ℕ) (row : Row) (own : List Row) (next : Row)
+    (more : List Row) →
     AreLines options bytes row (own ++ next ∷ more) → AreLines options bytes (last_row row own) (next ∷ more)
 lines-split options bytes row [] next more h = h
 lines-split options bytes row (x ∷ own) next more h = lines-split options bytes x own next more h.7
@@ -182,7 +185,8 @@ bared-split [] cs = refl
 bared-split (b ∷ bs) cs = ap (λ (l : List Break). (record { after = b.after; front = [] }) ∷ l) (bared-split bs cs)
 
 -- a line begins in front of its break, and in front of the end of all
-first-before : (options : ParseOptions) (bytes : List ℕ) (row : Row) (rows : List Row) → AreLines options bytes row rows →
+first-before : (options : ParseOptions) (bytes : List ℕ) (row : Row) (rows : List Row) →
+    AreLines options bytes row rows →
     Before row.first (breaks_of row rows) × (row.first.index < (last_row row rows).end.index)
 first-before options bytes row [] h = (tt, line-grows options bytes h.0 row h.1 h.2)
 first-before options bytes row (next ∷ rows) h =
@@ -310,7 +314,8 @@ behind : (options : ParseOptions) (bytes : List ℕ) (more : Row → List Row �
     IsSet (last_row row (own ++ rest)).end d row own →
     ((next : Row) (below : List Row) → length below < length rest → AreLines options bytes next below →
     Reads next below (content_over options (lines_cells options bytes next below) next.first) (more next below)) →
-    Reads row (own ++ rest) (content_by (Some d) (content_over options) (lines_cells options bytes row (own ++ rest)) row.first)
+    Reads row (own ++ rest) (content_by (Some d) (content_over options)
+    (lines_cells options bytes row (own ++ rest)) row.first)
     (defined_unread d row own ++ behind_cut more (last_row row own) rest)
 behind options bytes more row own [] d h rest end set further =
     let all : own ++ [] ≡ own = append-nil own in
@@ -340,7 +345,8 @@ content-is : (options : ParseOptions) (bytes : List ℕ) → length bytes < 2 ^ 
     (cut_at_most defined_unread lines_unread options bytes n row rows)
 content-is options bytes small zero row rows h lt = absurd (omega (arith, lt))
 content-is options bytes small (suc most) row rows h lt =
-    subst (λ (l : List Event). Reads row rows l (cut_at_most defined_unread lines_unread options bytes (suc most) row rows))
+    subst (λ (l : List Event). Reads row rows l
+    (cut_at_most defined_unread lines_unread options bytes (suc most) row rows))
     (sym (content-unfolds options cells row.first))
     (go (definition_in options cells) refl
     (λ next below shorter lines. content-is options bytes small most next below lines shorter))

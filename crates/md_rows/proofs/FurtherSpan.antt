@@ -1,5 +1,5 @@
--- What the frame knows of a leaf of several lines that is open between two lines: a line of it is tried first or, as a row
--- of a table, last.
+-- What the frame knows of a leaf of several lines that is open between two lines: a line of it is tried first or, as a
+-- row of a table, last.
 use Rattle.std.proofs.Common.{◌≡◌, ℕ, Bool, true, false, cond, ◌&&◌, ◌||◌, List, [], ◌∷◌, refl, ap, ◌∙◌}
 use Rattle.std.specs.Prelude.{not, Option, Some, None}
 use Rattle.std.specs.Option.{is_some}
@@ -13,10 +13,11 @@ use Rattle.md_meaning.specs.Step.{is_concrete}
 use Rattle.md_meaning.specs.Tree.{Blocks, Table}
 use Rattle.md_leaves.specs.HeadingSetext.{is_text}
 use Rattle.md_outline.specs.HeadingDepths.{are_shallow}
-use Rattle.md_frame.specs.HeldLeaf.{IsBuiltLeaf, has_lines, kind_of_leaf, left_by}
+use Rattle.md_frame.specs.HeldLeaf.{has_lines, kind_of_leaf, left_by}
+use Rattle.md_registry.specs.OpenSpan.{IsBuiltLeaf}
 use Rattle.md_table_rooms.specs.Leaf.GfmTable.{table_leaf}
 use Rattle.md_frame.specs.LeafName.{GfmTable, LeafName, first_of}
-use Rattle.md_frame.specs.OpenSpan.{IsOpenSpan}
+use Rattle.md_registry.specs.OpenSpan.{IsOpenSpan}
 use Rattle.md_registry.specs.Registry.{further_of, asked_first, leaf, bars_containers}
 use Rattle.md_frame.specs.Row.{BlankRow, LeafRow, RowKind}
 use Rattle.md_rows.specs.Rows.{inside_or, is_further, kind_of, line_kind}
@@ -103,7 +104,8 @@ asked-further open_leaf is = record {
   kind = λ options r.
       ap
       (λ (o : Option LeafName).
-      inside_or (λ l. (leaf l).starts options on r) o (cond (is_blank r.bytes) BlankRow (kind_of (leaf_at options on r))))
+      inside_or (λ l. (leaf l).starts options on r) o
+      (cond (is_blank r.bytes) BlankRow (kind_of (leaf_at options on r))))
       is.asked
       ∙ ap
       (λ (o : Option LeafName).

@@ -36,7 +36,8 @@ use Rattle.md_frame.specs.Row.{behind_row, chunks_of, ending_events, ending_of}
 use Rattle.md_frame.specs.Row.{last_row}
 use Rattle.md_rows.specs.Rows.{groups, kind_of}
 use Rattle.md_rows.specs.Rows.{line_kind, row_events}
-use Rattle.md_frame.specs.Row.{headed_row, row_line}
+use Rattle.md_frame.specs.Row.{row_line}
+use Rattle.md_table_rooms.specs.Headed.{headed_row}
 use Rattle.md_rows.specs.Rows.{rows_events, tail_events}
 use Rattle.md_meaning.specs.Rest.{cut_tab}
 use Rattle.md_frame.specs.Linked.{linked}

@@ -10,8 +10,10 @@ use Rattle.md_content.specs.Paragraph.{text_link}
 use Rattle.md_leaves.specs.Spanned.{is_code_line}
 use Rattle.md_meaning.specs.State.{Container}
 use Rattle.md_seam.specs.Events.Nested.{is_enter}
-use Rattle.md_frame.specs.Resolving.{is_own, resolved}
-use Rattle.md_frame.specs.Row.{BlankRow, LeafRow, Row, RowKind, TextRow, blank_line, ending_of, headed_row, is_blank_by}
+use Rattle.md_registry.specs.Resolving.{resolved}
+use Rattle.md_frame.proofs.EventNames.{is_own}
+use Rattle.md_frame.specs.Row.{BlankRow, LeafRow, Row, RowKind, TextRow, blank_line, ending_of, is_blank_by}
+use Rattle.md_table_rooms.specs.Headed.{headed_row}
 use Rattle.md_frame.specs.Row.{last_row, span_by}
 use Rattle.md_frame.specs.TextLines.{text_leaf}
 use Rattle.md_registry.specs.Registry.{leaf as line_leaf}

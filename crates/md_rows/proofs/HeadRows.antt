@@ -1,6 +1,6 @@
 -- The lines of a text, with each line of text that is the head of a table read again: it is the first line of that
--- table, and those that go on it are further ones. So the groups are as before, but each head and its lines are those of
--- one leaf.
+-- table, and those that go on it are further ones. So the groups are as before, but each head and its lines are those
+-- of one leaf.
 use Rattle.std.proofs.Common.{◌≡◌, ℕ, Bool, true, false, cond, ◌&&◌, List, [], ◌∷◌, ◌++◌, refl, ap, sym, ◌∙◌}
 use Rattle.std.specs.Prelude.{Some}
 use Rattle.std.proofs.lemmas.Bool.{and_parts}
@@ -11,7 +11,7 @@ use Rattle.md_frame.specs.LeafName.{GfmTable, LeafName}
 use Rattle.md_registry.specs.Registry.{leaf}
 use Rattle.md_frame.specs.Row.{BlankRow, LeafRow, Row, RowKind, TextRow}
 use Rattle.md_rows.specs.Rows.{Group, Headed, Lines, Single, LeafLines}
-use Rattle.md_frame.specs.Row.{headed_row}
+use Rattle.md_table_rooms.specs.Headed.{headed_row}
 use Rattle.md_rows.specs.Rows.{Turned, goes_on, groups, is_further, is_last, is_text, onto_groups}
 use Rattle.md_frame.specs.Row.{row_line}
 use Rattle.md_rows.specs.Rows.{onto_leaf, onto_span, onto_underline, takes_head}
@@ -115,7 +115,8 @@ leaf-spans bytes false row (Headed below next rows ∷ gs) = refl
 leaf-spans bytes false row (LeafLines below rows ∷ gs) = go (is_further below.kind below.on)
   where
     go : (x : Bool) →
-        cond x (LeafLines row (below ∷ rows) ∷ as_spans bytes gs) (LeafLines row [] ∷ LeafLines below rows ∷ as_spans bytes gs) ≡
+        cond x (LeafLines row (below ∷ rows) ∷ as_spans bytes gs)
+        (LeafLines row [] ∷ LeafLines below rows ∷ as_spans bytes gs) ≡
         as_spans bytes (cond x (LeafLines row (below ∷ rows) ∷ gs) (LeafLines row [] ∷ LeafLines below rows ∷ gs))
     go true = refl
     go false = refl
@@ -148,7 +149,8 @@ text-spans bytes row (LeafLines below rows ∷ gs) none =
   where
     to : Bool → Bool → List Group → List Group
     to x y gs =
-        cond x (Headed row below rows ∷ gs) (cond y (Turned row [] below ∷ gs) (Lines row [] ∷ LeafLines below rows ∷ gs))
+        cond x (Headed row below rows ∷ gs) (cond y (Turned row [] below ∷ gs)
+        (Lines row [] ∷ LeafLines below rows ∷ gs))
 
     go : (y : Bool) → to false y (as_spans bytes gs) ≡ as_spans bytes (to false y gs)
     go true = refl
@@ -190,7 +192,8 @@ head-spans bytes row below gs heads = go gs
     go (LeafLines first rows ∷ gs) = by (is_further first.kind first.on)
       where
         by : (x : Bool) →
-            let all : List Group = cond x (LeafLines below (first ∷ rows) ∷ gs) (LeafLines below [] ∷ LeafLines first rows ∷ gs) in
+            let all : List Group = cond x (LeafLines below (first ∷ rows) ∷ gs)
+            (LeafLines below [] ∷ LeafLines first rows ∷ gs) in
             onto_span (as_table bytes row) (as_spans bytes all) ≡ as_spans bytes (onto_groups row TextRow all)
         by true = one (first ∷ rows) gs
         by false = one [] (LeafLines first rows ∷ gs)

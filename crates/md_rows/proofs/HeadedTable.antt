@@ -15,9 +15,10 @@ use Rattle.md_link_definitions.specs.OpenText.{open_text}
 use Rattle.md_link_definitions.specs.Progress.{progress_of, step}
 use Rattle.md_table_rooms.specs.Leaf.GfmTable.{may_be_table, table_leaf}
 use Rattle.md_frame.specs.LeafName.{GfmTable, LeafName}
-use Rattle.md_frame.specs.Resolving.{joins_lines}
+use Rattle.md_registry.specs.Resolving.{joins_lines}
 use Rattle.md_registry.specs.Registry.{further_of, asked_first, leaf}
-use Rattle.md_frame.specs.Row.{LeafRow, Row, RowKind, headed_done, headed_unread}
+use Rattle.md_frame.specs.Row.{LeafRow, Row, RowKind}
+use Rattle.md_table_rooms.specs.Headed.{headed_done, headed_unread}
 use Rattle.md_rows.specs.Rows.{Headed}
 use Rattle.md_frame.specs.Row.{is_blank_by, last_row}
 use Rattle.md_rows.specs.Rows.{is_blank_group, line_behind}

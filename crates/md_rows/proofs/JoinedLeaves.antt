@@ -15,7 +15,8 @@ use Rattle.md_frame.specs.LeafName as registry
 use Rattle.md_frame.specs.LeafName.{LeafName}
 use Rattle.md_table_rooms.specs.Leaf.GfmTable.{table_leaf}
 use Rattle.md_registry.specs.Registry.{further_of, leaf}
-use Rattle.md_frame.specs.Row.{Row, headed_row, row_line, span_by}
+use Rattle.md_frame.specs.Row.{Row, row_line, span_by}
+use Rattle.md_table_rooms.specs.Headed.{headed_row}
 use Rattle.md_frame.proofs.EachEvent.{Each, each-as}
 use Rattle.md_frame.proofs.FrontNames.{fronts-prefixes}
 use Rattle.md_frame.proofs.LinedFacts.{AreLined, IsLined, prefixes-lined}
@@ -37,7 +38,8 @@ pub record AreOfLeaf (options : ParseOptions) (bytes : List ℕ) (row : Row) (ro
   pub first : (leaf name).further row.on ≡ false
   pub behind : AreBehind options bytes (leaf (further_of name)) row rows
 
-pub span-leaf : (options : ParseOptions) (bytes : List ℕ) (row : Row) (rows : List Row) → AreSpan options bytes row rows →
+pub span-leaf : (options : ParseOptions) (bytes : List ℕ) (row : Row) (rows : List Row) →
+    AreSpan options bytes row rows →
     Begins row → AreOfLeaf options bytes row rows
 span-leaf options bytes row rows are begins =
     let is : IsSpanLine options bytes row = span-begins options bytes row rows are in

@@ -39,13 +39,15 @@ use Rattle.md_frame.specs.Row.{LeafRow}
 use Rattle.md_rows.specs.Rows.{row_kind, rows_at, rows_by, rows_events, tail_events}
 use Rattle.md_rows.specs.Unread.{joined_groups}
 use Rattle.md_frame.specs.UnreadText.{linked_lines}
-use Rattle.md_frame.proofs.FrontNames.{HasFront, ends-first, front-content, fronts-are}
+use Rattle.md_frame.proofs.FrontNames.{HasFront, ends-first, fronts-are}
+use Rattle.md_frame.proofs.EventNames.{front-content}
 use Rattle.md_frame.proofs.FrontNames.{fronts-prefixes, fronts-stop, prefixes-content}
 use Rattle.md_frame.proofs.LeafLines.Cuts.{ending-is}
 use Rattle.md_registry.proofs.Registry.{laws}
 use Rattle.md_rows.proofs.TextGroups.{HeadsNone, NoHeads, groups-unheaded, onto_text}
 use Rattle.md_rows.proofs.TextGroups.{lines-first, text-onto, text_group}
-use Rattle.md_frame.proofs.ContentFacts.{NoContent, WantsContent, is_told, no_content-append, nothing, nothing-wanted, told-content}
+use Rattle.md_frame.proofs.ContentFacts.{NoContent, WantsContent, no_content-append, nothing, nothing-wanted}
+use Rattle.md_frame.proofs.EventNames.{is_told, told-content}
 use Rattle.md_frame.proofs.PrefixNames.{AreFront, is_alone, is_string}
 use Rattle.md_frame.proofs.ContainerNames.{container-facts, end-stops}
 use Rattle.md_frame.specs.ContainerNames.{container_name}
@@ -267,7 +269,8 @@ text-ends row es h =
 tail-stops : (row : Row) (es : List Event) (q : Point) → row.after ≡ Some q →
     (is_none row.closed_after && content_behind es) ≡ false → goes_on (tail_events n.LineEnding row ++ es) ≡ false
 tail-stops row es q after h =
-    ap (λ (l : List Event). goes_on ((ends_of row.closed_after row.end ++ l) ++ es)) (ending-is n.LineEnding row q after)
+    ap (λ (l : List Event). goes_on ((ends_of row.closed_after row.end ++ l) ++ es))
+    (ending-is n.LineEnding row q after)
     ∙ go row.closed_after h
   where
     ending : List Event
@@ -348,7 +351,8 @@ other-behind bytes row rows ends front h kind e other =
         content_behind ((row.inside ++ tail_events (ending_of kind row) row) ++ rows_events rows) ≡ false
     inside kind =
         ap content_behind (append_assoc row.inside (tail_events (ending_of kind row) row) (rows_events rows))
-        ∙ behind-passes row.inside (tail_events (ending_of kind row) row ++ rows_events rows) h (tail kind row.closed_after)
+        ∙ behind-passes row.inside (tail_events (ending_of kind row) row ++ rows_events rows) h
+        (tail kind row.closed_after)
 
     go : (kind : RowKind) → kind ≢ TextRow →
         content_behind ((leaf_events kind row ++ tail_events (ending_of kind row) row) ++ rows_events rows) ≡ false
@@ -440,7 +444,8 @@ text-lines bytes o row below more rows gs q after front under text same =
         (tail_events n.LineEnding (last_row below more)) behind begin (exit n.Content (behind_row row))
         ∙ sym (group-text bytes o row (below ∷ more) gs)
 
-    chosen : (leaves : List Container) → row.closed_after ≡ leaves → (opens : List Container) → below.change.opens ≡ opens →
+    chosen : (leaves : List Container) → row.closed_after ≡ leaves → (opens : List Container) →
+        below.change.opens ≡ opens →
         joined_groups bytes (onto_text o row below more gs) ≡
         joined_groups bytes (goes (is_none leaves && is_none opens))
     chosen leaves e opens k =
@@ -474,10 +479,12 @@ leaf-joined bytes false row (Headed below next rows ∷ gs) =
 leaf-joined bytes false row (LeafLines below rows ∷ gs) = go (is_further below.kind below.on)
   where
     go : (x : Bool) →
-        joined_groups bytes (cond x (LeafLines row (below ∷ rows) ∷ gs) (LeafLines row [] ∷ LeafLines below rows ∷ gs)) ≡
+        joined_groups bytes (cond x (LeafLines row (below ∷ rows) ∷ gs)
+        (LeafLines row [] ∷ LeafLines below rows ∷ gs)) ≡
         row_events row ++ joined_groups bytes (LeafLines below rows ∷ gs)
     go true = append_assoc (row_events row) (rows_events (below ∷ rows)) (joined_groups bytes gs)
-    go false = ap (λ (l : List Event). l ++ joined_groups bytes (LeafLines below rows ∷ gs)) (append-nil (row_events row))
+    go false =
+        ap (λ (l : List Event). l ++ joined_groups bytes (LeafLines below rows ∷ gs)) (append-nil (row_events row))
 
 -- a line of text in front of the lines of a leaf, of which the first may be its underline
 span-first : (bytes : List ℕ) (row below : Row) (rows : List Row) (gs : List Group) →
@@ -606,7 +613,8 @@ joined-rows bytes (row ∷ []) fronts ends h none = go row.kind refl
         (events-no_content nothing row kind e apart (has_front-no_content nothing nothing-wanted bytes row fronts.0)
         (h.0 nothing nothing-wanted)) refl
 
-    go : (kind : RowKind) → row.kind ≡ kind → joined (row_events row ++ []) ≡ joined_groups bytes (onto_groups row kind [])
+    go : (kind : RowKind) → row.kind ≡ kind →
+        joined (row_events row ++ []) ≡ joined_groups bytes (onto_groups row kind [])
     go BlankRow e = other BlankRow e (λ k. cc)
     go (LeafRow l) e = other (LeafRow l) e (λ k. cc) ∙ sym (leaf-joined bytes (leaf l).ends row [])
     go TextRow e = ap (λ (kind : RowKind). joined (row_events_by kind row ++ [])) e ∙ text-last bytes row fronts.0

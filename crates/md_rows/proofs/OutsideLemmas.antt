@@ -11,7 +11,8 @@ use Rattle.md_seam.specs.Events.Nested.{pair, is_enter}
 use Rattle.md_frame.specs.EndingName.{ending_name}
 use Rattle.md_frame.proofs.EachEvent.{each-as}
 use Rattle.md_frame.specs.Change.{ends_of}
-use Rattle.md_frame.specs.Resolving.{is_own, resolved}
+use Rattle.md_registry.specs.Resolving.{resolved}
+use Rattle.md_frame.proofs.EventNames.{is_own}
 use Rattle.md_frame.specs.Row.{Row, ending_events}
 use Rattle.md_rows.specs.Rows.{tail_events}
 use Rattle.md_frame.specs.UnreadText.{linked_lines}

@@ -8,11 +8,12 @@ use Rattle.md_engine.specs.declared.tokenizer.held_leaf.HeldLeaf.{HeldLeaf}
 use Rattle.md_meaning.specs.State.{Container}
 use Rattle.md_leaves.specs.Spanned.{goes_on, spanned}
 use Rattle.md_leaves.proofs.SpannedLines.{IsBegin}
-use Rattle.md_frame.specs.Joins.{lines_joined}
+use Rattle.md_registry.specs.Resolving.{lines_joined}
 use Rattle.md_frame.specs.EndingName.{ending_name}
 use Rattle.md_frame.specs.LeafName.{GfmTable}
-use Rattle.md_frame.specs.Resolving.{joins_lines}
-use Rattle.md_frame.specs.Row.{Row, RowKind, TextRow, ending_of, headed_row, last_row, row_line, span_by}
+use Rattle.md_registry.specs.Resolving.{joins_lines}
+use Rattle.md_frame.specs.Row.{Row, RowKind, TextRow, ending_of, last_row, row_line, span_by}
+use Rattle.md_table_rooms.specs.Headed.{headed_row}
 use Rattle.md_rows.specs.Rows.{Group, Headed, LeafLines, Lines, Single, Turned, groups, rows_events, tail_events}
 use Rattle.md_rows.specs.BlockList.{tabled_group}
 use Rattle.md_rows.specs.Unread.{headed_lines, spanned_group, spanned_groups, unread_group, unread_groups}
@@ -152,7 +153,8 @@ groups-joined options bytes (Headed row next rows ∷ gs) are =
 groups-joined options bytes (LeafLines row rows ∷ gs) are =
     span-joined options bytes row rows (unread_groups options bytes gs) are.0 are.4
     (groups-ahead options bytes gs are.2)
-    ∙ ap (λ (l : List Event). tabled_group options bytes (LeafLines row rows) ++ l) (groups-joined options bytes gs are.2)
+    ∙ ap (λ (l : List Event). tabled_group options bytes (LeafLines row rows) ++ l)
+    (groups-joined options bytes gs are.2)
 
 -- where none is read there is nothing to join
 groups-apart : (options : ParseOptions) (bytes : List ℕ) (gs : List Group) → joins_lines options ≡ false →

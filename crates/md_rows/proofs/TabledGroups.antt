@@ -11,14 +11,16 @@ use Rattle.md_leaves.specs.Turned.{turned}
 use Rattle.md_tables.specs.Tabled.{tabled}
 use Rattle.md_tables.proofs.TabledLines.{AreFree, AreUntabled, free-untabled, tabled-passes, untabled-append}
 use Rattle.md_frame.specs.EndingName.{ending_name}
-use Rattle.md_frame.specs.Joins.{lines_joined}
-use Rattle.md_frame.specs.Resolving.{resolved}
-use Rattle.md_frame.specs.Row.{Row, ending_of, headed_row, headed_unread, last_row, span_by}
+use Rattle.md_registry.specs.Resolving.{lines_joined}
+use Rattle.md_registry.specs.Resolving.{resolved}
+use Rattle.md_frame.specs.Row.{Row, ending_of, last_row, span_by}
+use Rattle.md_table_rooms.specs.Headed.{headed_row, headed_unread}
 use Rattle.md_rows.specs.BlockList.{tabled_group, tabled_groups}
 use Rattle.md_rows.specs.Rows.{Group, Headed, LeafLines, Lines, Single, Turned, groups, tail_events}
 use Rattle.md_rows.specs.Unread.{spanned_group, turned_groups, unread_groups}
 use Rattle.md_frame.proofs.FrontNames.{HasFront}
-use Rattle.md_frame.proofs.LinedFacts.{AreLined, lined-free, lined-gaps}
+use Rattle.md_frame.proofs.LinedFacts.{AreLined, lined-gaps}
+use Rattle.md_table_rooms.proofs.GfmTable.TableUnread.{lined-free}
 use Rattle.md_frame.proofs.SpannedFacts.{AreUnspanned}
 use Rattle.md_container_rooms.proofs.GroupedBlocks.{no-table}
 use Rattle.md_table_rooms.proofs.GfmTable.TableUnread.{table-apart}
@@ -88,7 +90,8 @@ groups-tabled : (options : ParseOptions) (bytes : List ℕ) (gs : List Group) �
 groups-tabled options bytes [] are = refl
 groups-tabled options bytes (Single row ∷ gs) are =
     tabled-passes (tabled_group options bytes (Single row)) (turned_groups options bytes gs)
-    (unspanned-untabled (tabled_group options bytes (Single row)) (single-unspanned options bytes row are.0 row.kind refl))
+    (unspanned-untabled (tabled_group options bytes (Single row))
+    (single-unspanned options bytes row are.0 row.kind refl))
     ∙ ap (λ (l : List Event). tabled_group options bytes (Single row) ++ l) (groups-tabled options bytes gs are.1)
 groups-tabled options bytes (Lines row rows ∷ gs) are =
     tabled-passes (tabled_group options bytes (Lines row rows)) (turned_groups options bytes gs)
@@ -108,7 +111,8 @@ groups-tabled options bytes (Headed row next rows ∷ gs) are =
 groups-tabled options bytes (LeafLines row rows ∷ gs) are =
     tabled-passes (tabled_group options bytes (LeafLines row rows)) (turned_groups options bytes gs)
     (span-passes options bytes row rows are.0 are.4)
-    ∙ ap (λ (l : List Event). tabled_group options bytes (LeafLines row rows) ++ l) (groups-tabled options bytes gs are.2)
+    ∙ ap (λ (l : List Event). tabled_group options bytes (LeafLines row rows) ++ l)
+    (groups-tabled options bytes gs are.2)
 
 -- So each table of a text is set, and all else stays.
 pub tables-set : (options : ParseOptions) (bytes : List ℕ) (open_before : List Container) (still : HeldLeaf)

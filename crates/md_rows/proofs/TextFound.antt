@@ -1,5 +1,5 @@
--- What a line comes to where text is open: it may turn what is left of the text behind its definitions, make its last line
--- the head of a table, go on it, or begin a leaf behind it.
+-- What a line comes to where text is open: it may turn what is left of the text behind its definitions, make its last
+-- line the head of a table, go on it, or begin a leaf behind it.
 use Rattle.std.proofs.Common.{◌≡◌, ℕ, Bool, true, false, cond, ◌&&◌, ◌||◌, List, [], ◌∷◌, ◌++◌, length, refl, ap}
 use Rattle.std.proofs.Common.{ap₂, sym, ◌∙◌, subst}
 use Rattle.std.specs.Prelude.{◌==◌, not, if◌then◌else◌, Option, Some, None}
@@ -13,9 +13,11 @@ use Rattle.md_engine.specs.declared.tokenizer.held_leaf.OpenText.{OpenText}
 use Rattle.md_meaning.specs.Ascii.{colon, equals_sign, hyphen, pipe}
 use Rattle.md_meaning.specs.Definition.{cut_definitions}
 use Rattle.md_meaning.specs.Leaves as definition
-use Rattle.md_meaning.specs.Leaves.{LeafResult, Text, starts, table_at, underline_depth, underlined, underlined_by, with_line}
+use Rattle.md_meaning.specs.Leaves.{LeafResult, Text, starts, table_at, underline_depth, underlined, underlined_by}
+use Rattle.md_meaning.specs.Leaves.{with_line}
 use Rattle.md_meaning.specs.Rest.{Rest, has_small_indent, is_blank, trim, trim_start}
-use Rattle.md_meaning.specs.State.{ParagraphLine, Leaf, NoLeaf, OpenParagraph, Innermost, cut, shut_paragraph, texts, then_block}
+use Rattle.md_meaning.specs.State.{ParagraphLine, Leaf, NoLeaf, OpenParagraph, Innermost, cut, shut_paragraph, texts}
+use Rattle.md_meaning.specs.State.{then_block}
 use Rattle.md_meaning.specs.Step.{came, row_or_text, spot_of, text_by, underline_or_text}
 use Rattle.md_meaning.specs.Table.{delimiter_columns, is_delimiter, row_cells}
 use Rattle.md_meaning.specs.Tree.{Blocks, Heading}
@@ -28,9 +30,10 @@ use Rattle.md_seam.specs.Events.Spelled.{without_last}
 use Rattle.md_tables.specs.GfmTable.{may_head}
 use Rattle.md_tables.specs.GfmTableLine.{are_columns}
 use Rattle.md_table_rooms.specs.Leaf.GfmTable.{table_leaf}
-use Rattle.md_frame.specs.TextLines.{depth_of}
+use Rattle.md_leaf_rooms.specs.Leaf.HeadingSetext.{depth_of}
 use Rattle.md_leaf_rooms.specs.Leaf.HeadingSetext.{setext_leaf}
-use Rattle.md_frame.specs.Leaf.Paragraph.{open_lines, then_front}
+use Rattle.md_frame.specs.Leaf.Paragraph.{open_lines}
+use Rattle.md_content_rooms.specs.Defined.{then_front}
 use Rattle.md_frame.specs.LeafName.{GfmTable, HeadingSetext, LeafName}
 use Rattle.md_frame.specs.TextLines.{text_leaf}
 use Rattle.md_registry.specs.Registry.{leaf}
@@ -199,9 +202,9 @@ knows-head lines k = record {
   indent = last-is (λ k. k.indent) lines k;
 }
 
--- What a line that is not blank comes to where text is open, by the leaf that takes it: it turns what is left of the text
--- behind its definitions, or makes its last line a head, behind what the lines in front of that come to, or it begins a
--- leaf behind the text.
+-- What a line that is not blank comes to where text is open, by the leaf that takes it: it turns what is left of the
+-- text behind its definitions, or makes its last line a head, behind what the lines in front of that come to, or it
+-- begins a leaf behind the text.
 
 abbrev pub front_before : Bool → ParseOptions → Blocks → Leaf → Blocks
 front_before true options bs (OpenParagraph lines) = text_leaf.behind options bs (texts (without_last lines))
@@ -245,7 +248,8 @@ table-came options bs k ks r = subst Done (sym is.is) (at_end is.front is.last)
         go : (x : Bool) →
             row_or_text bs lines r (cond x (Some (came (shut_paragraph options bs (texts front)) come)) None) ≡
             text_came options bs lines r (cond x (Some GfmTable) None)
-        go true = ap (λ (l : List ParagraphLine). came (shut_paragraph options bs (texts l)) come) (sym (front-is front last))
+        go true =
+            ap (λ (l : List ParagraphLine). came (shut_paragraph options bs (texts l)) come) (sym (front-is front last))
         go false = refl
 
 pub text-comes : (options : ParseOptions) (bs : Blocks) (k : ParagraphLine) (ks : List ParagraphLine) (r : Rest) →

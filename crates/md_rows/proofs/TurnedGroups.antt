@@ -22,12 +22,16 @@ use Rattle.md_frame.specs.Change.{ends_of}
 use Rattle.md_frame.specs.ContainerNames.{container_name}
 use Rattle.md_frame.specs.EndingName.{ending_name}
 use Rattle.md_frame.specs.LeafName.{LeafName}
-use Rattle.md_frame.specs.Row.{BlankRow, LeafRow, Row, RowKind, TextRow, blank_line, defined_unread, ending_events}
-use Rattle.md_frame.specs.Row.{ending_of, headed_row, is_blank_by, last_row, span_by}
-use Rattle.md_frame.specs.TextLines.{text_leaf, turn_leaf}
+use Rattle.md_frame.specs.Row.{BlankRow, LeafRow, Row, RowKind, TextRow, blank_line, ending_events}
+use Rattle.md_content_rooms.specs.Defined.{defined_unread}
+use Rattle.md_frame.specs.Row.{ending_of, is_blank_by, last_row, span_by}
+use Rattle.md_table_rooms.specs.Headed.{headed_row}
+use Rattle.md_frame.specs.TextLines.{text_leaf}
+use Rattle.md_registry.specs.Registry.{turn_leaf}
 use Rattle.md_frame.specs.UnreadText.{linked_lines}
 use Rattle.md_registry.specs.Registry.{leaf}
-use Rattle.md_rows.specs.BlockList.{heading_unread, lines_unread, tabled_group, tabled_row_by, text_unread, turned_unread}
+use Rattle.md_rows.specs.BlockList.{heading_unread, lines_unread, tabled_group, tabled_row_by, text_unread}
+use Rattle.md_rows.specs.BlockList.{turned_unread}
 use Rattle.md_rows.specs.BlockList.{unread_lines}
 use Rattle.md_rows.specs.Rows.{Group, Headed, LeafLines, Lines, Single, Turned, groups, leaf_events, leaf_unread}
 use Rattle.md_rows.specs.Rows.{row_events, tail_events, text_done, turned_done}
@@ -471,7 +475,8 @@ groups-turned options bytes (Headed row next rows ∷ gs) are =
 groups-turned options bytes (LeafLines row rows ∷ gs) are =
     passed (tabled_group options bytes (LeafLines row rows)) (set_groups options bytes gs)
     (span-unturned options bytes row rows are.0 are.4)
-    ∙ ap (λ (l : List Event). tabled_group options bytes (LeafLines row rows) ++ l) (groups-turned options bytes gs are.2)
+    ∙ ap (λ (l : List Event). tabled_group options bytes (LeafLines row rows) ++ l)
+    (groups-turned options bytes gs are.2)
 
 -- Setext headings are set, and all else stays.
 pub headings-set : (options : ParseOptions) (bytes : List ℕ) (open_before : List Container) (still : HeldLeaf)

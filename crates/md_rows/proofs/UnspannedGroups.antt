@@ -7,11 +7,13 @@ use Rattle.md_engine.specs.declared.event.Name.TheVariants as n
 use Rattle.md_engine.specs.declared.event.Point.{Point}
 use Rattle.md_seam.specs.Events.Nested.{around, exit}
 use Rattle.md_rows.specs.BlockList.{heading_unread, lines_unread, turned_unread}
-use Rattle.md_frame.specs.TextLines.{text_leaf, turn_leaf}
+use Rattle.md_frame.specs.TextLines.{text_leaf}
+use Rattle.md_registry.specs.Registry.{turn_leaf}
 use Rattle.md_registry.specs.Registry.{leaf}
 use Rattle.md_frame.specs.Row.{BlankRow, LeafRow, Row, RowKind, TextRow}
 use Rattle.md_rows.specs.Rows.{Lines, Turned}
-use Rattle.md_frame.specs.Row.{blank_line, defined_unread, ending_events, ending_of, last_row}
+use Rattle.md_frame.specs.Row.{blank_line, ending_events, ending_of, last_row}
+use Rattle.md_content_rooms.specs.Defined.{defined_unread}
 use Rattle.md_rows.specs.Rows.{leaf_unread, row_events, tail_events, text_done, turned_done}
 use Rattle.md_rows.specs.Unread.{unread_group}
 use Rattle.md_frame.specs.UnreadText.{linked_lines}

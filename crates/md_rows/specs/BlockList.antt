@@ -16,8 +16,11 @@ use Rattle.md_containers.specs.Listed.{listed}
 use Rattle.md_seam.specs.Events.Nested.{around}
 use Rattle.md_front_rooms.specs.Front.{body_point, front_events}
 use Rattle.md_frame.specs.TextLines.{text_leaf}
-use Rattle.md_frame.specs.Row.{Row, RowKind, defined_unread, headed_unread, turned_by, span_by, ending_of}
+use Rattle.md_frame.specs.Row.{Row, RowKind, turned_by, span_by, ending_of}
+use Rattle.md_table_rooms.specs.Headed.{headed_unread}
+use Rattle.md_content_rooms.specs.Defined.{defined_unread}
 use Rattle.md_frame.specs.Row.{last_row}
+use Rattle.md_registry.specs.Registry.{turn_leaf}
 use Rattle.md_rows.specs.Rows.{Group, Headed, Lines, LeafLines, Turned, final_row, first_row, Single, cut_at_most}
 use Rattle.md_rows.specs.Rows.{group_ending, groups, leaf_unread, tail_events}
 use Rattle.md_rows.specs.TextRows.{text_rows}
@@ -38,10 +41,10 @@ text_unread options bytes row rows =
 
 -- what a line turns these lines into
 abbrev pub heading_unread : Row → Row → List Row → List Event
-heading_unread under row rows = turned_by (unread_lines row rows) row rows under
+heading_unread under row rows = turned_by turn_leaf (unread_lines row rows) row rows under
 
--- what stands in the place of a text and the line that turns it: the definitions at the front of the text, and what that
--- line turns the rest into
+-- what stands in the place of a text and the line that turns it: the definitions at the front of the text, and what
+-- that line turns the rest into
 abbrev pub turned_unread : ParseOptions → List ℕ → Row → List Row → Row → List Event
 turned_unread options bytes row rows under =
     cut_at_most defined_unread (heading_unread under) options bytes (suc (length rows)) row rows

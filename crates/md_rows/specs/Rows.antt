@@ -29,11 +29,13 @@ use Rattle.md_link_definitions.specs.DefinitionRule.{DefinitionParts, definition
 use Rattle.md_frame.specs.Passed.{Passed}
 use Rattle.md_frame.specs.LeafName.{LeafName, first_of}
 use Rattle.md_frame.specs.TextLines.{text_leaf}
-use Rattle.md_registry.specs.Registry.{goes_at, asked_first, leaf, opens_at, bars_containers, trials}
+use Rattle.md_registry.specs.Registry.{goes_at, asked_first, leaf, opens_at, bars_containers, trials, turn_leaf}
 use Rattle.md_frame.specs.Change.{Change, change_by, ends_of, interrupts, is_none, against, open_behind, others_of}
-use Rattle.md_frame.specs.Row.{BlankRow, LeafRow, Row, RowKind, TextRow, chunks_of, defined_unread}
-use Rattle.md_frame.specs.Row.{ending_events, ending_of, headed_done, heading_done, is_blank_by, last_row}
-use Rattle.md_frame.specs.Row.{read_lines, row_line, span_done}
+use Rattle.md_frame.specs.Row.{BlankRow, LeafRow, Row, RowKind, TextRow, chunks_of}
+use Rattle.md_content_rooms.specs.Defined.{defined_unread}
+use Rattle.md_frame.specs.Row.{ending_events, ending_of, is_blank_by, last_row}
+use Rattle.md_table_rooms.specs.Headed.{headed_done}
+use Rattle.md_frame.specs.Row.{read_lines, row_line, span_done, turned_by}
 
 -- a leaf, if one takes the line, and else text
 abbrev pub kind_of : Option LeafName → RowKind
@@ -45,8 +47,8 @@ abbrev pub inside_or : (LeafName → Bool) → Option LeafName → RowKind → R
 inside_or test None other = other
 inside_or test (Some l) other = if test l then LeafRow l else other
 
--- By the rest of a line, as the line definition has it, where it meets this leaf: its kind, and what is open behind a line
--- of a kind.
+-- By the rest of a line, as the line definition has it, where it meets this leaf: its kind, and what is open behind a
+-- line of a kind.
 abbrev pub line_kind : ParseOptions → HeldLeaf → Rest → RowKind
 line_kind options on r =
     inside_or (λ l. (leaf l).starts options on r) (asked_first on)
@@ -256,8 +258,8 @@ front_done bytes row = plain_read bytes row.front
 
 -- Texts.
 
--- a line that is no text, the lines of a text, those of a text and the underline that turns it, a line of text that is a
--- head with the line that takes it and those that go on that, or those of a leaf of several
+-- a line that is no text, the lines of a text, those of a text and the underline that turns it, a line of text that is
+-- a head with the line that takes it and those that go on that, or those of a leaf of several
 pub data Group : Type 0 where
   Single : Row → Group
   Lines : Row → List Row → Group
@@ -303,7 +305,8 @@ onto_underline row next rows groups =
 -- a line of a leaf of several: a line that goes on it is one of the same
 abbrev pub onto_span : Row → List Group → List Group
 onto_span row (LeafLines next rows ∷ groups) =
-    if is_further next.kind next.on then LeafLines row (next ∷ rows) ∷ groups else LeafLines row [] ∷ LeafLines next rows ∷ groups
+    if is_further next.kind next.on then LeafLines row (next ∷ rows) ∷ groups
+    else LeafLines row [] ∷ LeafLines next rows ∷ groups
 onto_span row groups = LeafLines row [] ∷ groups
 
 abbrev pub onto_leaf : Bool → Row → List Group → List Group
@@ -368,16 +371,20 @@ abbrev pub text_done : ParseOptions → List ℕ → Row → List Row → List E
 text_done options bytes row rows =
     cut_at_most (defined_done bytes) (lines_done bytes) options bytes (suc (length rows)) row rows
 
--- what stands in the place of a text and the line that turns it, once they are read: the definitions at the front of the
--- text, and what that line turns the rest into
+-- what a line turns these lines into, once they are read
+abbrev pub heading_done : List ℕ → Row → Row → List Row → List Event
+heading_done bytes under row rows = turned_by turn_leaf (read_lines bytes row rows) row rows under
+
+-- what stands in the place of a text and the line that turns it, once they are read: the definitions at the front of
+-- the text, and what that line turns the rest into
 abbrev pub turned_done : ParseOptions → List ℕ → Row → List Row → Row → List Event
 turned_done options bytes row rows under =
     cut_at_most (defined_done bytes) (heading_done bytes under) options bytes (suc (length rows)) row rows
 
 -- The lines of a leaf of several, joined. A line is a pair of its own, from its begin to its end; but a blank line in
--- indented code stands bare, without them, since it may stand behind the code. What the first line adds but its end, what
--- a further one adds but its begin and its end, and the end of the last that has one are one block; between its lines
--- stand an ending in the leaf, and prefixes. Bare lines behind it are whitespace.
+-- indented code stands bare, without them, since it may stand behind the code. What the first line adds but its end,
+-- what a further one adds but its begin and its end, and the end of the last that has one are one block; between its
+-- lines stand an ending in the leaf, and prefixes. Bare lines behind it are whitespace.
 
 -- Of a group: its first line and its last, what its last line is, and its leaf.
 

@@ -5,7 +5,8 @@
 -- open leaf as if it ended there. What is still open, and may go on, is told by the flags. What the tokenizer holds of
 -- a container is said in `Registry`, and of the open leaf in `HeldLeaf`. Items are meant as they stand before their
 -- resolver puts lists around them.
-use Rattle.md_frame.specs.HeldLeaf.{IsBuiltLeaf, MatchesLeaf, kind_of_leaf}
+use Rattle.md_frame.specs.HeldLeaf.{MatchesLeaf, kind_of_leaf}
+use Rattle.md_registry.specs.OpenSpan.{IsBuiltLeaf}
 use Rattle.md_engine.specs.declared.tokenizer.held_leaf.HeldLeaf.{HeldLeaf}
 use Rattle.std.specs.Prelude.{◌≡◌, List, [], ◌∷◌, None}
 use Rattle.md_engine.specs.declared.configuration.ParseOptions.{ParseOptions}

@@ -6,7 +6,8 @@ use Rattle.md_engine.specs.declared.event.Name.TheVariants as n
 use Rattle.md_content.specs.Chunks.{content_link}
 use Rattle.md_frame.specs.UnreadText.{linked_lines}
 use Rattle.md_rows.specs.BlockList.{text_unread, tabled_group}
-use Rattle.md_frame.specs.Row.{Row, last_row, headed_row, span_by}
+use Rattle.md_frame.specs.Row.{Row, last_row, span_by}
+use Rattle.md_table_rooms.specs.Headed.{headed_row}
 use Rattle.md_rows.specs.Rows.{Group, Headed, Lines, Single, LeafLines, Turned, row_events, rows_events, tail_events}
 
 -- A line of text that was read again as a head, and the lines that go on it.
@@ -36,7 +37,8 @@ unread_group options bytes (LeafLines row rows) = rows_events (row ∷ rows)
 unread_group options bytes (Headed row next rows) = headed_lines bytes row next rows
 unread_group options bytes (Turned row rows under) =
     row.front ++ text_unread options bytes row rows ++ tail_events n.LineEnding (last_row row rows) ++ row_events under
-unread_group options bytes (Lines row rows) = row.front ++ text_unread options bytes row rows ++ tail_events n.LineEnding (last_row row rows)
+unread_group options bytes (Lines row rows) =
+    row.front ++ text_unread options bytes row rows ++ tail_events n.LineEnding (last_row row rows)
 
 abbrev pub unread_groups : ParseOptions → List ℕ → List Group → List Event
 unread_groups options bytes [] = []

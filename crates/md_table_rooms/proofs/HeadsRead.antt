@@ -9,8 +9,9 @@ use Rattle.md_engine.specs.declared.event.Name.TheVariants as n
 use Rattle.md_seam.specs.Events.Nested.{is_enter}
 use Rattle.md_tables.specs.Heads.{begins_chunk, headed, is_chunk}
 use Rattle.md_tables.proofs.HeadsLemmas.{headed-behind}
-use Rattle.md_frame.specs.Resolving.{heads_read}
-use Rattle.md_frame.proofs.ContentFacts.{NoContent, is_told, nothing}
+use Rattle.md_table_rooms.specs.Headed.{heads_read}
+use Rattle.md_frame.proofs.ContentFacts.{NoContent, nothing}
+use Rattle.md_frame.proofs.EventNames.{is_told}
 
 -- Where no content stands, no line is one.
 

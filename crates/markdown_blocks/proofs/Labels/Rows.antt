@@ -1,5 +1,6 @@
 -- The labels of a text: those among the events of its groups are those of the blocks that these are read as.
-use Rattle.std.proofs.Common.{◌≡◌, ◌≢◌, ℕ, Bool, true, false, List, [], ◌∷◌, ◌++◌, length, refl, ap, sym, ◌∙◌, append_assoc}
+use Rattle.std.proofs.Common.{◌≡◌, ◌≢◌, ℕ, Bool, true, false, List, [], ◌∷◌, ◌++◌, length, refl, ap, sym, ◌∙◌}
+use Rattle.std.proofs.Common.{append_assoc}
 use Rattle.std.proofs.Common.{append-nil, subst, subst₂}
 use Rattle.std.specs.Prelude.{Option, Some, None, not}
 use Rattle.md_engine.specs.declared.configuration.ParseOptions.{ParseOptions}
@@ -28,9 +29,11 @@ use Rattle.md_rows.specs.Rows.{Group, Headed, Lines, Single, LeafLines}
 use Rattle.md_rows.specs.Rows.{Turned}
 use Rattle.md_frame.specs.Row.{is_blank_by, span_done}
 use Rattle.md_rows.specs.Rows.{defined_done, group_events, leaf_done, leaf_events}
-use Rattle.md_frame.specs.Row.{defined_unread, ending_of, last_row}
+use Rattle.md_frame.specs.Row.{ending_of, last_row}
+use Rattle.md_content_rooms.specs.Defined.{defined_unread}
 use Rattle.md_rows.specs.Rows.{groups_events, lines_done}
-use Rattle.md_frame.specs.Row.{headed_done, heading_done}
+use Rattle.md_rows.specs.Rows.{heading_done}
+use Rattle.md_table_rooms.specs.Headed.{headed_done}
 use Rattle.md_rows.specs.Rows.{row_events, rows_events, tail_events}
 use Rattle.md_rows.specs.Rows.{text_done, turned_done}
 use Rattle.md_rows.specs.Unread.{headed_lines, unread_group, unread_groups}
@@ -51,7 +54,8 @@ use Rattle.md_rows.proofs.JoinedLemmas.{EachNoContent, HasNoContent, ending-othe
 use Rattle.md_rows.proofs.JoinedLemmas.{tail-no_content}
 use Rattle.md_content_rooms.proofs.Labels.Groups.{form-label, front-none}
 use Rattle.md_rows.proofs.Labels.Leaves.{line-unlabelled, lines-unlabelled, shut-unlabelled}
-use Rattle.md_content_rooms.proofs.Labels.Reading.{labels-added, labels-closed, labels-enters, labels-shown, read_labels}
+use Rattle.md_content_rooms.proofs.Labels.Reading.{labels-added, labels-closed, labels-enters, labels-shown}
+use Rattle.md_content_rooms.proofs.Labels.Reading.{read_labels}
 use Rattle.md_content_rooms.proofs.Labels.Reading.{outer_labels, shown_labels}
 use Rattle.md_content_rooms.proofs.Labels.Trees.{defined_by, defined_in}
 use Rattle.md_frame.proofs.LeafFacts.{shown}
@@ -202,7 +206,8 @@ between-labelled : (bytes : List ℕ) (p q r : Point) (front : List Event) → L
     Labelled bytes (between p q front) (between p q front)
 between-labelled bytes p q r front is =
     none-labelled bytes (between p q front) (between p q front)
-    (all-append (λ (e : Event). not (is_label e.name)) (pair n.LineEnding p q) front refl (front-none bytes q r front is))
+    (all-append (λ (e : Event). not (is_label e.name)) (pair n.LineEnding p q) front refl
+    (front-none bytes q r front is))
     (λ r text shut.
     let same : read bytes r (between p q front) ≡ r =
     read-between bytes r (between p q front) text shut
@@ -273,7 +278,8 @@ cut-labelled options bytes row _ _ _ (Follows d _ own next more q es fs are is a
 
 -- Groups.
 
-inside-none : (row : Row) (kind : RowKind) → kind ≢ TextRow → HasNoContent row → has_no_label (leaf_events kind row) ≡ true
+inside-none : (row : Row) (kind : RowKind) → kind ≢ TextRow → HasNoContent row →
+    has_no_label (leaf_events kind row) ≡ true
 inside-none row BlankRow other quiet = no_content-label wants_content row.inside (quiet wants_content content-alone)
 inside-none row (LeafRow l) other quiet = no_content-label wants_content row.inside (quiet wants_content content-alone)
 inside-none row TextRow other quiet = absurd (other refl)
@@ -304,7 +310,8 @@ span-quiet options bytes row rows are begins =
     ∙ ap defined_in
     (sym ((span-laws is.name is.open_leaf).shuts options bytes row rows line
     (line-further options bytes row is false begins) behind End))
-    ∙ shut-unlabelled options End c (lines-unlabelled options bytes is.name (further_of is.name) row rows behind line.rest)
+    ∙ shut-unlabelled options End c (lines-unlabelled options bytes is.name (further_of is.name) row
+    rows behind line.rest)
 
 span-labelled : (options : ParseOptions) (bytes : List ℕ) (row : Row) (rows : List Row) →
     AreSpan options bytes row rows → EachNoContent (row ∷ rows) → Begins row →
@@ -417,7 +424,8 @@ groups-labelled options bytes (Headed row next rows ∷ gs) are =
     (groups_events options bytes gs) (headed-labelled options bytes row next rows are.0 are.1 are.3 are.5)
     (groups-labelled options bytes gs are.4)
 groups-labelled options bytes (LeafLines row rows ∷ gs) are =
-    labelled-append bytes (unread_group options bytes (LeafLines row rows)) (group_events options bytes (LeafLines row rows))
+    labelled-append bytes (unread_group options bytes (LeafLines row rows))
+    (group_events options bytes (LeafLines row rows))
     (unread_groups options bytes gs) (groups_events options bytes gs)
     (span-labelled options bytes row rows are.0 are.3 are.4) (groups-labelled options bytes gs are.2)
 

@@ -25,7 +25,7 @@ use Rattle.md_frame.proofs.BetweenFacts.{AreBetween, around-between, between-app
 use Rattle.md_frame.proofs.BetweenFacts.{between-behind}
 use Rattle.md_frame.proofs.BetweenFacts.{between-pair, between-unless, is_low, white-between}
 use Rattle.md_container_rooms.proofs.BlockQuote.Facts.{pair-prefixes}
-use Rattle.md_frame.proofs.ContainerNames.{is_front}
+use Rattle.md_frame.proofs.EventNames.{is_front}
 use Rattle.md_frame.proofs.EachEvent.{each-append}
 use Rattle.md_container_rooms.proofs.ListItem.Pieces.{is-marker}
 use Rattle.md_container_rooms.proofs.ListItem.Prefix.{IsFront, behind-index, front-each, front_by, marker-byte}

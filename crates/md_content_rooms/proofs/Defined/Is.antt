@@ -9,8 +9,10 @@ use Rattle.md_link_definitions.specs.GapRule.{gap_rest}
 use Rattle.md_link_definitions.specs.TitleRule.{TitleParts}
 use Rattle.md_link_definitions.specs.WholeCells.{whole_cells}
 use Rattle.md_link_definitions.proofs.DefinitionLines.{text_bytes}
-use Rattle.md_frame.specs.Row.{Row, defined_unread, last_row}
-use Rattle.md_content_rooms.proofs.Defined.Form.{Form, IsForm, Titled, form_unread, strand_lines, target_text, text_lines}
+use Rattle.md_frame.specs.Row.{Row, last_row}
+use Rattle.md_content_rooms.specs.Defined.{defined_unread}
+use Rattle.md_content_rooms.proofs.Defined.Form.{Form, IsForm, Titled, form_unread, strand_lines, target_text}
+use Rattle.md_content_rooms.proofs.Defined.Form.{text_lines}
 
 pub record IsDefined (bytes : List ℕ) (d : DefinitionParts) (row : Row) (rows : List Row) : Type 0 where
   pub form : Form

@@ -12,10 +12,13 @@ use Rattle.md_engine.specs.declared.event.Name.TheVariants as n
 use Rattle.md_engine.specs.declared.event.Point.{Point}
 use Rattle.md_engine.specs.Meaning.{Cell}
 use Rattle.md_link_definitions.specs.Chunks.{chunks}
-use Rattle.md_link_definitions.specs.DefinitionRule.{DefinitionParts, definition_end, definition_events, definition_rest, is_literal}
-use Rattle.md_link_definitions.specs.DefinitionRule.{destination_begin, destination_end, destination_rest, label_begin, parts_end}
+use Rattle.md_link_definitions.specs.DefinitionRule.{DefinitionParts, definition_end, definition_events}
+use Rattle.md_link_definitions.specs.DefinitionRule.{definition_rest, is_literal}
+use Rattle.md_link_definitions.specs.DefinitionRule.{destination_begin, destination_end, destination_rest, label_begin}
+use Rattle.md_link_definitions.specs.DefinitionRule.{parts_end}
 use Rattle.md_link_definitions.specs.DefinitionRule.{parts_rest, titled_part}
-use Rattle.md_link_definitions.specs.DestinationRule.{behind_cells, destination_part, literal_begin, literal_end, text_part}
+use Rattle.md_link_definitions.specs.DestinationRule.{behind_cells, destination_part, literal_begin, literal_end}
+use Rattle.md_link_definitions.specs.DestinationRule.{text_part}
 use Rattle.md_link_definitions.specs.GapRule.{ending_part, gap_end, gap_part, gap_rest, white_part}
 use Rattle.md_link_definitions.specs.LabelRule.{LabelParts, label_events}
 use Rattle.md_link_definitions.specs.TitleRule.{TitleParts, title_events, title_text}
@@ -23,7 +26,7 @@ use Rattle.md_seam.specs.Ahead.{begins_white, point_after, white_end, white_rest
 use Rattle.md_seam.specs.Events.Nested.{around, enter, enter_link, exit, is_enter, pair}
 use Rattle.md_seam.specs.Events.Prefix.{is_prefix}
 use Rattle.md_seam.specs.Spaces.{any_size}
-use Rattle.md_frame.specs.Resolving.{is_own}
+use Rattle.md_frame.proofs.EventNames.{is_own}
 use Rattle.md_frame.proofs.EachEvent.{Each, each-append, each-as}
 use Rattle.md_frame.proofs.OutsideFacts.{IsOutside}
 

@@ -13,22 +13,23 @@ use Rattle.md_meaning.specs.State.{ParagraphLine, Leaf, NoLeaf, OpenParagraph, c
 use Rattle.md_meaning.specs.State.{texts, then_definitions, then_paragraph}
 use Rattle.md_meaning.specs.Tree.{Blocks, Definition, Paragraph}
 use Rattle.md_outline.specs.HeadingDepths.{are_shallow}
-use Rattle.md_frame.specs.Leaf.Paragraph.{paragraph_leaf, then_front}
-use Rattle.md_frame.specs.HeldLeaf.{IsBuiltLeaf}
-use Rattle.md_frame.specs.OpenSpan.{IsOpenSpan}
+use Rattle.md_frame.specs.Leaf.Paragraph.{paragraph_leaf}
+use Rattle.md_content_rooms.specs.Defined.{then_front}
+use Rattle.md_frame.specs.HeldLeaf.{IsNoneTextOr}
 use Rattle.md_frame.proofs.EachEvent.{settled-each}
 use Rattle.md_frame.proofs.OutsideFacts.{AreOutside, IsOutside}
 use Rattle.md_content_rooms.proofs.Paragraph.Stands.{text-stands}
 use Rattle.md_frame.proofs.ShallowBlocks.{shallow-then}
 use Rattle.md_frame.proofs.TextLaws.{TextLaws}
 
-open-cases : (P : Leaf → Type 0) → P NoLeaf → ((k : ParagraphLine) (ks : List ParagraphLine) → P (OpenParagraph (k ∷ ks))) →
-    ((leaf : Leaf) → IsOpenSpan leaf → P leaf) →
-    (leaf : Leaf) → IsBuiltLeaf leaf → P leaf
-open-cases P none text span NoLeaf plain = none
-open-cases P none text span (OpenParagraph []) plain = absurd plain
-open-cases P none text span (OpenParagraph (k ∷ ks)) plain = text k ks
-open-cases P none text span leaf plain = span leaf plain
+open-cases : (IsSpan P : Leaf → Type 0) → P NoLeaf →
+    ((k : ParagraphLine) (ks : List ParagraphLine) → P (OpenParagraph (k ∷ ks))) →
+    ((leaf : Leaf) → IsSpan leaf → P leaf) →
+    (leaf : Leaf) → IsNoneTextOr IsSpan leaf → P leaf
+open-cases IsSpan P none text span NoLeaf plain = none
+open-cases IsSpan P none text span (OpenParagraph []) plain = absurd plain
+open-cases IsSpan P none text span (OpenParagraph (k ∷ ks)) plain = text k ks
+open-cases IsSpan P none text span leaf plain = span leaf plain
 
 -- What its lines come to, an outline can show:
 shallow-remaining : (bs : Blocks) (lines : List (List ℕ)) → are_shallow bs ≡ true →
@@ -66,11 +67,12 @@ unfolding content_events
 content-outside bytes options chunks =
     let w : World = part_world bytes options chunks in
     let cells : List Cell = text_feed w.setting w.point in
-    settled-each IsOutside (λ e q h. h) chunks (content_over options cells w.point) (content-passed options cells w.point)
+    settled-each IsOutside (λ e q h. h) chunks (content_over options cells w.point)
+    (content-passed options cells w.point)
 
 pub paragraph-laws : TextLaws paragraph_leaf
 paragraph-laws = record {
-  cases = λ P none text span leaf plain. open-cases P none text span leaf plain;
+  cases = λ IsSpan P none text span leaf plain. open-cases IsSpan P none text span leaf plain;
   shut = λ options bs ks. refl;
   shallow = λ options bs lines h. shallow-behind options bs lines h;
   stands = λ bytes held p q inside between. text-stands bytes held paragraph_leaf.name p q inside refl between;

@@ -1,24 +1,21 @@
 -- A line and its columns of whitespace by the cells: where they end, and what stands over them.
-use Rattle.std.proofs.Common.{◌≡◌, ℕ, zero, suc, ◌+◌, ◌-◌, ◌<◌, ◌≤◌, Bool, true, false, cond, ◌&&◌, List, [], ◌∷◌}
+use Rattle.std.proofs.Common.{◌≡◌, ℕ, zero, suc, ◌+◌, ◌-◌, ◌<◌, ◌≤◌, Bool, true, false, cond, List, [], ◌∷◌}
 use Rattle.std.proofs.Common.{◌++◌, refl, sym, ◌∙◌, ap, ap₂, arith, subst}
 use Rattle.std.specs.Prelude.{◌==◌, nat_lt}
 use Rattle.std.proofs.lemmas.Bool.{eqb-true}
 use Rattle.std.proofs.lemmas.Bool.Decides.{nat_tests}
-use Rattle.md_engine.specs.declared.event.Name.TheVariants as n
 use Rattle.md_engine.specs.declared.event.Point.{Point}
 use Rattle.md_engine.specs.declared.tokenizer.Line.{Line}
 use Rattle.md_engine.specs.Meaning.{Cell}
 use Rattle.md_meaning.specs.Rest.{Rest, cut_tab, indent, tab_columns}
-use Rattle.md_code.specs.FenceLine.{spaces}
 use Rattle.md_seam.specs.Ahead.{begins_white, white_end}
-use Rattle.md_seam.specs.Events.Nested.{pair}
 use Rattle.md_seam.specs.Events.Places.{past_byte, past_text}
 use Rattle.md_seam.proofs.AheadLemmas.{none-end}
 use Rattle.md_seam.proofs.FeedLines.{Stops, columns_more, spread, tab_cells, tab_end, tab_end-stop}
 use Rattle.md_seam.proofs.RestCells.{Cut, HasColumn, RestAt, bare-cells, column-first, past_cut, past_rest, rest_cells}
 use Rattle.md_seam.proofs.RestCells.{without_first}
 use Rattle.md_frame.specs.RestLine.{rest_line}
-use Rattle.md_frame.specs.LineColumns.{columns_part, next_point, past_columns, rest_of}
+use Rattle.md_frame.specs.LineColumns.{next_point, past_columns, rest_of}
 
 -- Points.
 
@@ -150,10 +147,3 @@ columns-end said text behind (suc room) r p stop is k =
         ∙ ap (past_columns room (without_first r)) (first-next said text behind r p is (omega (arith, e)) first)
         ∙ sym
         (ap (λ (x : Bool). cond x p (past_columns room (without_first r) (next_point (without_first r) p))) some)
-
--- and their part is over them
-pub columns-part : (said : Line) (text behind : List ℕ) (room : ℕ) (r : Rest) (p : Point) (stop : List Cell) →
-    RestAt text behind r p → Stops stop → spaces room (rest_cells said r p ++ stop) p ≡ columns_part room r p
-columns-part said text behind room r p stop is k =
-    ap₂ (λ (x : Bool) (q : Point). cond (nat_lt 0 room && x) (pair n.SpaceOrTab p q) [])
-    (first-white said text behind r p stop is k) (columns-end said text behind room r p stop is k)

@@ -9,12 +9,13 @@ use Rattle.md_engine.specs.declared.event.Name.{Name}
 use Rattle.md_engine.specs.declared.event.Point.{Point}
 use Rattle.md_containers.specs.Unlisted.{in_place}
 use Rattle.md_containers.proofs.UnlistedLemmas.{NoListing, among, stands-append as places-append}
-use Rattle.md_seam.specs.Events.Endings.{IsLeaf, OnLine, EndingPlace, endings_stand_from, ends_rightly, line_start, on_line}
+use Rattle.md_seam.specs.Events.Endings.{IsLeaf, OnLine, EndingPlace, endings_stand_from, ends_rightly, line_start}
+use Rattle.md_seam.specs.Events.Endings.{on_line}
 use Rattle.md_seam.specs.Events.Endings.{spot_behind}
 use Rattle.md_seam.specs.Events.Grammar.{Expression, behind, behind_block, blocks, inside, may_end, plain_text}
 use Rattle.md_seam.specs.Events.Grammar.{unread_text}
 use Rattle.md_seam.specs.Events.Nested.{around, exit}
-use Rattle.md_seam.specs.Events.Spelled.{IsQuiet, LeafKind, OfCode, OfFence, OfFrontmatter, OfHtml, OfMath, OpenLeaf}
+use Rattle.md_seam.specs.Events.Spelled.{IsQuiet, LeafKind, OpenLeaf}
 use Rattle.md_seam.specs.Events.Spelled.{LeafRole, Reading, Role}
 use Rattle.md_seam.specs.Events.Spelled.{add_block, block_of, fresh, read, read_enter, read_exit, role}
 use Rattle.md_seam.specs.Events.Tiles.{part_kind}
@@ -27,6 +28,7 @@ use Rattle.md_outline.specs.LinesStand.{HasLines, Site, begun_site}
 use Rattle.md_outline.specs.Roles.{is_told, is_unlisted}
 use Rattle.md_outline.proofs.LinesPass.{MayLeave, passes-leaf}
 use Rattle.md_frame.proofs.BetweenFacts.{around-between, between-append}
+use Rattle.md_frame.proofs.EventNames.{lined-known}
 use Rattle.md_frame.proofs.FillFacts.{fill-append, fill-around, fill-same}
 use Rattle.md_frame.proofs.LeafFacts as leaf
 use Rattle.md_frame.proofs.LeafFacts.{LeafFacts}
@@ -110,14 +112,6 @@ quiets-between (e ∷ es) h = (one (role e.name) h.0, quiets-between es h.1)
     one _ h = absurd h
 
 -- an outline shows it by its lines
-lined-known : (kind : LeafKind) → HasLines kind → is_unlisted (LeafRole kind) ≡ true
-lined-known OfCode lined = refl
-lined-known OfFence lined = refl
-lined-known OfMath lined = refl
-lined-known OfHtml lined = refl
-lined-known OfFrontmatter lined = refl
-lined-known _ lined = absurd lined
-
 pub around-plain : (bytes : List ℕ) (name : Name) (kind : LeafKind) (p q : Point) (end : Site) (es : List Event) →
     role name ≡ LeafRole kind → HasLines kind → MayLeave end → ArePlainFrom bytes (begun_site kind) end es →
     ArePlain bytes (around name p q es)
@@ -139,7 +133,7 @@ pub inside-leaf : (bytes : List ℕ) (name : Name) (kind : LeafKind) (p a q : Po
     (h.unread_stays true).0 ≡ filled → (h.stays true).0 ≡ filled → may_end left ≡ true →
     (clear bytes a ≡ true → ArePlain bytes (around name a q done)) →
     LeafFacts bytes (Some (block_of to)) filled p q (lead ++ around name a q unread) (lead ++ around name a q done)
-inside-leaf bytes name kind p a q left to end full lead unread done named front us starts h us_is is ends plain = record {
+inside-leaf bytes name kind p a q left to end full lead unread done named front us ds h us_is is ends plain = record {
   unread_nested =
       nested_in-append p a q lead (around name a q unread) front.nested
       (around-nested name a q unread h.unread_nested);
@@ -150,7 +144,7 @@ inside-leaf bytes name kind p a q left to end full lead unread done named front 
       (stood-around bytes name a q unread us h.unread_stood);
   stood =
       stood-append bytes lead (around name a q done) front.stood
-      (stood-around bytes name a q done starts h.stood);
+      (stood-around bytes name a q done ds h.stood);
   behind = true;
   unread_word =
       grammar.leads-append unread_text (blocks ∷ []) (blocks ∷ []) (behind_block ∷ []) lead (around name a q unread)

@@ -1,5 +1,5 @@
 -- The further lines of a leaf, one by one, where each has a begin and an end: from what each is follows what the leaf
--- comes to with them, as events and by the line definition.
+-- is with them, as events and by the line definition.
 use Rattle.std.proofs.Common.{◌≡◌, ℕ, Bool, true, false, cond, ◌&&◌, ◌||◌, not, List, [], ◌∷◌, ◌++◌, refl}
 use Rattle.std.proofs.Common.{sym, ap, ap₂, ◌∙◌, subst}
 use Rattle.std.specs.Prelude.{◌==◌, Some, if◌then◌else◌}
@@ -12,10 +12,9 @@ use Rattle.md_engine.specs.declared.event.Kind.TheVariants.{Enter, Exit}
 use Rattle.md_engine.specs.declared.event.Name.{Name}
 use Rattle.md_engine.specs.declared.event.Name.TheVariants as n
 use Rattle.md_engine.specs.declared.event.Point.{Point}
-use Rattle.md_meaning.specs.Leaves.{LeafResult, Finished, Opened}
-use Rattle.md_meaning.specs.State.{OpenFence, OpenHtml, fence_block, shut, then_block}
+use Rattle.md_meaning.specs.Leaves.{LeafResult}
+use Rattle.md_meaning.specs.State.{shut, then_block}
 use Rattle.md_meaning.specs.Step.{came}
-use Rattle.md_meaning.specs.Tree as t
 use Rattle.md_meaning.specs.Tree.{Block, Blocks}
 use Rattle.md_leaves.specs.Further.{further_link}
 use Rattle.md_leaves.specs.Spanned.{has_lines}
@@ -54,25 +53,9 @@ row_unread row = row.inside
 abbrev pub row_done : List ℕ → Row → List Event
 row_done bytes row = if goes_back row.inside then row.inside else plain_read bytes row.inside
 
--- What the line definition comes to: an open block, or one that is closed.
-abbrev pub IsCame : LeafResult → Type 0
-IsCame (Finished block) = Unit {0}
-IsCame (Opened (OpenFence o lines)) = Unit {0}
-IsCame (Opened (OpenHtml kind lines)) = Unit {0}
-IsCame _ = ⊥
-
-abbrev pub block_by : LeafResult → Block
-block_by (Finished block) = block
-block_by (Opened (OpenFence o lines)) = fence_block o lines false
-block_by (Opened (OpenHtml kind lines)) = t.Html lines
-block_by _ = t.Break
-
-pub came-shut : (options : ParseOptions) (bs : Blocks) (c : LeafResult) → IsCame c →
-    shut options (came bs c) ≡ then_block bs (block_by c)
-came-shut options bs (Finished block) is = refl
-came-shut options bs (Opened (OpenFence o lines)) is = refl
-came-shut options bs (Opened (OpenHtml kind lines)) is = refl
-came-shut options bs _ is = absurd is
+-- What the line definition has is this block, once it is shut.
+abbrev pub ShutsAs : LeafResult → Block → Type 0
+ShutsAs c block = (options : ParseOptions) (bs : Blocks) → shut options (came bs c) ≡ then_block bs block
 
 -- Whether anything stands on the last of some lines, in a leaf on a line on which something stands, or nothing.
 
@@ -123,7 +106,7 @@ pub record FurtherLine (bytes : List ℕ) (name : Name) (x left : Expression) (f
     pub empty : row.empty ≡ (is_empty_row row && (row.first.column == 1))
     pub facts : InsideFacts bytes row.first row.end x left from leaf start site parts parts
 
--- Further lines behind one: what they come to.
+-- Further lines behind one: what the leaf is with them.
 pub record HasRest (bytes : List ℕ) (name : Name) (left : Expression) (leaf : OpenLeaf) (site : Site) (row : Row)
     (rows : List Row) (c : LeafResult) : Type 0 where
   pub to : OpenLeaf
@@ -131,8 +114,7 @@ pub record HasRest (bytes : List ℕ) (name : Name) (left : Expression) (leaf : 
   pub framed : AreFramed row_unread rows
   pub further : AreFurther bytes row_unread (row_done bytes) name left leaf to site row rows
   -- the block is that of the line definition
-  pub came : IsCame c
-  pub block : block_of to ≡ block_by c
+  pub shuts : ShutsAs c (block_of to)
   -- whether something stands on the last line, as its endings say
   pub fills : (full : Bool) → Leads (in_leaf full) (in_leaf (full_behind full rows)) (framed_rest row_unread row rows)
   -- nothing is read of them
@@ -141,14 +123,12 @@ pub record HasRest (bytes : List ℕ) (name : Name) (left : Expression) (leaf : 
 -- none
 pub rest-none : (bytes : List ℕ) (name : Name) (left : Expression) (leaf : OpenLeaf) (site : Site) (row : Row)
     (c : LeafResult) →
-    may_end left ≡ true → MayLeave site → IsCame c → block_of leaf ≡ block_by c →
-    HasRest bytes name left leaf site row [] c
-rest-none bytes name left leaf site row c ends leave is block = record {
+    may_end left ≡ true → MayLeave site → ShutsAs c (block_of leaf) → HasRest bytes name left leaf site row [] c
+rest-none bytes name left leaf site row c ends leave shuts = record {
   to = leaf;
   framed = tt;
   further = (ends, refl, leave);
-  came = is;
-  block = block;
+  shuts = shuts;
   fills = λ full ys. refl;
   same = refl;
 }
@@ -167,8 +147,7 @@ rest-more bytes name left x after leaf to site end row next rows c q at ending f
     rest.framed,
   );
   further = (q, at, ending, front, subst TakesPrefixes (sym e) takes, on, one, rest.further);
-  came = rest.came;
-  block = rest.block;
+  shuts = rest.shuts;
   fills = λ full.
       leads-append (in_leaf full) (in_leaf (not (is_bare next.front) || not (is_bare line.parts)))
       (in_leaf (full_behind full (next ∷ rows))) (ended ++ next.front ++ but_ends next.inside)

@@ -1,23 +1,22 @@
 -- A leaf whose lines all have a begin and an end: its first line and its further lines, joined.
-use Rattle.std.proofs.Common.{◌≡◌, ℕ, Bool, true, false, not, List, [], ◌∷◌, ◌++◌, refl, sym, ◌∙◌, subst, subst₂}
+use Rattle.std.proofs.Common.{◌≡◌, ℕ, Bool, true, false, not, List, [], ◌∷◌, ◌++◌, refl, sym, ◌∙◌, subst}
 use Rattle.std.specs.Prelude.{Some}
 use Rattle.md_engine.specs.declared.event.Event.{Event}
 use Rattle.md_engine.specs.declared.event.Name.{Name}
 use Rattle.md_engine.specs.declared.event.Name.TheVariants as n
 use Rattle.md_meaning.specs.Leaves.{LeafResult}
-use Rattle.md_meaning.specs.Tree.{Block}
 use Rattle.md_outline.specs.LinesStand.{HasLines, begun_site}
 use Rattle.md_seam.specs.Events.Endings.{endings_stand_from}
 use Rattle.md_seam.specs.Events.Nested.{enter, exit}
 use Rattle.md_seam.specs.Events.Places.{first_point}
-use Rattle.md_seam.specs.Events.Spelled.{LeafKind, fresh}
+use Rattle.md_seam.specs.Events.Spelled.{LeafKind, block_of, fresh}
 use Rattle.md_seam.proofs.EndingsLemmas.{AreOthers, Leads, Stays, in_leaf, leads-append, others-lead}
 use Rattle.md_frame.specs.Row.{Row, last_row, span_by}
 use Rattle.md_frame.proofs.LeafFacts.{LeafFacts}
 use Rattle.md_frame.proofs.LeafLines.Framed.{framed_by, framed_rest, span-framed}
 use Rattle.md_frame.proofs.LeafLines.Leaf.{IsLeafName}
 use Rattle.md_frame.proofs.LeafLines.Lines.{SpanFirst, span-facts, span-inside}
-use Rattle.md_frame.proofs.LeafLines.Rest.{HasRest, block_by, full-last, full_behind, row_done, row_unread}
+use Rattle.md_frame.proofs.LeafLines.Rest.{HasRest, full-last, full_behind, row_done, row_unread}
 
 -- Where events lead that stay in a leaf is told by them alone.
 pub stays-same : (es : List Event) (h : Stays es) (full : Bool) → Leads (in_leaf true) (in_leaf full) es →
@@ -26,7 +25,7 @@ stays-same es h full leads = told (h true).0 full (sym ((h true).1 ending) ∙ l
   where
     -- behind a leaf stands its ending, if its last line is filled
     ending : List Event
-    ending = exit n.CodeFenced first_point ∷ enter n.LineEnding first_point ∷ []
+    ending = exit n.Paragraph first_point ∷ enter n.LineEnding first_point ∷ []
 
     told : (a b : Bool) → endings_stand_from (in_leaf a) ending ≡ endings_stand_from (in_leaf b) ending → a ≡ b
     told true true e = refl
@@ -38,15 +37,15 @@ stays-same es h full leads = told (h true).0 full (sym ((h true).1 ending) ∙ l
 pub rest-facts : (bytes : List ℕ) (name : Name) (kind : LeafKind) (row : Row) (rows : List Row) (c : LeafResult) →
     (named : IsLeafName name kind) → HasLines kind →
     (first : SpanFirst bytes row_unread (row_done bytes) name named.begin (fresh kind) (begun_site kind) row) →
-    HasRest bytes name first.left first.leaf first.site row rows c → AreOthers first.unread_inside →
+    (rest : HasRest bytes name first.left first.leaf first.site row rows c) → AreOthers first.unread_inside →
     AreOthers first.inside → not row.empty ≡ true →
-    LeafFacts bytes (Some (block_by c)) (not (last_row row rows).empty) row.first (last_row row rows).end
+    LeafFacts bytes (Some (block_of rest.to)) (not (last_row row rows).empty) row.first (last_row row rows).end
     (span_by row_unread row rows) (framed_by (row_done bytes) row rows)
 rest-facts bytes name kind row rows c named lined first rest unread_others others some =
-    subst₂
-    (λ (b : Block) (joined : List Event).
-    LeafFacts bytes (Some b) full row.first (last_row row rows).end joined (framed_by (row_done bytes) row rows))
-    rest.block (sym (span-framed row_unread row rows rest.framed))
+    subst
+    (λ (joined : List Event).
+    LeafFacts bytes (Some (block_of rest.to)) full row.first (last_row row rows).end joined
+    (framed_by (row_done bytes) row rows)) (sym (span-framed row_unread row rows rest.framed))
     (span-facts bytes row_unread (row_done bytes) name kind rest.to row rows full named lined first rest.further
     (stays-same (us ++ framed_rest row_unread row rows)
     (span-inside bytes row_unread (row_done bytes) name kind rest.to row rows named first rest.further).unread_stays

@@ -18,7 +18,8 @@ use Rattle.md_seam.specs.Substituted.{wanted}
 use Rattle.md_seam.proofs.EndingsLemmas.{AreOthers, is_other}
 use Rattle.md_seam.proofs.SpelledLemmas.{Roles}
 use Rattle.md_frame.specs.MarkRuns.{Apart, Marks, Run, White, mark_runs}
-use Rattle.md_frame.proofs.ContentFacts.{NoContent, is_told}
+use Rattle.md_frame.proofs.ContentFacts.{NoContent}
+use Rattle.md_frame.proofs.EventNames.{is_told}
 use Rattle.md_frame.proofs.EachEvent.{Each, each-append}
 use Rattle.md_frame.proofs.SpanLemmas.{either}
 

@@ -5,8 +5,8 @@ use Rattle.md_engine.specs.declared.tokenizer.held_leaf.HeldLeaf.TheVariants as 
 use Rattle.md_content.specs.Paragraph.{text_link}
 use Rattle.std.specs.Prelude.{ℕ, List, [], ◌∷◌}
 use Rattle.md_engine.specs.declared.configuration.ParseOptions.{ParseOptions}
-use Rattle.md_meaning.specs.State.{ParagraphLine, Leaf, OpenParagraph, cut, shut_paragraph, texts, then_definitions}
-use Rattle.md_meaning.specs.Tree.{Blocks, Paragraph}
+use Rattle.md_meaning.specs.State.{ParagraphLine, Leaf, OpenParagraph, cut, shut_paragraph, texts}
+use Rattle.md_meaning.specs.Tree.{Paragraph}
 use Rattle.md_engine.specs.declared.tokenizer.held_leaf.OpenText.{OpenText}
 use Rattle.md_link_definitions.specs.Head.{head_columns}
 use Rattle.md_link_definitions.specs.Progress.{progress}
@@ -26,11 +26,7 @@ abbrev pub held_of : Leaf → List ParagraphLine
 held_of (OpenParagraph lines) = lines
 held_of _ = []
 
--- blocks, with the definitions at the front of an open text behind them; and the lines that remain of it
-abbrev pub then_front : ParseOptions → Blocks → Leaf → Blocks
-then_front options bs (OpenParagraph lines) = then_definitions bs (cut options (texts lines)).0
-then_front options bs _ = bs
-
+-- those that remain of it, where what is cut from its front is not counted
 abbrev pub left_of : ParseOptions → Leaf → List (List ℕ)
 left_of options leaf = (cut options (texts (held_of leaf))).1
 
@@ -40,8 +36,8 @@ of_last number [] = 0
 of_last number (k ∷ []) = number k
 of_last number (k ∷ next ∷ ks) = of_last number (next ∷ ks)
 
--- what is kept of an open text of these lines: how far the definitions at its front have come, how many cells its last
--- line has as the head of a table, and the indent of that line
+-- what is kept of an open text of these lines: how far what is cut from its front has come, and what of its last line a
+-- line behind it may ask
 abbrev pub open_lines : List ParagraphLine → OpenText
 open_lines lines = record {
   progress = progress (texts lines);

@@ -15,6 +15,7 @@ use Rattle.md_meaning.specs.Rest.{Rest, has_small_indent, trim_start}
 use Rattle.md_frame.specs.RestLine.{rest_line}
 use Rattle.md_leaf_rooms.specs.Leaf.HeadingAtx.{heading_leaf, read_title}
 use Rattle.md_frame.proofs.FillFacts.{fill-around}
+use Rattle.md_leaf_rooms.proofs.HeadingAtx.Outside.{heading_resolver}
 use Rattle.md_leaf_rooms.proofs.HeadingAtx.Between.{heading-between}
 use Rattle.md_leaf_rooms.proofs.HeadingAtx.Cells.{heading-adds, heading-fits}
 use Rattle.md_leaf_rooms.proofs.HeadingAtx.Endings.{read-ending, unread-ending}
@@ -95,7 +96,7 @@ heading-facts options bytes r p q starts is = record {
     begins = line-begins options r starts
 
 -- All that the frame asks of headings.
-pub heading-laws : LeafLaws heading_leaf
+pub heading-laws : LeafLaws heading_resolver heading_leaf
 heading-laws = record {
   looked = λ options on. trial-looked options;
   took = λ options cells h is few. trial-took options cells h is;

@@ -3,6 +3,7 @@
 use Rattle.std.proofs.Common.{◌≡◌, ℕ, ◌+◌, Bool, true, false, cond, List, [], ◌∷◌, ◌++◌, drop, length, refl, take}
 use Rattle.std.specs.Prelude.{Option, Some, None}
 use Rattle.md_engine.specs.declared.event.Event.{Event}
+use Rattle.md_engine.specs.declared.event.Name.{Name}
 use Rattle.md_engine.specs.declared.event.Name.TheVariants as n
 use Rattle.md_engine.specs.declared.event.Point.{Point}
 use Rattle.md_leaves.specs.HeadingRule.{Apart, Hashes, Run, Text as TextRun, White, begun, closes, goes_on, opens}
@@ -12,7 +13,8 @@ use Rattle.md_seam.specs.declared.inline.Chunk.{Chunk}
 use Rattle.md_seam.specs.Events.Nested.{exit}
 use Rattle.md_seam.specs.Events.Places.{past_byte, past_text}
 use Rattle.md_leaf_rooms.specs.Leaf.HeadingAtx.{heading_around, heading_leaf}
-use Rattle.md_frame.proofs.ClosedFacts.{IsClosed, IsUnset, closed-around, heading-block}
+use Rattle.md_order.specs.Alone.{InHeading, closed_by, is_set}
+use Rattle.md_frame.proofs.ClosedFacts.{IsBlock, IsClosed, IsUnset, closed-around, stays-open}
 use Rattle.md_frame.proofs.EachEvent.{Each, each-append}
 use Rattle.md_leaf_rooms.proofs.HeadingAtx.Places.{text_end}
 use Rattle.md_frame.proofs.SpannedFacts.{AreUnspanned, IsUnspanned}
@@ -105,7 +107,22 @@ heading-unturned line p =
       chunk = λ e is. rw is refl;
     }) line p)
 
--- None in it is of another block.
+-- None in it is of another block, and no other ends it.
+
+unset-heading : (name : Name) → is_set name ≡ false → closed_by InHeading name ≡ false
+unset-heading n.HeadingAtx h = cc
+unset-heading _ h = refl
+
+heading-block : IsBlock n.HeadingAtx
+heading-block = record {
+  inside = InHeading;
+  opens = refl;
+  stands = λ e h goes. h;
+  stays = λ e h. stays-open InHeading e (unset-heading e.name h);
+  ends = λ q goes. cc;
+  shuts = λ q. refl;
+}
+
 pub heading-alone : (line : List ℕ) (p : Point) → IsClosed (heading_around line p (line_runs Apart line p))
 heading-alone line p =
     closed-around n.HeadingAtx heading-block p (past_text line p) (line_runs Apart line p)

@@ -9,8 +9,8 @@ use Rattle.md_leaves.specs.HeadingSetext.{is_marker}
 use Rattle.md_leaves.specs.HeadingSetextRule.{is_run, is_underline}
 use Rattle.md_seam.proofs.RestLines.{count-none, trim-white}
 use Rattle.md_leaf_rooms.proofs.HeadingSetext.Kinds.{run-one, run-other, underline-first, underline-mark}
-use Rattle.md_frame.proofs.MarkRuns.Cells.{IsMark}
-use Rattle.md_frame.proofs.MarkRuns.Line.{HasRun}
+use Rattle.md_leaf_rooms.proofs.MarkRuns.Cells.{IsMark}
+use Rattle.md_leaf_rooms.proofs.MarkRuns.Line.{HasRun}
 
 -- what is left of a run: markers, and whitespace behind them
 record RunAhead (m : ℕ) (bs : List ℕ) : Type 0 where

@@ -23,7 +23,7 @@ use Rattle.md_seam.proofs.FeedLines.{Stops, all-spread, byte-one, bytes_of, spre
 use Rattle.md_seam.proofs.RestCells.{RestAt, rest_cells}
 use Rattle.md_seam.proofs.RestLines.{count-none, count-one}
 use Rattle.md_leaf_rooms.specs.Leaf.HeadingSetext.{setext_leaf}
-use Rattle.md_frame.proofs.MarkRuns.Cells.{IsMark, spread-first}
+use Rattle.md_leaf_rooms.proofs.MarkRuns.Cells.{IsMark, spread-first}
 use Rattle.md_frame.proofs.MarkRuns.Fits.{Tells, line-fits}
 use Rattle.md_engine.specs.declared.tokenizer.held_leaf.HeldLeaf.TheVariants as held_leaf
 
@@ -125,8 +125,8 @@ setext-fits options on said text behind r p stop at h k short =
     sym
     (and_assoc (may_turn options on) options.constructs.heading_setext
     (is_underline (line_bytes (white_rest (small_indent options) (rest_cells said r p ++ stop)))))
-    ∙ line-fits is_underline underline-tells (may_turn options on && options.constructs.heading_setext) options said text behind
-    r p stop at h k short
+    ∙ line-fits is_underline underline-tells (may_turn options on && options.constructs.heading_setext) options said
+    text behind r p stop at h k short
 
 -- What is known where it starts.
 
@@ -149,7 +149,8 @@ pub setext-starts : (options : ParseOptions) (on : HeldLeaf) (r : Rest) → sete
 setext-starts options on r starts =
     let all = and_parts (may_turn options on && options.constructs.heading_setext && has_small_indent options r)
     (is_underline (trim_start r.bytes)) starts in
-    let indented = and_parts (may_turn options on && options.constructs.heading_setext) (has_small_indent options r) all.0 in
+    let indented = and_parts (may_turn options on && options.constructs.heading_setext) (has_small_indent options r)
+    all.0 in
     let met = and_parts (may_turn options on) options.constructs.heading_setext indented.0 in
     record {
       text = turn-text options on met.0;

@@ -9,6 +9,7 @@ use Rattle.md_leaf_rooms.proofs.HeadingSetext.Kinds.{setext-fits, setext-starts}
 use Rattle.md_leaf_rooms.proofs.HeadingSetext.Runs.{setext-adds, setext-no_content}
 use Rattle.md_leaf_rooms.proofs.HeadingSetext.Trial.{setext-looked, setext-refused, setext-shrinks, setext-took}
 use Rattle.md_frame.proofs.LeafLaws.{LeafLaws}
+use Rattle.md_frame.proofs.OutsideFacts.{LineResolver}
 
 -- a line may go on a text
 text-goes_on : (on : HeldLeaf) → is_text on ≡ true → may_go_on on ≡ true
@@ -21,8 +22,8 @@ text-alone (held_leaf.Text at) e lines = let bad : false ≡ true = lines refl i
 text-alone _ e lines = cc
 
 -- All that the frame asks of an underline: it goes on the text that it meets, and leaves no leaf open.
-pub setext-laws : LeafLaws setext_leaf
-setext-laws = record {
+pub setext-laws : (resolver : LineResolver) → LeafLaws resolver setext_leaf
+setext-laws resolver = record {
   looked = setext-looked;
   meets = λ options on r starts further. text-goes_on on further;
   took = λ options cells h is few. setext-took options cells h is;

@@ -8,6 +8,7 @@ use Rattle.std.proofs.lemmas.Bool.{or_left, or_right}
 use Rattle.std.proofs.lemmas.Bool.Decides.{nat_tests}
 use Rattle.md_engine.specs.declared.configuration.ParseOptions.{ParseOptions}
 use Rattle.md_engine.specs.declared.event.Event.{Event}
+use Rattle.md_engine.specs.declared.event.Name.{Name}
 use Rattle.md_engine.specs.declared.event.Name.TheVariants as n
 use Rattle.md_engine.specs.declared.event.Point.{Point}
 use Rattle.md_engine.specs.declared.tokenizer.held_leaf.HeldLeaf.{HeldLeaf}
@@ -36,15 +37,16 @@ use Rattle.md_leaf_rooms.specs.Leaf.HeadingSetext.{setext_leaf, underline_line}
 use Rattle.md_frame.specs.MarkRuns.{Apart, mark_runs}
 use Rattle.md_frame.specs.Row.{blank_line}
 use Rattle.md_frame.proofs.BetweenFacts.{AreBetween, around-between, is_low, low-between}
-use Rattle.md_frame.proofs.ClosedFacts.{IsClosed, IsUnset, closed-around, underline-block}
+use Rattle.md_order.specs.Alone.{InUnderline, closed_by, is_set}
+use Rattle.md_frame.proofs.ClosedFacts.{IsBlock, IsClosed, IsUnset, closed-around, stays-open}
 use Rattle.md_frame.proofs.EachEvent.{Each}
 use Rattle.md_leaf_rooms.proofs.HeadingSetext.Bytes.{underline-dark, underline-run}
 use Rattle.md_leaf_rooms.proofs.HeadingSetext.Kinds.{setext-starts, underline-first}
 use Rattle.md_frame.proofs.LeafFacts.{LineAt}
 use Rattle.md_frame.proofs.LineTexts.{line-stands}
 use Rattle.md_frame.proofs.MarkRuns.Each.{Holds, each-others, each-roles, line-holds, runs-hold}
-use Rattle.md_frame.proofs.MarkRuns.Line.{HasRun, run-first, run-low, run-marks, run-text, run-whole}
-use Rattle.md_frame.proofs.MarkRuns.Line.{run_parts, runs-are}
+use Rattle.md_leaf_rooms.proofs.MarkRuns.Line.{HasRun, run-first, run-low, run-marks, run-text, run-whole}
+use Rattle.md_leaf_rooms.proofs.MarkRuns.Line.{run_parts, runs-are}
 use Rattle.md_frame.proofs.OutsideFacts.{AreOutside, IsOutside}
 use Rattle.md_frame.proofs.PartFacts.{IsNoPart, IsUnlinked, NoLinks, NoParts}
 use Rattle.md_frame.proofs.PartedFacts.{PrefixesAtLineStart, around-sits, clear, quiets-still, sits-append, sits-still}
@@ -120,7 +122,22 @@ pub underline-unspanned : (line : List ℕ) (p : Point) → AreUnspanned (underl
 underline-unspanned line p =
     underline-each IsUnspanned (λ q. refl, λ q. refl) (λ q. refl, λ q. refl) (λ q. refl, λ q. refl) line p
 
--- It holds no other block,
+-- It holds no other block, and no other ends it,
+
+unset-underline : (name : Name) → is_set name ≡ false → closed_by InUnderline name ≡ false
+unset-underline n.HeadingSetextUnderline h = cc
+unset-underline _ h = refl
+
+underline-block : IsBlock n.HeadingSetextUnderline
+underline-block = record {
+  inside = InUnderline;
+  opens = refl;
+  stands = λ e h goes. h;
+  stays = λ e h. stays-open InUnderline e (unset-underline e.name h);
+  ends = λ q goes. cc;
+  shuts = λ q. refl;
+}
+
 pub underline-alone : (line : List ℕ) (p : Point) → IsClosed (underline_line line p)
 underline-alone line p =
     closed-around n.HeadingSetextUnderline underline-block p (past_text line p) (underline_parts line p)

@@ -21,7 +21,7 @@ use Rattle.md_leaf_rooms.specs.Leaf.HeadingSetext.{setext_leaf}
 use Rattle.md_frame.proofs.ContentFacts.{NoContent}
 use Rattle.md_frame.proofs.EachEvent.{Each}
 use Rattle.md_leaf_rooms.proofs.HeadingSetext.Kinds.{Underlines, setext-starts, underline-mark}
-use Rattle.md_frame.proofs.MarkRuns.Cells.{line-adds}
+use Rattle.md_leaf_rooms.proofs.MarkRuns.Cells.{line-adds}
 use Rattle.md_frame.proofs.MarkRuns.Each.{Holds, IsNoContent, cell_line-holds, each-no_content}
 
 -- the whole underline
@@ -43,7 +43,8 @@ setext-each : (P : Event → Type 0) → Holds P n.HeadingSetextUnderline → Ho
 setext-each P around_it space mark options on cells p =
     let left : List Cell = white_rest (small_indent options) cells in
     cell_line-holds P n.HeadingSetextUnderline n.HeadingSetextUnderlineSequence around_it space mark
-    (begins_white cells) (first_cell left) (line_cells left) p (white_end (small_indent options) cells p) (line_end cells p)
+    (begins_white cells) (first_cell left) (line_cells left) p (white_end (small_indent options) cells p)
+    (line_end cells p)
 
 -- no content stands in it
 pub setext-no_content : (wants : Content → Bool) (options : ParseOptions) (on : HeldLeaf) (cells : List Cell)

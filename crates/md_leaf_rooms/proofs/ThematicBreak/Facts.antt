@@ -28,14 +28,13 @@ use Rattle.md_frame.specs.RestLine.{rest_line}
 use Rattle.md_leaf_rooms.specs.Leaf.ThematicBreak.{break_line, first_byte}
 use Rattle.md_leaf_rooms.specs.Leaf.ThematicBreak.{is_ruled}
 use Rattle.md_frame.specs.MarkRuns.{Apart, Marks, Run, White, mark_runs}
-use Rattle.md_frame.specs.Resolving.{resolved}
 use Rattle.md_frame.proofs.BetweenFacts.{all-more, around-between, is_low, low-between, trim-low, white-low}
 use Rattle.md_frame.proofs.FillFacts.{fill-around, fill-same}
 use Rattle.md_frame.proofs.LeafFacts.{LeafFacts, LineAt}
 use Rattle.md_frame.proofs.LeafStands.{around-unlisted, leaf-stands, quiets-parts}
 use Rattle.md_frame.proofs.LineTexts.{line-stands}
 use Rattle.md_frame.proofs.MarkRuns.Each.{Holds, each-others, each-roles, line-holds, runs-hold}
-use Rattle.md_frame.proofs.OutsideFacts.{IsOutside, resolved-outside}
+use Rattle.md_frame.proofs.OutsideFacts.{IsOutside, LineResolver}
 use Rattle.md_frame.proofs.PartFacts.{NoLinks, NoParts, quiet-no_parts, IsUnlinked}
 use Rattle.md_frame.proofs.PartedFacts.{around-sits, quiets-still, sits-still}
 use Rattle.md_frame.proofs.PartsStand.{stands-around, stands-outside}
@@ -84,11 +83,11 @@ runs-others m bs p =
     each-others (marks_of Apart m bs p)
     (parts-hold (λ (e : Event). is_other (on_line e.name) ≡ true) (λ q. refl, λ q. refl) (λ q. refl, λ q. refl) m bs p)
 
--- none is a resolver's, so resolvers pass the break,
-pub break-set : (line : List ℕ) (p : Point) (es : List Event) →
-    resolved (break_line line p ++ es) ≡ break_line line p ++ resolved es
-break-set line p es =
-    resolved-outside (break_line line p) es
+-- none is a resolver's, so the resolver passes the break,
+pub break-set : (resolver : LineResolver) (line : List ℕ) (p : Point) (es : List Event) →
+    resolver.resolved (break_line line p ++ es) ≡ break_line line p ++ resolver.resolved es
+break-set resolver line p es =
+    resolver.passes (break_line line p) es
     (break-holds IsOutside (λ q. refl, λ q. refl) (λ q. refl, λ q. refl) (λ q. refl, λ q. refl) line p)
 
 -- and so does the walk that joins the lines of leaves of several
@@ -324,7 +323,8 @@ break-facts options bytes r p q starts at =
           (low-between bytes line p q inside_of at.text at.size
           (trim-low line (rule-low (trim_start line) rule)) nested.1.0 nested.1.1 end);
       parted =
-          around-sits bytes n.ThematicBreak p q inside_of tt (sits-still bytes inside_of (quiets-still inside_of quiet));
+          around-sits bytes n.ThematicBreak p q inside_of tt
+          (sits-still bytes inside_of (quiets-still inside_of quiet));
       plain =
           λ whole. plain-around bytes n.ThematicBreak p q inside_of refl refl refl (plain-quiet bytes inside_of quiet);
       reads = λ r none shut. read-break bytes r p q inside_of shut quiet;

@@ -19,7 +19,7 @@ use Rattle.md_engine.specs.declared.configuration.ParseOptions.{ParseOptions}
 use Rattle.md_engine.specs.declared.tokenizer.held_leaf.HeldLeaf.{HeldLeaf}
 use Rattle.md_leaf_rooms.proofs.HeadingSetext.Kinds.{underline-tells}
 use Rattle.md_leaf_rooms.specs.Leaf.ThematicBreak.{break_leaf, first_byte}
-use Rattle.md_frame.proofs.MarkRuns.Cells.{IsMark}
+use Rattle.md_leaf_rooms.proofs.MarkRuns.Cells.{IsMark}
 use Rattle.md_frame.proofs.MarkRuns.Fits.{Tells, line-fits}
 use Rattle.md_leaves.specs.HeadingSetext.{turns_nothing}
 use Rattle.md_leaves.specs.HeadingSetextRule.{is_underline}

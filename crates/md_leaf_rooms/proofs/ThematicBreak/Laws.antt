@@ -6,6 +6,7 @@ use Rattle.std.specs.Prelude.{◌&&◌, not}
 use Rattle.md_frame.specs.RestLine.{rest_line}
 use Rattle.md_leaf_rooms.specs.Leaf.ThematicBreak.{break_leaf}
 use Rattle.md_frame.proofs.LeafLaws.{LeafLaws}
+use Rattle.md_frame.proofs.OutsideFacts.{LineResolver}
 use Rattle.md_leaf_rooms.proofs.ThematicBreak.Facts.{break-facts, break-set, break-unspanned}
 use Rattle.md_leaf_rooms.proofs.ThematicBreak.Kinds.{break-fits}
 use Rattle.md_leaf_rooms.proofs.ThematicBreak.Runs.{break-adds, break-no_content}
@@ -24,8 +25,8 @@ ruled : (options : ParseOptions) (on : HeldLeaf) (r : Rest) → break_leaf.start
 ruled options on r starts =
     (and_parts (is_ruled options r) (not (turns_nothing options on && is_underline (trim_start r.bytes))) starts).0
 
-pub break-laws : LeafLaws break_leaf
-break-laws = record {
+pub break-laws : (resolver : LineResolver) → LeafLaws resolver break_leaf
+break-laws resolver = record {
   looked = break-looked;
   took = λ options cells h is few. break-took options cells h is;
   refused = λ options cells h asked. break-refused options cells h;
@@ -45,6 +46,6 @@ break-laws = record {
   unspanned = λ ends options on r p starts. break-unspanned (rest_line r) p;
   unjoined = λ ends options on r p starts. break-unspanned (rest_line r) p;
   alone = λ ends options on r p starts. break-alone (rest_line r) p;
-  set = λ ends options on r p es starts. break-set (rest_line r) p es;
+  set = λ ends options on r p es starts. break-set resolver (rest_line r) p es;
   facts = λ ends options on bytes r p q starts. break-facts options bytes r p q (ruled options on r starts);
 }

@@ -20,7 +20,7 @@ use Rattle.md_frame.specs.RestLine.{rest_line}
 use Rattle.md_leaf_rooms.specs.Leaf.ThematicBreak.{break_leaf, first_byte, first_cell}
 use Rattle.md_frame.proofs.ContentFacts.{NoContent}
 use Rattle.md_frame.proofs.EachEvent.{Each}
-use Rattle.md_frame.proofs.MarkRuns.Cells.{line-adds}
+use Rattle.md_leaf_rooms.proofs.MarkRuns.Cells.{line-adds}
 use Rattle.md_frame.proofs.MarkRuns.Each.{Holds, IsNoContent, cell_line-holds, each-no_content}
 use Rattle.md_leaf_rooms.proofs.ThematicBreak.Kinds.{break-mark, rule-first}
 use Rattle.md_leaf_rooms.specs.Leaf.ThematicBreak.{is_ruled}

@@ -1,6 +1,6 @@
 -- The underline of a setext heading (CommonMark 4.3), as a leaf on one line that goes on the text in front of it: with
 -- it that text comes to a heading.
-use Rattle.std.specs.Prelude.{ℕ, true, false, ◌&&◌, List, []}
+use Rattle.std.specs.Prelude.{ℕ, true, false, ◌&&◌, ◌==◌, if◌then◌else◌, List, []}
 use Rattle.md_engine.specs.declared.event.Event.{Event}
 use Rattle.md_engine.specs.declared.event.Name.TheVariants as n
 use Rattle.md_engine.specs.declared.event.Point.{Point}
@@ -13,13 +13,27 @@ use Rattle.md_leaves.specs.HeadingSetextRule.{is_underline, is_underline_line, s
 use Rattle.md_seam.specs.Ahead.{line_end}
 use Rattle.md_seam.specs.Events.Nested.{around}
 use Rattle.md_seam.specs.Events.Places.{past_text}
+use Rattle.md_meaning.specs.Ascii.{equals_sign}
 use Rattle.md_meaning.specs.Leaves.{Finished}
-use Rattle.md_meaning.specs.Rest.{has_small_indent, trim_start}
+use Rattle.md_meaning.specs.Rest.{Rest, has_small_indent, trim_start}
 use Rattle.md_meaning.specs.Texts.{first_byte}
+use Rattle.md_meaning.specs.Tree.{Block, Heading}
 use Rattle.md_frame.specs.Leaf.Paragraph.{left_of}
 use Rattle.md_frame.specs.LineLeaf.{LineLeaf}
 use Rattle.md_frame.specs.MarkRuns.{Apart, mark_runs}
-use Rattle.md_frame.specs.TextLines.{heading_of}
+use Rattle.md_frame.specs.TurnLeaf.{TurnLeaf}
+
+-- the depth of the heading that this line underlines
+abbrev pub depth_of : Rest → ℕ
+depth_of r = if first_byte (trim_start r.bytes) == equals_sign then 1 else 2
+
+-- the heading of these lines
+abbrev pub heading_of : List (List ℕ) → Rest → Block
+heading_of lines r = Heading (depth_of r) lines
+
+-- what it turns the text into
+abbrev pub setext_turn : TurnLeaf
+setext_turn = record { name = n.HeadingSetext; text = n.HeadingSetextText; block = heading_of }
 
 -- an underline on a line that begins at this point
 abbrev pub underline_line : List ℕ → Point → List Event

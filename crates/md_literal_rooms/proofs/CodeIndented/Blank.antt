@@ -25,9 +25,9 @@ use Rattle.md_frame.specs.LineColumns.{lost_line, part_over, past_columns}
 use Rattle.md_literal_rooms.proofs.CodeIndented.Parts.{code-inside}
 use Rattle.md_frame.proofs.LeafFacts.{LeafFacts}
 use Rattle.md_frame.proofs.LeafStands.{between-stand}
-use Rattle.md_frame.proofs.IndentRemoved.Names.{AreInside, lost-inside}
-use Rattle.md_frame.proofs.IndentRemoved.Parts.{inside-blocks, inside-filled, inside-others, inside-stands}
-use Rattle.md_frame.proofs.IndentRemoved.Parts.{inside-unlisted}
+use Rattle.md_literal_rooms.proofs.IndentRemoved.Names.{AreInside, lost-inside}
+use Rattle.md_literal_rooms.proofs.IndentRemoved.Parts.{inside-blocks, inside-filled, inside-others, inside-stands}
+use Rattle.md_literal_rooms.proofs.IndentRemoved.Parts.{inside-unlisted}
 use Rattle.md_frame.proofs.IndentRemoved.Placed.{Placed, lost-placed}
 use Rattle.md_frame.proofs.IndentRemoved.Places.{FurtherAt}
 use Rattle.md_frame.proofs.IndentRemoved.Shown.{lost-between, lost-sits, white-sits}
@@ -46,7 +46,8 @@ line_by name white line p at q = cond white (pair n.SpaceOrTab p at) [] ++ part_
 abbrev pub blank_behind : Rest → Point → Point → List Event
 blank_behind r p q = lost_line n.SpaceOrTab 4 r p q
 
--- It has the name that its place gives it: between two lines of code it stays as it is, and behind them it is whitespace.
+-- It has the name that its place gives it: between two lines of code it stays as it is, and behind them it is
+-- whitespace.
 pub blank-placed : (place : Place) (r : Rest) (p q : Point) →
     map (renamed place) (code_parts r p q) ≡ lost_line (name_at place n.CodeFlowChunk) 4 r p q
 blank-placed place r p q =

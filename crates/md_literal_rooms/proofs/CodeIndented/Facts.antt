@@ -19,8 +19,8 @@ use Rattle.md_literal_rooms.proofs.CodeIndented.Cells.{code-parts}
 use Rattle.md_literal_rooms.proofs.CodeIndented.Grammar.{behind_line, code_begun, first-leads, in_line, line-leads}
 use Rattle.md_literal_rooms.proofs.CodeIndented.Grammar.{line_left}
 use Rattle.md_literal_rooms.proofs.CodeIndented.Reads.{parts-read}
-use Rattle.md_frame.proofs.IndentRemoved.Sites.{is_told_of, line_site}
-use Rattle.md_frame.proofs.IndentRemoved.Facts.{IsLineName, line-placed, lost-facts}
+use Rattle.md_literal_rooms.proofs.IndentRemoved.Sites.{is_told_of, line_site}
+use Rattle.md_literal_rooms.proofs.IndentRemoved.Facts.{IsLineName, line-placed, lost-facts}
 use Rattle.md_frame.proofs.IndentRemoved.Placed.{Placed, in-line}
 use Rattle.md_frame.proofs.IndentRemoved.Places.{FurtherAt}
 use Rattle.md_frame.proofs.LeafLines.Inside.{InsideFacts, ReadsLeaf}

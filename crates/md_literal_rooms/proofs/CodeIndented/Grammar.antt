@@ -9,7 +9,7 @@ use Rattle.md_seam.proofs.GrammarLemmas.{Leads}
 use Rattle.md_frame.specs.RestLine.{rest_line}
 use Rattle.md_literal_rooms.specs.Leaf.CodeIndented.{code_parts}
 use Rattle.md_frame.proofs.ContainerNames.{TakesPrefixes}
-use Rattle.md_frame.proofs.IndentRemoved.Grammar.{left_over, lost-leads}
+use Rattle.md_literal_rooms.proofs.IndentRemoved.Grammar.{left_over, lost-leads}
 
 -- What is left of code, which has no text parts: at its begin, behind a line with something in it, and where a further
 -- line begins.

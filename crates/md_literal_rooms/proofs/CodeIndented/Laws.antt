@@ -12,10 +12,11 @@ use Rattle.md_literal_rooms.proofs.CodeIndented.Outside.{code_further-no_content
 use Rattle.md_literal_rooms.proofs.CodeIndented.Trial.{code-refused, code-shrinks, code-took}
 use Rattle.md_literal_rooms.proofs.CodeIndented.Trial.{code_further-refused, code_further-shrinks, code_further-took}
 use Rattle.md_frame.proofs.LeafLaws.{LeafLaws}
+use Rattle.md_frame.proofs.OutsideFacts.{LineResolver}
 
 -- All that the frame asks of the line that begins code,
-pub code-laws : LeafLaws code_leaf
-code-laws = record {
+pub code-laws : (resolver : LineResolver) → LeafLaws resolver code_leaf
+code-laws resolver = record {
   looked = code-looked;
   meets = λ options on r starts further. cc;
   took = λ options cells h is few. code-took options cells h is;
@@ -44,8 +45,8 @@ code-lines held_leaf.Code e = refl
 code-lines _ e = cc
 
 -- and of a further line: it goes on the code that it meets.
-pub code_further-laws : LeafLaws code_further
-code_further-laws = record {
+pub code_further-laws : (resolver : LineResolver) → LeafLaws resolver code_further
+code_further-laws resolver = record {
   looked = code_further-looked;
   meets = λ options on r starts further. code-lines on further;
   took = λ options cells h is few. code_further-took options cells h is;

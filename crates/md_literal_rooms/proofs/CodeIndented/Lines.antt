@@ -22,7 +22,7 @@ use Rattle.md_literal_rooms.proofs.CodeIndented.Rows.{AreInCode, as_line, begins
 use Rattle.md_literal_rooms.proofs.CodeIndented.Walk.{lines-fill, lines-further}
 use Rattle.md_frame.proofs.LeafLines.Whole.{stays-same}
 use Rattle.md_frame.proofs.LeafLines.Rest.{row_unread}
-use Rattle.md_frame.proofs.IndentRemoved.Sites.{is_told_of}
+use Rattle.md_literal_rooms.proofs.IndentRemoved.Sites.{is_told_of}
 use Rattle.md_frame.proofs.LeafFacts.{LeafFacts}
 use Rattle.md_frame.proofs.IndentRemoved.Places.{FurtherAt, further-at}
 use Rattle.md_frame.proofs.LeafLines.Bare.{paired-is}

@@ -21,9 +21,10 @@ use Rattle.md_seam.specs.Substituted.{wanted}
 use Rattle.md_literal_rooms.specs.Leaf.CodeIndented.{code_further, code_leaf, code_parts, line_parts}
 use Rattle.md_frame.specs.LineColumns.{rest_of}
 use Rattle.md_literal_rooms.proofs.CodeIndented.Parts.{code-inside}
-use Rattle.md_frame.proofs.ContentFacts.{NoContent, is_told}
+use Rattle.md_frame.proofs.ContentFacts.{NoContent}
+use Rattle.md_frame.proofs.EventNames.{is_told}
 use Rattle.md_frame.proofs.EachEvent.{each-append}
-use Rattle.md_frame.proofs.IndentRemoved.Names.{AreInside, More, either-part, inside-lined, inside-no_content}
+use Rattle.md_literal_rooms.proofs.IndentRemoved.Names.{AreInside, More, either-part, inside-lined, inside-no_content}
 use Rattle.md_frame.proofs.LinedFacts.{AreLined, IsLined}
 
 -- On a blank line whitespace stands, and a part of a leaf.

@@ -10,7 +10,7 @@ use Rattle.md_frame.specs.RestLine.{rest_line}
 use Rattle.md_literal_rooms.specs.Leaf.CodeIndented.{code_events, code_parts, further_events, further_parts, line_parts}
 use Rattle.md_frame.specs.LineColumns.{rest_of}
 use Rattle.md_frame.proofs.IndentRemoved.Columns.{rest-again}
-use Rattle.md_frame.proofs.IndentRemoved.Names.{AreInside, lost-inside}
+use Rattle.md_literal_rooms.proofs.IndentRemoved.Names.{AreInside, lost-inside}
 use Rattle.md_frame.proofs.IndentRemoved.Places.{FurtherAt, further-rest}
 
 -- They are whitespace, and a part of a leaf.

@@ -9,7 +9,8 @@ use Rattle.md_meaning.specs.Tree.{Line}
 use Rattle.md_seam.specs.Events.Spelled.{AsLine, CodeLeaf, OpenLeaf, Reading, empty_line, joined, noted}
 use Rattle.md_literal_rooms.specs.Leaf.CodeIndented.{code_parts}
 use Rattle.md_frame.proofs.IndentRemoved.Places.{FurtherAt}
-use Rattle.md_frame.proofs.IndentRemoved.Reads.{empty-joined, lost-read, on-last}
+use Rattle.md_frame.proofs.IndentRemoved.Reads.{empty-joined, on-last}
+use Rattle.md_literal_rooms.proofs.IndentRemoved.Reads.{lost-read}
 use Rattle.md_frame.proofs.LeafLines.Inside.{ReadsLeaf}
 
 -- an empty line becomes the one that is told

@@ -1,8 +1,8 @@
 -- The rows of indented code behind its first line: further lines of it, and blank ones.
 --
--- A blank line stands bare, as it may stand behind the code. Between two lines of code it is one of them, so it is taken
--- for a further line: with a begin and an end, which go when the lines are joined. Behind the last line of code it is
--- whitespace.
+-- A blank line stands bare, as it may stand behind the code. Between two lines of code it is one of them, so it is
+-- taken for a further line: with a begin and an end, which go when the lines are joined. Behind the last line of code
+-- it is whitespace.
 use Rattle.std.proofs.Common.{◌≡◌, ℕ, ◌<◌, Bool, true, false, cond, ◌||◌, not, List, [], ◌∷◌}
 use Rattle.std.proofs.Common.{◌++◌, length, drop, map, refl, sym, ◌∙◌, ap, subst₂, arith}
 use Rattle.std.specs.Prelude.{◌==◌, ◌&&◌, None, Some}
@@ -27,7 +27,7 @@ use Rattle.md_frame.proofs.FrontFacts.{LinePrefix}
 use Rattle.md_frame.proofs.FrontPlaces.{fronts-grow}
 use Rattle.md_frame.proofs.LeafFacts.{LeafFacts}
 use Rattle.md_frame.proofs.LineTexts.{some-text, text-behind}
-use Rattle.md_frame.proofs.IndentRemoved.Parts.{inside-lines}
+use Rattle.md_literal_rooms.proofs.IndentRemoved.Parts.{inside-lines}
 use Rattle.md_frame.proofs.IndentRemoved.Places.{FurtherAt, further-at, further-rest}
 use Rattle.md_frame.proofs.IndentRemoved.Shown.{left-clear}
 use Rattle.md_seam.proofs.FeedLines.{IsEnding}

@@ -1,5 +1,6 @@
 -- The laws of indented code with all its lines, joined.
-use Rattle.std.proofs.Common.{◌≡◌, ◌⊎◌, inl, inr, ℕ, Bool, true, false, cond, ◌||◌, ◌&&◌, not, List, [], ◌∷◌, ◌++◌, refl}
+use Rattle.std.proofs.Common.{◌≡◌, ◌⊎◌, inl, inr, ℕ, Bool, true, false, cond, ◌||◌, ◌&&◌, not, List, [], ◌∷◌, ◌++◌}
+use Rattle.std.proofs.Common.{refl}
 use Rattle.std.proofs.Common.{sym, ◌∙◌, ap, subst, subst₂}
 use Rattle.std.specs.Prelude.{◌==◌, Some}
 use Rattle.md_engine.specs.declared.configuration.ParseOptions.{ParseOptions}
@@ -25,7 +26,7 @@ use Rattle.md_literal_rooms.proofs.CodeIndented.Split.{AreSplit, rows-split, spl
 use Rattle.md_frame.proofs.LeafLines.Rest.{row_unread}
 use Rattle.md_frame.proofs.FillFacts.{filled-read}
 use Rattle.md_frame.proofs.LeafFacts.{LeafFacts}
-use Rattle.md_frame.proofs.IndentRemoved.Parts.{inside-lines}
+use Rattle.md_literal_rooms.proofs.IndentRemoved.Parts.{inside-lines}
 use Rattle.md_frame.proofs.IndentRemoved.Places.{further-at}
 use Rattle.md_frame.proofs.LeafLines.Bare.{inner, outer, outer-last, span-split}
 use Rattle.md_frame.proofs.LeafLines.Behind.{rows-behind}

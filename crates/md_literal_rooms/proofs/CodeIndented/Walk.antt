@@ -25,14 +25,15 @@ use Rattle.md_literal_rooms.proofs.CodeIndented.Cells.{over-some}
 use Rattle.md_literal_rooms.proofs.CodeIndented.Facts.{code_site, line-facts, parts-placed}
 use Rattle.md_literal_rooms.proofs.CodeIndented.Grammar.{in_line, line-ending, line-ends, line-takes, line_left}
 use Rattle.md_literal_rooms.proofs.CodeIndented.Parts.{code-inside}
-use Rattle.md_literal_rooms.proofs.CodeIndented.Rows.{AreInCode, InCode, as-line, as_line, goes-on, line_in, lines_behind}
+use Rattle.md_literal_rooms.proofs.CodeIndented.Rows.{AreInCode, InCode, as-line, as_line, goes-on, line_in}
+use Rattle.md_literal_rooms.proofs.CodeIndented.Rows.{lines_behind}
 use Rattle.md_frame.proofs.ContainerNames.{TakesPrefixes}
 use Rattle.md_frame.proofs.LeafLines.Rest.{others-fill}
-use Rattle.md_frame.proofs.IndentRemoved.Sites.{ended-goes, is_told_of, line-leaves, line-on, line_site}
+use Rattle.md_literal_rooms.proofs.IndentRemoved.Sites.{ended-goes, is_told_of, line-leaves, line-on, line_site}
 use Rattle.md_frame.proofs.FrontLemmas.{fronts-balanced}
 use Rattle.md_frame.proofs.FrontPlaces.{fronts-grow}
 use Rattle.md_frame.proofs.FrontStands.{fronts-others}
-use Rattle.md_frame.proofs.IndentRemoved.Parts.{inside-others}
+use Rattle.md_literal_rooms.proofs.IndentRemoved.Parts.{inside-others}
 use Rattle.md_frame.proofs.IndentRemoved.Places.{FurtherAt, further-rest}
 use Rattle.md_frame.proofs.IndentRemoved.Shown.{left-clear}
 use Rattle.md_frame.proofs.PrefixFacts.{is_bare}

@@ -7,10 +7,11 @@ use Rattle.md_literal_rooms.proofs.Fence.Cells.{fence-fits, fence-keeps}
 use Rattle.md_literal_rooms.proofs.Fence.Outside.{fence-lazy, fence-lined, fence-no_content}
 use Rattle.md_literal_rooms.proofs.Fence.Trial.{fence-looked, fence-took, trial-refused, trial-shrinks}
 use Rattle.md_frame.proofs.LeafLaws.{LeafLaws}
+use Rattle.md_frame.proofs.OutsideFacts.{LineResolver}
 
 -- All that the frame asks of the line that begins fenced code or math: it goes on no leaf, and never ends its block.
-pub fence-laws : LeafLaws fence_leaf
-fence-laws = record {
+pub fence-laws : (resolver : LineResolver) → LeafLaws resolver fence_leaf
+fence-laws resolver = record {
   looked = λ options on. fence-looked options;
   meets = λ options on r starts further. cc;
   took = fence-took;

@@ -41,11 +41,12 @@ use Rattle.md_seam.proofs.RestCells.{past_rest, rest_cells, without_first}
 use Rattle.md_frame.specs.RestLine.{rest_line}
 use Rattle.md_literal_rooms.specs.Leaf.FenceFurther.{chunk_line, closing_line, closing_part, fence_further}
 use Rattle.md_frame.specs.LineColumns.{columns_part}
-use Rattle.md_frame.specs.OpenSpan.{is_fence}
+use Rattle.md_code.specs.Fence.{is_open as is_fence}
 use Rattle.md_literal_rooms.specs.Leaf.FenceFurther.{further_parts}
 use Rattle.md_frame.specs.LineColumns.{next_point, part_over, past_columns}
 use Rattle.md_literal_rooms.specs.Leaf.FenceFurther.{opening_of}
-use Rattle.md_frame.proofs.IndentRemoved.Columns.{columns-end, columns-part, past-line, rest-again}
+use Rattle.md_frame.proofs.IndentRemoved.Columns.{columns-end, past-line, rest-again}
+use Rattle.md_literal_rooms.proofs.IndentRemoved.Columns.{columns-part}
 use Rattle.md_frame.proofs.IndentRemoved.Columns.{first-next, rest}
 use Rattle.md_literal_rooms.proofs.FenceFurther.Trial.{fence-marker, fence-size}
 

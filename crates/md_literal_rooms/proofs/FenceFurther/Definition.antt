@@ -15,7 +15,7 @@ use Rattle.md_meaning.specs.Tree.{Line}
 use Rattle.md_code.specs.Fence.{held_indent, may_begin}
 use Rattle.md_code.proofs.FenceOpened.{marker-may}
 use Rattle.md_frame.specs.HeldLeaf.{kind_of_leaf, left_by}
-use Rattle.md_frame.specs.OpenSpan.{is_fence}
+use Rattle.md_code.specs.Fence.{is_open as is_fence}
 use Rattle.md_literal_rooms.specs.Leaf.FenceFurther.{fence_comes, further_holds, opening_of}
 
 -- what is held of a block behind its opening

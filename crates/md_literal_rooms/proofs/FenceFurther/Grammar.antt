@@ -20,7 +20,7 @@ use Rattle.md_literal_rooms.specs.Leaf.FenceFurther.{opening_of}
 use Rattle.md_frame.specs.LineColumns.{part_over, past_columns}
 use Rattle.md_frame.proofs.ContainerNames.{TakesPrefixes}
 use Rattle.md_literal_rooms.proofs.FenceFurther.Parts.{further-others}
-use Rattle.md_frame.proofs.IndentRemoved.Grammar.{columns-lead, left_over, lost-leads}
+use Rattle.md_literal_rooms.proofs.IndentRemoved.Grammar.{columns-lead, left_over, lost-leads}
 
 -- What is left of a block.
 

@@ -21,7 +21,7 @@ use Rattle.md_seam.proofs.InlineLemmas.{past-index, past_text-append}
 use Rattle.md_frame.specs.RestLine.{rest_line}
 use Rattle.md_literal_rooms.specs.Leaf.FenceFurther.{chunk_line, closing_line, closing_part, further_parts}
 use Rattle.md_frame.specs.LineColumns.{columns_part}
-use Rattle.md_frame.specs.OpenSpan.{is_fence}
+use Rattle.md_code.specs.Fence.{is_open as is_fence}
 use Rattle.md_literal_rooms.specs.Leaf.FenceFurther.{opening_of}
 use Rattle.md_frame.specs.LineColumns.{part_over, past_columns}
 use Rattle.md_frame.proofs.IndentRemoved.Placed.{Placed}

@@ -17,7 +17,7 @@ use Rattle.md_leaves.specs.Further.{further_link}
 use Rattle.md_seam.specs.Events.Nested.{enter_link, exit, pair}
 use Rattle.md_seam.specs.Events.Spelled.{role}
 use Rattle.md_frame.specs.RestLine.{rest_line}
-use Rattle.md_frame.specs.OpenSpan.{is_fence}
+use Rattle.md_code.specs.Fence.{is_open as is_fence}
 use Rattle.md_literal_rooms.specs.Leaf.FenceFurther.{chunk_line, closing_line, fence_further, further_parts}
 use Rattle.md_literal_rooms.specs.Leaf.FenceFurther.{opening_of}
 use Rattle.md_frame.specs.LineColumns.{part_over, past_columns}

@@ -4,7 +4,7 @@ use Rattle.md_engine.specs.declared.tokenizer.held_leaf.HeldLeaf.{HeldLeaf}
 use Rattle.md_engine.specs.declared.tokenizer.held_leaf.HeldLeaf.TheVariants as held_leaf
 use Rattle.md_frame.specs.RestLine.{rest_line}
 use Rattle.md_frame.specs.HeldLeaf.{may_go_on}
-use Rattle.md_frame.specs.OpenSpan.{is_fence}
+use Rattle.md_code.specs.Fence.{is_open as is_fence}
 use Rattle.md_literal_rooms.specs.Leaf.FenceFurther.{fence_further}
 use Rattle.md_literal_rooms.proofs.FenceFurther.Cells.{further-adds, further-fits, further-keeps}
 use Rattle.md_literal_rooms.proofs.FenceFurther.Definition.{further-held}
@@ -12,6 +12,7 @@ use Rattle.md_literal_rooms.proofs.FenceFurther.Names.{further-lined, further-no
 use Rattle.md_literal_rooms.proofs.FenceFurther.Trial.{further-looked, further-not_lazy, further-refused}
 use Rattle.md_literal_rooms.proofs.FenceFurther.Trial.{further-shrinks, further-shut, further-took}
 use Rattle.md_frame.proofs.LeafLaws.{LeafLaws}
+use Rattle.md_frame.proofs.OutsideFacts.{LineResolver}
 
 -- a line may go on a block with a fence
 fence-lines : (on : HeldLeaf) → is_fence on ≡ true → may_go_on on ≡ true
@@ -24,8 +25,8 @@ fence-lines (held_leaf.Html kind) e = refl
 fence-lines held_leaf.Table e = refl
 
 -- All that the frame asks of a further line: it goes on the block that it meets, and does not always end it.
-pub fence_further-laws : LeafLaws fence_further
-fence_further-laws = record {
+pub fence_further-laws : (resolver : LineResolver) → LeafLaws resolver fence_further
+fence_further-laws resolver = record {
   looked = further-looked;
   meets = λ options on r starts further. fence-lines on further;
   took = λ options cells h is few. further-took options cells h is;

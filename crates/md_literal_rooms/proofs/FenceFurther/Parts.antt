@@ -12,7 +12,7 @@ use Rattle.md_seam.proofs.SpelledLemmas.{Roles}
 use Rattle.md_literal_rooms.specs.Leaf.FenceFurther.{further_parts}
 use Rattle.md_literal_rooms.proofs.FenceFurther.Names.{parts-inside}
 use Rattle.md_frame.proofs.FillFacts.{PartsRead}
-use Rattle.md_frame.proofs.IndentRemoved.Parts as part
+use Rattle.md_literal_rooms.proofs.IndentRemoved.Parts as part
 use Rattle.md_frame.proofs.PartsStand.{PartsWhole}
 
 -- they are parts of a leaf

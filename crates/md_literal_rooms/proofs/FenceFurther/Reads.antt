@@ -21,7 +21,8 @@ use Rattle.md_seam.specs.Events.Spelled.{read, role, with_fence, without_last}
 use Rattle.md_seam.proofs.SpelledLemmas.{read-from, read-quiet}
 use Rattle.md_literal_rooms.specs.Leaf.FenceFurther.{chunk_line, closing_line, closing_part, further_parts, opening_of}
 use Rattle.md_frame.specs.LineColumns.{columns_part, part_over, past_columns}
-use Rattle.md_frame.proofs.IndentRemoved.Reads.{columns-quiet, empty-joined, leaf-told, lost-read, on-last}
+use Rattle.md_frame.proofs.IndentRemoved.Reads.{columns-quiet, empty-joined, leaf-told, on-last}
+use Rattle.md_literal_rooms.proofs.IndentRemoved.Reads.{lost-read}
 use Rattle.md_literal_rooms.proofs.FenceFurther.Names.{either-name}
 use Rattle.md_frame.proofs.IndentRemoved.Places.{FurtherAt}
 use Rattle.md_frame.proofs.WhiteQuiet.{white-quiet}

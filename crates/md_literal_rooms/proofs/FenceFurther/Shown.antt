@@ -23,7 +23,7 @@ use Rattle.md_seam.specs.Events.Spelled.{role}
 use Rattle.md_seam.proofs.InlineLemmas.{past-index}
 use Rattle.md_literal_rooms.specs.Leaf.FenceFurther.{chunk_line, closing_line, closing_part, further_parts}
 use Rattle.md_frame.specs.LineColumns.{columns_part}
-use Rattle.md_frame.specs.OpenSpan.{is_fence}
+use Rattle.md_code.specs.Fence.{is_open as is_fence}
 use Rattle.md_literal_rooms.specs.Leaf.FenceFurther.{opening_of}
 use Rattle.md_frame.specs.LineColumns.{part_over, past_columns}
 use Rattle.md_frame.proofs.BetweenFacts.{AreBetween, all-more, between-behind, is_low, low-at, white-between}
@@ -34,7 +34,7 @@ use Rattle.md_frame.proofs.IndentRemoved.Shown.{lost-points, lost-sits, over-poi
 use Rattle.md_frame.proofs.IndentRemoved.Shown.{white-sits}
 use Rattle.md_literal_rooms.proofs.FenceFurther.Inside.{has-sequence}
 use Rattle.md_literal_rooms.proofs.FenceFurther.Names.{either-name, parts-each}
-use Rattle.md_frame.proofs.IndentRemoved.Names.{inside-name, is_inside}
+use Rattle.md_literal_rooms.proofs.IndentRemoved.Names.{inside-name, is_inside}
 use Rattle.md_frame.proofs.IndentRemoved.Places.{FurtherAt, has-left}
 use Rattle.md_literal_rooms.proofs.FenceFurther.Places.{HasClosing, has-closing}
 use Rattle.md_literal_rooms.proofs.FenceFurther.Trial.{fence-marker}

@@ -24,7 +24,7 @@ use Rattle.md_seam.specs.Look.{seen_behind}
 use Rattle.md_seam.specs.Spaces.{IsRest, small_indent}
 use Rattle.md_seam.proofs.RestCells.{white-length}
 use Rattle.md_frame.specs.HeldLeaf.{takes_lazy}
-use Rattle.md_frame.specs.OpenSpan.{is_fence}
+use Rattle.md_code.specs.Fence.{is_open as is_fence}
 use Rattle.md_literal_rooms.specs.Leaf.FenceFurther.{fence_further, opening_of}
 use Rattle.md_frame.proofs.FromEnding.{from_ending-again}
 use Rattle.md_frame.proofs.LeafLaws.{Shrinks, cond-shrinks, left_open, whole_line}

@@ -19,7 +19,7 @@ use Rattle.md_seam.specs.Events.Places.{past_text}
 use Rattle.md_seam.specs.Events.Spelled.{OpenLeaf, Reading, next_line}
 use Rattle.md_seam.proofs.GrammarLemmas.{Leads}
 use Rattle.md_frame.specs.RestLine.{rest_line}
-use Rattle.md_frame.specs.OpenSpan.{is_fence}
+use Rattle.md_code.specs.Fence.{is_open as is_fence}
 use Rattle.md_literal_rooms.specs.Leaf.FenceFurther.{further_parts, opening_of}
 use Rattle.md_literal_rooms.proofs.FenceFurther.Definition.{held_of}
 use Rattle.md_literal_rooms.proofs.FenceFurther.Grammar.{further-leads, further-stays, further_left, in_line, left_by}
@@ -107,7 +107,8 @@ pub line-reads : (options : ParseOptions) (bytes : List ℕ) (o : Opening) (mark
     ReadsLeaf bytes (next_line (leaf_of o marks lines false))
     (leaf_of o marks (lines ++ line_of (lose o.indent r) ∷ []) false) (further_parts options (held_of o) r p q)
 line-reads options bytes o marks lines r p q are is other rd none at =
-    further-line-read options bytes (held_of o) r p q is other rd (next_line (leaf_of o marks lines false)) lines none at
+    further-line-read options bytes (held_of o) r p q is other rd (next_line (leaf_of o marks lines false)) lines none
+    at
     (opened-line o marks lines are)
     ∙ ap (λ (l : OpenLeaf). let x : Reading = record rd { leaf = Some l } in x)
     (lines-told o marks lines (lines ++ line_of (lose o.indent r) ∷ []))
@@ -155,7 +156,9 @@ end-bare options bytes on r p q e is over = line-bare options bytes on r p q e i
 pub same-bare : (options : ParseOptions) (bytes : List ℕ) (on : HeldLeaf) (r : Rest) (p q : Point) →
     is_fence on ≡ true → FurtherAt bytes r p q → (p.index == q.index) ≡ true → IsBare options on r p q
 same-bare options bytes on r p q e is same =
-    line-bare options bytes on r p q e is (go (rest_line r) (let size = is.at.size in let at = eqb-true p.index q.index same in omega (arith, size, at)))
+    line-bare options bytes on r p q e is
+    (go (rest_line r)
+    (let size = is.at.size in let at = eqb-true p.index q.index same in omega (arith, size, at)))
   where
     go : (line : List ℕ) → length line ≡ 0 → line ≡ []
     go [] h = refl

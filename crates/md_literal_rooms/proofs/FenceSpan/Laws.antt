@@ -20,7 +20,7 @@ use Rattle.md_leaves.specs.Further.{further_link}
 use Rattle.md_outline.specs.LinesStand.{AtEnding, begun_site}
 use Rattle.md_seam.specs.Events.Grammar.{Expression, plain_text}
 use Rattle.md_seam.specs.Events.Nested.{enter, enter_link, exit, pair}
-use Rattle.md_seam.specs.Events.Spelled.{OpenLeaf, LeafRole, Role, fresh, role}
+use Rattle.md_seam.specs.Events.Spelled.{OpenLeaf, LeafRole, Role, block_of, fresh, role}
 use Rattle.md_seam.proofs.EndingsLemmas.{AreOthers}
 use Rattle.md_seam.proofs.SpelledLemmas.{Roles}
 use Rattle.md_frame.specs.RestLine.{rest_line}
@@ -38,7 +38,7 @@ use Rattle.md_literal_rooms.proofs.FenceSpan.Opening.{begin-is, done-is, line-en
 use Rattle.md_literal_rooms.proofs.FenceSpan.Opening.{line-inside, line-laid, line-lead, line-marks, name_of}
 use Rattle.md_literal_rooms.proofs.FenceSpan.Opening.{opening-same}
 use Rattle.md_literal_rooms.proofs.FenceSpan.Opening.{opening_of, text_of, unread-is}
-use Rattle.md_frame.proofs.LeafLines.Rest.{HasRest, block_by, came-shut, row_done, row_unread}
+use Rattle.md_frame.proofs.LeafLines.Rest.{HasRest, row_done, row_unread}
 use Rattle.md_frame.proofs.LeafLines.Whole.{rest-facts}
 use Rattle.md_literal_rooms.proofs.FenceSpan.Walk.{rest-open}
 use Rattle.md_frame.proofs.FillFacts.{filled-read}
@@ -103,7 +103,9 @@ further-spanned options bytes row is =
       begin = enter_link (block_name m) row.first further_link;
       inside = further_parts options row.on is.rest row.first row.end;
       end = exit (block_name m) row.end;
-      is = is.inside ∙ further-is options bytes row.on is.rest row.first row.end (further-at options bytes fence_further row is);
+      is =
+          is.inside
+          ∙ further-is options bytes row.on is.rest row.first row.end (further-at options bytes fence_further row is);
       lead_plain = refl;
       begins = further-begins m row.first;
       inside_plain = further-lines options row.on is.rest row.first row.end;
@@ -138,10 +140,8 @@ rest-of options bytes row rows is are =
 
 span-of : (options : ParseOptions) (bytes : List ℕ) (row : Row) (rows : List Row) →
     (is : IsLineOf options bytes fence_leaf row) → (are : AreBehind options bytes fence_further row rows) →
-    LeafFacts bytes
-    (Some (block_by (come_behind options bytes fence_further row rows are (Opened (OpenFence (opening_at is.rest) [])))))
-    (not (last_row row rows).empty) row.first (last_row row rows).end (span_by row_unread row rows)
-    (framed_by (row_done bytes) row rows)
+    LeafFacts bytes (Some (block_of (rest-of options bytes row rows is are).to)) (not (last_row row rows).empty)
+    row.first (last_row row rows).end (span_by row_unread row rows) (framed_by (row_done bytes) row rows)
 span-of options bytes row rows is are =
     rest-facts bytes (name_of is.rest) (kind_of m) row rows
     (come_behind options bytes fence_further row rows are (Opened (OpenFence (opening_at is.rest) []))) named
@@ -218,17 +218,13 @@ pub fence-span : SpanLaws fence_leaf fence_further
 fence-span = record {
   first_spanned = λ options bytes row is first. first-spanned options bytes row is;
   further_spanned = λ options bytes row is further. inl (further-spanned options bytes row is);
-  block = λ options bytes row rows is are.
-      block_by (come_behind options bytes fence_further row rows are (Opened (OpenFence (opening_at is.rest) [])));
+  block = λ options bytes row rows is are. block_of (rest-of options bytes row rows is are).to;
   facts = λ options bytes row rows is first are.
       subst
       (λ (es : List Event).
-      LeafFacts bytes
-      (Some (block_by (come_behind options bytes fence_further row rows are (Opened (OpenFence (opening_at is.rest) [])))))
-      (not (last_row row rows).empty) row.first (last_row row rows).end (span_by row_unread row rows) es)
+      LeafFacts bytes (Some (block_of (rest-of options bytes row rows is are).to)) (not (last_row row rows).empty)
+      row.first (last_row row rows).end (span_by row_unread row rows) es)
       (done-read options bytes row rows is are) (span-of options bytes row rows is are);
   shuts = λ options bytes row rows is first are bs.
-      came-shut options bs
-      (come_behind options bytes fence_further row rows are (Opened (OpenFence (opening_at is.rest) [])))
-      (rest-of options bytes row rows is are).came;
+      (rest-of options bytes row rows is are).shuts options bs;
 }

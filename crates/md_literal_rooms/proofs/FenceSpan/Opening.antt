@@ -22,7 +22,7 @@ use Rattle.md_seam.specs.Events.Tiles.{plain_read}
 use Rattle.md_frame.specs.RestLine.{rest_line}
 use Rattle.md_literal_rooms.specs.Leaf.Fence.{fence_leaf, fence_line, linked, opening_at, past_white, read_inner}
 use Rattle.md_literal_rooms.specs.Leaf.Fence.{white_part}
-use Rattle.md_frame.specs.OpenSpan.{is_fence}
+use Rattle.md_code.specs.Fence.{is_open as is_fence}
 use Rattle.md_frame.specs.Row.{Row, but_end}
 use Rattle.md_literal_rooms.proofs.Fence.Laid.{Laid, laid}
 use Rattle.md_literal_rooms.proofs.Fence.Opened.{fence-starts}
@@ -150,7 +150,8 @@ done-is options bytes row is =
 pub line-ends : (options : ParseOptions) (bytes : List ℕ) (row : Row) → (is : IsLineOf options bytes fence_leaf row) →
     EndsLeaf row_unread (row_done bytes) (name_of is.rest) row
 line-ends options bytes row is =
-    ends-by row_unread (row_done bytes) (name_of is.rest) row (front ++ enter name at ∷ us) (front ++ enter name at ∷ es)
+    ends-by row_unread (row_done bytes) (name_of is.rest) row (front ++ enter name at ∷ us)
+    (front ++ enter name at ∷ es)
     is.at.end_whole (unread-is options bytes row is ∙ by us) (done-is options bytes row is ∙ by es)
   where
     front : List Event

@@ -40,7 +40,7 @@ use Rattle.md_literal_rooms.proofs.FenceFurther.Reads.{chunk-role}
 use Rattle.md_literal_rooms.proofs.FenceSpan.Open.{kind_of}
 use Rattle.md_frame.proofs.IndentRemoved.Reads.{columns-quiet}
 use Rattle.md_frame.proofs.PieceFacts.{over-front}
-use Rattle.md_frame.proofs.IndentRemoved.Sites.{is_told_of, line_site, lost-passes}
+use Rattle.md_literal_rooms.proofs.IndentRemoved.Sites.{is_told_of, line_site, lost-passes}
 
 -- The opening fence: its markers, and what stands behind them.
 

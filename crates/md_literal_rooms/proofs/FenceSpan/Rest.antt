@@ -11,7 +11,7 @@ use Rattle.md_outline.specs.LinesStand.{Site}
 use Rattle.md_seam.specs.Events.Grammar.{Expression}
 use Rattle.md_seam.specs.Events.Spelled.{OpenLeaf}
 use Rattle.md_frame.specs.RestLine.{rest_line}
-use Rattle.md_frame.specs.OpenSpan.{is_fence}
+use Rattle.md_code.specs.Fence.{is_open as is_fence}
 use Rattle.md_literal_rooms.specs.Leaf.FenceFurther.{fence_further, further_parts}
 use Rattle.md_frame.specs.Row.{Row, is_empty_row}
 use Rattle.md_literal_rooms.proofs.FenceFurther.Definition.{held_of}
@@ -41,7 +41,8 @@ further-line options bytes o x left from leaf start site row is on e facts = rec
       is.inside ∙ ap (λ (h : HeldLeaf). fence_further.added options h (rest_line is.rest) row.first) on
       ∙ further-is options bytes (held_of o) is.rest row.first row.end at;
   whole = is.at.end_whole;
-  clear = left-clear bytes (drop row.end.index bytes) is.rest row.first (further-rest bytes is.rest row.first row.end at);
+  clear =
+      left-clear bytes (drop row.end.index bytes) is.rest row.first (further-rest bytes is.rest row.first row.end at);
   others = further-others options (held_of o) is.rest row.first row.end;
   balanced = (further-placed options bytes (held_of o) is.rest row.first row.end e at).nested.0;
   bare = bare;

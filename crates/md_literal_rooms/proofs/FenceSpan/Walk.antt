@@ -12,7 +12,7 @@ use Rattle.md_engine.specs.declared.tokenizer.held_leaf.HeldLeaf.{HeldLeaf}
 use Rattle.md_engine.specs.declared.tokenizer.held_leaf.HeldLeaf.TheVariants as held_leaf
 use Rattle.md_meaning.specs.Leaves.{LeafResult, Finished, Opened, closes}
 use Rattle.md_meaning.specs.Rest.{Rest, line_of, lose}
-use Rattle.md_meaning.specs.State.{OpenFence, Opening, fence_block}
+use Rattle.md_meaning.specs.State.{OpenFence, Opening, fence_block, then_block}
 use Rattle.md_meaning.specs.Tree.{Line}
 use Rattle.md_code.specs.Fence.{block_name}
 use Rattle.md_outline.specs.LinesStand.{AtEnd, AtLine, Site}
@@ -20,7 +20,7 @@ use Rattle.md_outline.proofs.LinesPass.{ended_site}
 use Rattle.md_seam.specs.Events.Grammar.{Expression, Nothing, behind, may_end, plain_text}
 use Rattle.md_seam.specs.Events.Spelled.{LeafKind, OpenLeaf, next_line}
 use Rattle.md_frame.specs.RestLine.{rest_line}
-use Rattle.md_frame.specs.OpenSpan.{is_fence}
+use Rattle.md_code.specs.Fence.{is_open as is_fence}
 use Rattle.md_literal_rooms.specs.Leaf.FenceFurther.{fence_comes, fence_further, further_holds, further_parts}
 use Rattle.md_literal_rooms.specs.Leaf.FenceFurther.{opening_of}
 use Rattle.md_frame.specs.Row.{Row}
@@ -34,7 +34,8 @@ use Rattle.md_literal_rooms.proofs.FenceSpan.Further.{IsBare, bare-facts, closin
 use Rattle.md_literal_rooms.proofs.FenceSpan.Further.{line-reads}
 use Rattle.md_literal_rooms.proofs.FenceSpan.Open.{AreMarks, block-is, kind_of, leaf_of}
 use Rattle.md_literal_rooms.proofs.FenceSpan.Rest.{further-line}
-use Rattle.md_frame.proofs.IndentRemoved.Sites.{ended-goes, ended-over, is_told_of, line-leaves, line-on, line_site}
+use Rattle.md_literal_rooms.proofs.IndentRemoved.Sites.{ended-goes, ended-over, is_told_of, line-leaves, line-on}
+use Rattle.md_literal_rooms.proofs.IndentRemoved.Sites.{line_site}
 use Rattle.md_frame.proofs.FrontPlaces.{fronts-grow}
 use Rattle.md_frame.proofs.LeafLines.Inside.{InsideFacts, ReadsLeaf, behind_ending}
 use Rattle.md_frame.proofs.LeafLines.Rest.{HasRest, rest-more, rest-none}
@@ -72,15 +73,15 @@ rest-closed : (options : ParseOptions) (bytes : List ℕ) (o : Opening) (marks :
     (come_behind options bytes fence_further row rows are (Finished (fence_block o lines true)))
 rest-closed options bytes o marks lines row [] marked none are =
     rest-none bytes (block_name o.marker) Nothing (leaf_of o marks lines true) (AtEnd (kind_of o.marker)) row
-    (Finished (fence_block o lines true)) refl tt tt
-    (block-is o marks lines true marked)
+    (Finished (fence_block o lines true)) refl tt
+    (λ options bs. ap (then_block bs) (sym (block-is o marks lines true marked)))
 rest-closed options bytes o marks lines row (next ∷ rows) marked none are =
     absurd (closed (sym (ap is_fence (are.4 ∙ none)) ∙ are.5))
   where
     closed : is_fence held_leaf.None ≡ true → ⊥
     closed e = cc
 
--- What further lines come to behind a line, whatever lines the block has there, and whether the line told one or none.
+-- What further lines are behind a line, whatever lines the block has there, and whether the line told one or none.
 abbrev Rests : (options : ParseOptions) (bytes : List ℕ) → Opening → List ℕ → Row → List Row → Type 0
 Rests options bytes o marks row rows =
     (lines : List Line) (left : Expression) (told : Bool) → may_end left ≡ true →
@@ -223,7 +224,8 @@ pub rest-open : (options : ParseOptions) (bytes : List ℕ) (o : Opening) (marks
     AreMarks o marks → is_fence (held_of o) ≡ true → Rests options bytes o marks row rows
 rest-open options bytes o marks row [] marked fence lines left told ends line held are =
     rest-none bytes (block_name o.marker) left (leaf_of o marks lines false) (line_site (kind_of o.marker) told) row
-    (Opened (OpenFence o lines)) ends (line-leaves (kind_of o.marker) told) tt (block-is o marks lines false marked)
+    (Opened (OpenFence o lines)) ends (line-leaves (kind_of o.marker) told)
+    (λ options bs. ap (then_block bs) (sym (block-is o marks lines false marked)))
 rest-open options bytes o marks row (next ∷ rows) marked fence lines left told ends line held are =
     rest-next options bytes o marks lines left told row next rows marked fence line held are
     (rest-open options bytes o marks next rows marked fence)

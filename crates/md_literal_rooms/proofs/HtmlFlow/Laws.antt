@@ -10,10 +10,11 @@ use Rattle.md_literal_rooms.proofs.HtmlFlow.Outside.{html-lined, html-no_content
 use Rattle.md_literal_rooms.proofs.HtmlFlow.Trial.{further-looked, further-refused, further-shrinks, further-took}
 use Rattle.md_literal_rooms.proofs.HtmlFlow.Trial.{html-looked, html-refused, html-shrinks, html-took}
 use Rattle.md_frame.proofs.LeafLaws.{LeafLaws}
+use Rattle.md_frame.proofs.OutsideFacts.{LineResolver}
 
 -- All that the frame asks of the line that begins HTML,
-pub html-laws : LeafLaws html_leaf
-html-laws = record {
+pub html-laws : (resolver : LineResolver) → LeafLaws resolver html_leaf
+html-laws resolver = record {
   looked = html-looked;
   meets = λ options on r starts further. cc;
   took = λ options cells h is few. html-took options cells h is;
@@ -37,8 +38,8 @@ html-laws = record {
 }
 
 -- and of a further line: it goes on the HTML that it meets.
-pub html_further-laws : LeafLaws html_further
-html_further-laws = record {
+pub html_further-laws : (resolver : LineResolver) → LeafLaws resolver html_further
+html_further-laws resolver = record {
   looked = further-looked;
   meets = λ options on r starts further. html-lines on further;
   took = λ options cells h is few. further-took options cells h is;

@@ -13,11 +13,11 @@ use Rattle.md_leaves.proofs.SpannedLines.{IsFurther, IsBegin}
 use Rattle.md_outline.specs.LinesStand.{begun_site}
 use Rattle.md_html.specs.HtmlLine.{left_by}
 use Rattle.md_seam.specs.Events.Nested.{enter, enter_link, exit}
-use Rattle.md_seam.specs.Events.Spelled.{HtmlLeaf, OfHtml, fresh}
+use Rattle.md_seam.specs.Events.Spelled.{HtmlLeaf, OfHtml, block_of, fresh}
 use Rattle.md_frame.specs.RestLine.{rest_line}
 use Rattle.md_literal_rooms.specs.Leaf.HtmlFlow.{begins_as, html_further, html_leaf, kind_begun}
 use Rattle.md_frame.specs.Row.{Row, but_end, last_row, span_by, span_done}
-use Rattle.md_frame.proofs.IndentRemoved.Sites.{is_told_of}
+use Rattle.md_literal_rooms.proofs.IndentRemoved.Sites.{is_told_of}
 use Rattle.md_frame.proofs.FillFacts.{filled-read}
 use Rattle.md_literal_rooms.proofs.HtmlSpan.Lines.{behind_first, first-facts, html-inside, html_name, html_parts}
 use Rattle.md_literal_rooms.proofs.HtmlSpan.Lines.{html_site}
@@ -25,14 +25,14 @@ use Rattle.md_literal_rooms.proofs.HtmlSpan.Rows.{first-done, first-full, first-
 use Rattle.md_literal_rooms.proofs.HtmlSpan.Rows.{html-begun}
 use Rattle.md_literal_rooms.proofs.HtmlSpan.Walk.{rest-line}
 use Rattle.md_frame.proofs.LeafFacts.{LeafFacts}
-use Rattle.md_frame.proofs.IndentRemoved.Parts.{inside-lines, inside-others}
+use Rattle.md_literal_rooms.proofs.IndentRemoved.Parts.{inside-lines, inside-others}
 use Rattle.md_frame.proofs.IndentRemoved.Places.{further-at}
 use Rattle.md_frame.proofs.PieceFacts.{Starts}
 use Rattle.md_frame.proofs.LeafLines.Cuts.{but_end-is}
 use Rattle.md_frame.proofs.LeafLines.Framed.{framed_by, line-spanned}
 use Rattle.md_frame.proofs.LeafLines.Lead.{lead-none}
 use Rattle.md_frame.proofs.LeafLines.Lines.{EndsLeaf, SpanFirst, ends-by}
-use Rattle.md_frame.proofs.LeafLines.Rest.{HasRest, block_by, came-shut, row_done, row_unread}
+use Rattle.md_frame.proofs.LeafLines.Rest.{HasRest, row_done, row_unread}
 use Rattle.md_frame.proofs.LeafLines.Whole.{rest-facts}
 use Rattle.md_frame.proofs.SpanLaws.{AreBehind, IsLineOf, IsNone, IsSpanned, SpanLaws, come_behind}
 use Rattle.md_frame.proofs.SpannedFacts.{AreUnspanned}
@@ -98,7 +98,7 @@ first-line options bytes row is = record {
 
 -- All lines.
 
--- what the line definition comes to with the first, and with all
+-- what the line definition has with the first, and with all
 abbrev first_came : Rest → LeafResult
 first_came r = begins_as (kind_begun r) r
 
@@ -122,8 +122,8 @@ rest-of options bytes row rows is are =
 
 all-facts : (options : ParseOptions) (bytes : List ℕ) (row : Row) (rows : List Row) →
     (is : IsLineOf options bytes html_leaf row) → (are : AreBehind options bytes html_further row rows) →
-    LeafFacts bytes (Some (block_by (all_came options bytes row rows is are))) (not (last_row row rows).empty) row.first
-    (last_row row rows).end (span_by row_unread row rows) (framed_by (row_done bytes) row rows)
+    LeafFacts bytes (Some (block_of (rest-of options bytes row rows is are).to)) (not (last_row row rows).empty)
+    row.first (last_row row rows).end (span_by row_unread row rows) (framed_by (row_done bytes) row rows)
 all-facts options bytes row rows is are =
     let others = inside-others (html_parts is.rest row.first row.end) (html-inside is.rest row.first row.end) in
     rest-facts bytes n.HtmlFlow OfHtml row rows (all_came options bytes row rows is are) html_name tt
@@ -144,13 +144,13 @@ pub html-span : SpanLaws html_leaf html_further
 html-span = record {
   first_spanned = λ options bytes row is first. first-spanned options bytes row is;
   further_spanned = λ options bytes row is further. inl (further-spanned options bytes row is);
-  block = λ options bytes row rows is are. block_by (all_came options bytes row rows is are);
+  block = λ options bytes row rows is are. block_of (rest-of options bytes row rows is are).to;
   facts = λ options bytes row rows is first are.
       subst
       (λ (es : List Event).
-      LeafFacts bytes (Some (block_by (all_came options bytes row rows is are))) (not (last_row row rows).empty)
+      LeafFacts bytes (Some (block_of (rest-of options bytes row rows is are).to)) (not (last_row row rows).empty)
       row.first (last_row row rows).end (span_by row_unread row rows) es) (all-read options bytes row rows is are)
       (all-facts options bytes row rows is are);
   shuts = λ options bytes row rows is first are bs.
-      came-shut options bs (all_came options bytes row rows is are) (rest-of options bytes row rows is are).came;
+      (rest-of options bytes row rows is are).shuts options bs;
 }

@@ -14,13 +14,14 @@ use Rattle.md_seam.proofs.GrammarLemmas.{Leads}
 use Rattle.md_frame.specs.RestLine.{rest_line}
 use Rattle.md_frame.specs.LineColumns.{lost_line}
 use Rattle.md_frame.proofs.ContainerNames.{TakesPrefixes}
-use Rattle.md_frame.proofs.IndentRemoved.Sites.{is_told_of, line_site}
-use Rattle.md_frame.proofs.IndentRemoved.Facts.{IsLineName, lost-facts}
-use Rattle.md_frame.proofs.IndentRemoved.Grammar.{left_over, lost-leads}
-use Rattle.md_frame.proofs.IndentRemoved.Names.{AreInside, lost-inside}
+use Rattle.md_literal_rooms.proofs.IndentRemoved.Sites.{is_told_of, line_site}
+use Rattle.md_literal_rooms.proofs.IndentRemoved.Facts.{IsLineName, lost-facts}
+use Rattle.md_literal_rooms.proofs.IndentRemoved.Grammar.{left_over, lost-leads}
+use Rattle.md_literal_rooms.proofs.IndentRemoved.Names.{AreInside, lost-inside}
 use Rattle.md_frame.proofs.IndentRemoved.Placed.{in-line}
 use Rattle.md_frame.proofs.IndentRemoved.Places.{FurtherAt}
-use Rattle.md_frame.proofs.IndentRemoved.Reads.{empty-joined, lost-read, on-last}
+use Rattle.md_frame.proofs.IndentRemoved.Reads.{empty-joined, on-last}
+use Rattle.md_literal_rooms.proofs.IndentRemoved.Reads.{lost-read}
 use Rattle.md_frame.proofs.LeafLines.Inside.{InsideFacts, ReadsLeaf}
 use Rattle.md_frame.proofs.LeafLines.Leaf.{IsLeafName}
 

@@ -29,8 +29,8 @@ use Rattle.md_frame.specs.LineColumns.{part_over}
 use Rattle.md_frame.specs.Row.{Row}
 use Rattle.md_frame.proofs.FillFacts.{fill-same, filled-read}
 use Rattle.md_literal_rooms.proofs.HtmlSpan.Lines.{html-inside, html_data, html_parts}
-use Rattle.md_frame.proofs.IndentRemoved.Facts.{line-placed}
-use Rattle.md_frame.proofs.IndentRemoved.Parts.{inside-others}
+use Rattle.md_literal_rooms.proofs.IndentRemoved.Facts.{line-placed}
+use Rattle.md_literal_rooms.proofs.IndentRemoved.Parts.{inside-others}
 use Rattle.md_frame.proofs.IndentRemoved.Places.{FurtherAt, further-at, further-rest}
 use Rattle.md_frame.proofs.IndentRemoved.Shown.{left-clear}
 use Rattle.md_frame.proofs.PrefixFacts.{is_bare}

@@ -27,7 +27,8 @@ use Rattle.md_frame.specs.RestLine.{rest_line}
 use Rattle.md_literal_rooms.specs.Leaf.HtmlFlow.{html_further}
 use Rattle.md_frame.specs.LineColumns.{part_over}
 use Rattle.md_frame.specs.Row.{Row}
-use Rattle.md_frame.proofs.IndentRemoved.Sites.{ended-goes, ended-over, is_told_of, line-leaves, line-on, line_site}
+use Rattle.md_literal_rooms.proofs.IndentRemoved.Sites.{ended-goes, ended-over, is_told_of, line-leaves, line-on}
+use Rattle.md_literal_rooms.proofs.IndentRemoved.Sites.{line_site}
 use Rattle.md_frame.proofs.FrontPlaces.{fronts-grow}
 use Rattle.md_literal_rooms.proofs.HtmlSpan.Lines.{html_parts, html_site, in_line, line-ending, line-ends, line-facts}
 use Rattle.md_literal_rooms.proofs.HtmlSpan.Lines.{line-takes, line_left}
@@ -45,14 +46,14 @@ rest-closed : (options : ParseOptions) (bytes : List ℕ) (lines : List Line) (l
     (come_behind options bytes html_further row rows are (Finished (Html lines)))
 rest-closed options bytes lines left told row [] ends held are =
     rest-none bytes n.HtmlFlow left (HtmlLeaf lines) (line_site OfHtml told) row (Finished (Html lines)) ends
-    (line-leaves OfHtml told) tt refl
+    (line-leaves OfHtml told) (λ options bs. refl)
 rest-closed options bytes lines left told row (next ∷ rows) ends held are =
     absurd (closed (sym (ap is_html (are.4 ∙ held)) ∙ are.5))
   where
     closed : is_html held_leaf.None ≡ true → ⊥
     closed e = cc
 
--- What further lines come to behind a line, whatever lines the HTML has there: where it is open,
+-- What further lines are behind a line, whatever lines the HTML has there: where it is open,
 abbrev Rests : (options : ParseOptions) (bytes : List ℕ) → HtmlKind → Row → List Row → Type 0
 Rests options bytes kind row rows =
     (lines : List Line) (left : Expression) (told : Bool) → may_end left ≡ true →
@@ -215,7 +216,7 @@ rest-open : (options : ParseOptions) (bytes : List ℕ) (kind : HtmlKind) (row :
     Rests options bytes kind row rows
 rest-open options bytes kind row [] lines left told ends line held are =
     rest-none bytes n.HtmlFlow left (HtmlLeaf lines) (line_site OfHtml told) row (Opened (OpenHtml kind lines)) ends
-    (line-leaves OfHtml told) tt refl
+    (line-leaves OfHtml told) (λ options bs. refl)
 rest-open options bytes kind row (next ∷ rows) lines left told ends line held are =
     rest-next options bytes kind lines left told row next rows line held are
     (rest-open options bytes kind next rows)

@@ -22,7 +22,7 @@ use Rattle.md_meaning.specs.Rest.{Rest, indent, run_len, trim_start}
 use Rattle.md_meaning.specs.State.{Leaf, OpenFence, Opening, fence_block}
 use Rattle.md_frame.specs.LineColumns.{columns_part, lost_line, part_over, past_columns, rest_of}
 use Rattle.md_frame.specs.LineLeaf.{LineLeaf}
-use Rattle.md_frame.specs.OpenSpan.{is_fence}
+use Rattle.md_code.specs.Fence.{is_open as is_fence}
 
 -- What is held of the block.
 

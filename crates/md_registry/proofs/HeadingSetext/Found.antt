@@ -22,7 +22,7 @@ use Rattle.md_leaves.proofs.TitleTexts.{front-stops}
 use Rattle.md_literal_rooms.specs.Leaf.CodeIndented.{code_leaf}
 use Rattle.md_literal_rooms.specs.Leaf.Fence.{fence_leaf}
 use Rattle.md_leaf_rooms.specs.Leaf.HeadingAtx.{heading_leaf}
-use Rattle.md_frame.specs.TextLines.{depth_of}
+use Rattle.md_leaf_rooms.specs.Leaf.HeadingSetext.{depth_of}
 use Rattle.md_leaf_rooms.specs.Leaf.HeadingSetext.{setext_leaf}
 use Rattle.md_literal_rooms.specs.Leaf.HtmlFlow.{html_leaf}
 use Rattle.md_literal_rooms.proofs.Fence.Opened.{fence-starts}

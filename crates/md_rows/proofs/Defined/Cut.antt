@@ -8,7 +8,8 @@ use Rattle.md_engine.specs.declared.event.Event.{Event}
 use Rattle.md_engine.specs.declared.event.Point.{Point}
 use Rattle.md_engine.specs.declared.tokenizer.Line.{Line}
 use Rattle.md_engine.specs.Meaning.{Cell}
-use Rattle.md_link_definitions.specs.DefinitionRule.{DefinitionParts, definition_end, definition_events, definition_parts}
+use Rattle.md_link_definitions.specs.DefinitionRule.{DefinitionParts, definition_end, definition_events}
+use Rattle.md_link_definitions.specs.DefinitionRule.{definition_parts}
 use Rattle.md_link_definitions.specs.DefinitionRule.{definition_rest, destination_begin, destination_end}
 use Rattle.md_seam.specs.Look.{first_seen}
 use Rattle.md_seam.specs.Spaces.{ends_line}
@@ -19,7 +20,8 @@ use Rattle.md_content_rooms.proofs.Defined.Along.{IsCell, IsTurn, Turn, Walks, b
 use Rattle.md_rows.proofs.Defined.Cells.{lines-walk, turns_of}
 use Rattle.md_content_rooms.proofs.Defined.Form.{form_unread}
 use Rattle.md_content_rooms.proofs.Defined.Is.{IsDefined}
-use Rattle.md_frame.specs.Row.{breaks_of, defined_unread}
+use Rattle.md_frame.specs.Row.{breaks_of}
+use Rattle.md_content_rooms.specs.Defined.{defined_unread}
 use Rattle.md_rows.specs.Rows.{further_lines, lines_cells}
 use Rattle.md_content_rooms.proofs.Defined.Parts.{DefinitionAre, DefinitionOf, definition-are, definition-of}
 use Rattle.md_content_rooms.proofs.Defined.Placed.{Before, Fits, bared, placed}
@@ -133,7 +135,8 @@ behind options bytes last d row rows left walk ends are end =
           end = turn.at ∙ ap (λ (x : Turn). x.end) same;
         }
 
-    go : (cells : List Cell) → definition_rest d ≡ cells → Walks bytes last (definition_end d) (definition_rest d) left →
+    go : (cells : List Cell) → definition_rest d ≡ cells →
+        Walks bytes last (definition_end d) (definition_rest d) left →
         ends_line (first_seen (definition_rest d)) ≡ true → (rows : List Row) →
         left ≡ turns_of options bytes row rows → last ≡ (last_row row rows).end → Behind options bytes d row rows
     go [] e walks ends rows are end =
@@ -215,7 +218,8 @@ lines-cut options bytes small row rows h d e =
           begins = of.takes.begins;
           cuts = λ bs h more fits.
               subst
-              (λ (l : List Break). placed (l ++ bs) (of.takes.settled ++ more) ≡ defined_unread d row some ++ placed bs more)
+              (λ (l : List Break).
+              placed (l ++ bs) (of.takes.settled ++ more) ≡ defined_unread d row some ++ placed bs more)
               known.breaks_are
               (of.takes.cuts bs h more fits ∙ ap (λ (l : List Event). l ++ placed bs more) (sym unread));
           ends = of.takes.ends;

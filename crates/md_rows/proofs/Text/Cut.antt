@@ -9,7 +9,8 @@ use Rattle.md_engine.specs.declared.event.Point.{Point}
 use Rattle.md_link_definitions.specs.DefinitionRule.{DefinitionParts}
 use Rattle.md_seam.specs.Events.Nested.{pair}
 use Rattle.md_rows.specs.BlockList.{lines_unread}
-use Rattle.md_frame.specs.Row.{Row, defined_unread, last_row}
+use Rattle.md_frame.specs.Row.{Row, last_row}
+use Rattle.md_content_rooms.specs.Defined.{defined_unread}
 use Rattle.md_rows.specs.Rows.{defined_done, lines_done}
 use Rattle.md_content_rooms.proofs.Defined.Is.{IsDefined}
 use Rattle.md_frame.proofs.FrontFacts.{LinePrefix}

@@ -19,7 +19,8 @@ use Rattle.md_seam.specs.Events.Places.{same_place}
 use Rattle.md_seam.specs.Events.Prefix.{is_prefix}
 use Rattle.md_seam.specs.Events.Spelled.{role}
 use Rattle.md_rows.specs.BlockList.{lines_unread}
-use Rattle.md_frame.specs.Row.{Row, defined_unread, last_row}
+use Rattle.md_frame.specs.Row.{Row, last_row}
+use Rattle.md_content_rooms.specs.Defined.{defined_unread}
 use Rattle.md_content_rooms.proofs.Defined.Form.{Form, Gap, IsForm, IsGap, IsStrand, IsText, IsTitle, LastLine, Literal}
 use Rattle.md_content_rooms.proofs.Defined.Form.{NoLine, OneLine, OnLine, OverLine, Raw, Strand, Target, Titled}
 use Rattle.md_content_rooms.proofs.Defined.Form.{form_unread, gap_events, inside_by, label_by, strand_unread, string_of}
@@ -69,7 +70,8 @@ of-each P so = record {
 }
 
 -- they begin and end no line of a leaf of several,
-not-lines : (name : Name) → is_of_definition name ≡ true → (not (has_lines (role name)) && not (is_code_line name)) ≡ true
+not-lines : (name : Name) → is_of_definition name ≡ true →
+    (not (has_lines (role name)) && not (is_code_line name)) ≡ true
 not-lines n.CodeIndented h = cc
 not-lines n.CodeFenced h = cc
 not-lines n.MathFlow h = cc

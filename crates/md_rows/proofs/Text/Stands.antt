@@ -11,7 +11,8 @@ use Rattle.md_link_definitions.specs.DefinitionRule.{DefinitionParts}
 use Rattle.md_seam.specs.Events.Tiles.{plain_read}
 use Rattle.md_rows.specs.BlockList.{lines_unread, text_unread}
 use Rattle.md_frame.specs.TextLines.{text_leaf}
-use Rattle.md_frame.specs.Row.{Row, defined_unread, last_row}
+use Rattle.md_frame.specs.Row.{Row, last_row}
+use Rattle.md_content_rooms.specs.Defined.{defined_unread}
 use Rattle.md_rows.specs.Rows.{defined_done, lines_done, text_done}
 use Rattle.md_content_rooms.proofs.Defined.Facts.{defined-done, defined-facts}
 use Rattle.md_content_rooms.proofs.Defined.Form.{Form, form_block, form_done, form_unread}

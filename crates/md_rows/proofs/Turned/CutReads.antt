@@ -19,10 +19,11 @@ use Rattle.md_link_definitions.proofs.DefinitionLines.{cut_of}
 use Rattle.md_link_definitions.proofs.LineCells.{further}
 use Rattle.md_seam.specs.Events.Spelled.{Reading, add_block, read}
 use Rattle.md_seam.proofs.SpelledLemmas.{read-from}
-use Rattle.md_frame.specs.TextLines.{turn_leaf}
+use Rattle.md_registry.specs.Registry.{turn_leaf}
 use Rattle.md_frame.specs.Row.{Row, ending_events}
 use Rattle.md_rows.specs.Rows.{behind_cut, cut_at_most, cut_by, defined_done, further_lines}
-use Rattle.md_frame.specs.Row.{heading_done, last_row}
+use Rattle.md_frame.specs.Row.{last_row}
+use Rattle.md_rows.specs.Rows.{heading_done}
 use Rattle.md_rows.specs.Rows.{lines_cells, turned_done}
 use Rattle.md_rows.proofs.Defined.Cut.{IsBehind, IsCut, lines-cut}
 use Rattle.md_rows.proofs.GroupLines.{AreLines, IsLeft, IsUnder}

@@ -8,7 +8,7 @@ use Rattle.md_seam.specs.Events.Grammar.{Expression, Then, next_line, one}
 use Rattle.md_seam.specs.Events.Grammar as grammar
 use Rattle.md_seam.specs.Events.Nested.{around, pair}
 use Rattle.md_seam.specs.Events.Spelled.{HeadingSetextLeaf, OpenLeaf}
-use Rattle.md_frame.specs.TextLines.{turn_leaf}
+use Rattle.md_registry.specs.Registry.{turn_leaf}
 use Rattle.md_frame.specs.Row.{Row, last_row, turned_by}
 use Rattle.md_frame.proofs.LeafLines.Cuts.{ending-is}
 
@@ -28,7 +28,7 @@ inside_events row rows under after text =
 
 pub turned-is : (row : Row) (rows : List Row) (under : Row) (after : Point) (text : List Event) →
     (last_row row rows).after ≡ Some after →
-    turned_by text row rows under ≡
+    turned_by turn_leaf text row rows under ≡
     around turn_leaf.name row.first under.end (inside_events row rows under after text)
 turned-is row rows under after text after_is =
     ap

@@ -13,8 +13,9 @@ use Rattle.md_seam.specs.Events.Spelled.{OfHeadingSetext, fresh}
 use Rattle.md_seam.proofs.EndingsLemmas.{filling-append, leaf-leads}
 use Rattle.md_seam.proofs.GrammarLemmas.{leads-around}
 use Rattle.md_rows.specs.BlockList.{heading_unread}
-use Rattle.md_frame.specs.TextLines.{turn_leaf}
-use Rattle.md_frame.specs.Row.{Row, heading_done, last_row, read_lines}
+use Rattle.md_registry.specs.Registry.{turn_leaf}
+use Rattle.md_frame.specs.Row.{Row, last_row, read_lines}
+use Rattle.md_rows.specs.Rows.{heading_done}
 use Rattle.md_rows.specs.BlockList.{unread_lines}
 use Rattle.md_frame.proofs.BetweenFacts.{around-between, ending-before, ending-behind}
 use Rattle.md_frame.proofs.FillFacts.{fill-around}

@@ -10,8 +10,9 @@ use Rattle.md_seam.specs.Events.Nested.{around}
 use Rattle.md_seam.proofs.BlocksLemmas.{read-leaf}
 use Rattle.md_seam.proofs.SetextReads.{read-setext_gap}
 use Rattle.md_seam.proofs.SpelledLemmas.{read-from}
-use Rattle.md_frame.specs.TextLines.{turn_leaf}
-use Rattle.md_frame.specs.Row.{Row, heading_done, last_row, read_lines}
+use Rattle.md_registry.specs.Registry.{turn_leaf}
+use Rattle.md_frame.specs.Row.{Row, last_row, read_lines}
+use Rattle.md_rows.specs.Rows.{heading_done}
 use Rattle.md_frame.proofs.ParagraphLines.{IsRead}
 use Rattle.md_rows.proofs.Turned.Events.{gap_events, inside_events, so_far, text_events, turned-is}
 use Rattle.md_rows.proofs.Turned.Gap.{front-quiet}

@@ -5,7 +5,9 @@ use Rattle.std.specs.Prelude.{Some}
 use Rattle.md_engine.specs.declared.configuration.ParseOptions.{ParseOptions}
 use Rattle.md_engine.specs.declared.event.Event.{Event}
 use Rattle.md_rows.specs.BlockList.{heading_unread, text_unread, turned_unread}
-use Rattle.md_frame.specs.Row.{Row, defined_unread, heading_done, last_row}
+use Rattle.md_frame.specs.Row.{Row, last_row}
+use Rattle.md_rows.specs.Rows.{heading_done}
+use Rattle.md_content_rooms.specs.Defined.{defined_unread}
 use Rattle.md_rows.specs.Rows.{defined_done, turned_done}
 use Rattle.md_rows.proofs.GroupLines.{AreLines, IsLeft, IsUnder}
 use Rattle.md_frame.proofs.LeafFacts.{StandFacts, stand-of}

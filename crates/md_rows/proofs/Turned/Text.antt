@@ -16,7 +16,7 @@ use Rattle.md_seam.proofs.EndingsLemmas.{Filling, Stays, stays-append, stays-oth
 use Rattle.md_seam.proofs.GrammarLemmas.{leads-around}
 use Rattle.md_seam.proofs.InlineLemmas.{plain-fills}
 use Rattle.md_seam.proofs.SpelledLemmas.{Roles, roles-append}
-use Rattle.md_frame.specs.TextLines.{turn_leaf}
+use Rattle.md_registry.specs.Registry.{turn_leaf}
 use Rattle.md_frame.specs.Row.{Row, chunks_of, last_row, read_lines}
 use Rattle.md_rows.specs.BlockList.{unread_lines}
 use Rattle.md_frame.proofs.BetweenFacts.{around-between}

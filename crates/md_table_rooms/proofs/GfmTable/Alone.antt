@@ -1,6 +1,7 @@
 -- The lines of a table, joined: no other block stands in it, and none is open behind it.
-use Rattle.std.proofs.Common.{◌≡◌, ℕ, List, [], ◌∷◌, ◌++◌, refl, sym, subst, append_assoc}
+use Rattle.std.proofs.Common.{◌≡◌, ℕ, false, List, [], ◌∷◌, ◌++◌, refl, sym, subst, append_assoc}
 use Rattle.md_engine.specs.declared.event.Event.{Event}
+use Rattle.md_engine.specs.declared.event.Name.{Name}
 use Rattle.md_engine.specs.declared.event.Name.TheVariants as n
 use Rattle.md_engine.specs.declared.event.Point.{Point}
 use Rattle.md_seam.specs.Events.Nested.{enter, exit}
@@ -11,8 +12,10 @@ use Rattle.md_tables.specs.RowCells.{row_runs}
 use Rattle.md_tables.specs.RowRule as text
 use Rattle.md_tables.specs.TableLines.{Table, delimiter_row, lines_read, row_read, text_row}
 use Rattle.md_tables.specs.declared.cells.RowKind.TheVariants.{Delimiter, Text}
-use Rattle.md_frame.specs.Row.{Row, ending_events, headed_row, row_line, span_by}
-use Rattle.md_frame.proofs.ClosedFacts.{IsClosed, IsUnset, closed-around, prefixes-unset, table-block}
+use Rattle.md_frame.specs.Row.{Row, ending_events, row_line, span_by}
+use Rattle.md_table_rooms.specs.Headed.{headed_row}
+use Rattle.md_order.specs.Alone.{InTable, closed_by, is_set}
+use Rattle.md_frame.proofs.ClosedFacts.{IsBlock, IsClosed, IsUnset, closed-around, prefixes-unset, stays-open}
 use Rattle.md_frame.proofs.EachEvent.{Each, each-append}
 use Rattle.md_frame.proofs.FrontNames.{fronts-prefixes}
 use Rattle.md_frame.proofs.LeafLines.Cuts.{ending-is}
@@ -65,7 +68,21 @@ lines-unset bytes row (next ∷ rows) are =
     each-append IsUnset (gap_events row next) (own ++ more) (gap-unset bytes row next are.0.gap)
     (each-append IsUnset own more (text-unset (row_line bytes next) next.first) (lines-unset bytes next rows are.1))
 
--- All of it.
+-- All of it: no other block ends it.
+
+unset-table : (name : Name) → is_set name ≡ false → closed_by InTable name ≡ false
+unset-table n.GfmTable h = cc
+unset-table _ h = refl
+
+table-block : IsBlock n.GfmTable
+table-block = record {
+  inside = InTable;
+  opens = refl;
+  stands = λ e h goes. h;
+  stays = λ e h. stays-open InTable e (unset-table e.name h);
+  ends = λ q goes. cc;
+  shuts = λ q. refl;
+}
 
 within : (a b c d e : List Event) → ((a ++ (b ++ (c ++ d))) ++ e) ≡ a ++ (b ++ (c ++ (d ++ e)))
 within a b c d e = simp append_assoc

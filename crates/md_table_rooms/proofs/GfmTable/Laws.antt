@@ -7,10 +7,11 @@ use Rattle.md_table_rooms.proofs.GfmTable.Found.{table-held, table-lines}
 use Rattle.md_table_rooms.proofs.GfmTable.Trial.{table-refused, table-shrinks, table-took}
 use Rattle.md_tables.proofs.GfmTableLook.{table-looked}
 use Rattle.md_frame.proofs.LeafLaws.{LeafLaws}
+use Rattle.md_frame.proofs.OutsideFacts.{LineResolver}
 
 -- All that the frame asks of it: it goes on the text or the table that it meets, and leaves a table open.
-pub table-laws : LeafLaws table_leaf
-table-laws = record {
+pub table-laws : (resolver : LineResolver) → LeafLaws resolver table_leaf
+table-laws resolver = record {
   looked = λ options on cells. table-looked options on cells;
   meets = λ options on r starts further. table-lines on further;
   took = λ options cells h is few. table-took options cells h is;

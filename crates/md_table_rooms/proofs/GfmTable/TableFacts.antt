@@ -18,7 +18,8 @@ use Rattle.md_outline.specs.TablePlaces.{AtHead, BehindRow}
 use Rattle.md_outline.proofs.TablesPass.{passes-table}
 use Rattle.md_tables.specs.DelimiterCells.{delimiter_events}
 use Rattle.md_tables.specs.RowCells.{read_text, row_events, unread_text}
-use Rattle.md_frame.specs.Row.{Row, ending_events, headed_done, headed_unread, last_row, row_line}
+use Rattle.md_frame.specs.Row.{Row, ending_events, last_row, row_line}
+use Rattle.md_table_rooms.specs.Headed.{headed_done, headed_unread}
 use Rattle.md_frame.proofs.FilledAround.{around-fills}
 use Rattle.md_frame.proofs.FillFacts.{filled-read}
 use Rattle.md_frame.proofs.FrontStands.{fronts-others}

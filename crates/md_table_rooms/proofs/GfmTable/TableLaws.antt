@@ -23,7 +23,8 @@ use Rattle.md_tables.specs.GfmTable.{may_head}
 use Rattle.md_tables.specs.GfmTableLine.{are_columns, table_line}
 use Rattle.md_frame.specs.RestLine.{rest_line}
 use Rattle.md_table_rooms.specs.Leaf.GfmTable.{table_leaf}
-use Rattle.md_frame.specs.Row.{Row, headed_done, headed_unread, last_row, row_line}
+use Rattle.md_frame.specs.Row.{Row, last_row, row_line}
+use Rattle.md_table_rooms.specs.Headed.{headed_done, headed_unread}
 use Rattle.md_frame.proofs.FrontPlaces.{fronts-grow}
 use Rattle.md_table_rooms.proofs.GfmTable.Cells.{head-some}
 use Rattle.md_table_rooms.proofs.GfmTable.TableFacts.{table-leaf}

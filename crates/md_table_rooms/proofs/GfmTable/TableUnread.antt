@@ -26,8 +26,10 @@ use Rattle.md_tables.specs.declared.cells.RowKind.TheVariants.{Delimiter, Text}
 use Rattle.md_tables.proofs.DelimiterBytes.{row_of-columns}
 use Rattle.md_tables.proofs.TableRows.{delimiter-parts, delimiter_row-celled, text-celled, text-parts}
 use Rattle.md_tables.proofs.TabledLines.{AreFree, AreFreeLines, IsFreeTable, free-append, of_tables, tabled-table}
-use Rattle.md_frame.specs.Row.{Row, but_end, but_ends, end_of, headed_row, headed_unread, last_row, row_line}
+use Rattle.md_frame.specs.Row.{Row, but_end, but_ends, end_of, last_row, row_line}
+use Rattle.md_table_rooms.specs.Headed.{headed_row, headed_unread}
 use Rattle.md_frame.specs.Row.{ending_events, is_framed, span_by}
+use Rattle.md_frame.proofs.EventNames.{is_lined}
 use Rattle.md_frame.proofs.FrontNames.{fronts-prefixes}
 use Rattle.md_table_rooms.proofs.GfmTable.TableForm.{AreBodyRows, IsBodyRow, IsFilledLine, IsGap, IsTable, body_behind}
 use Rattle.md_table_rooms.proofs.GfmTable.TableForm.{gap_events, head_events, row_part, rows_behind}
@@ -103,7 +105,8 @@ body-line : (bytes : List ℕ) (row next : Row) → IsBodyRow bytes row next →
     IsLine next (row_read Text (text_row (row_line bytes next) next.first))
 body-line bytes row next is =
     of-line next (past_text (row_line bytes next) next.first)
-    (row_read Text (text_row (row_line bytes next) next.first)) (is.inside ∙ row-is (row_line bytes next) next.first) (line-end bytes next is.line)
+    (row_read Text (text_row (row_line bytes next) next.first)) (is.inside ∙ row-is (row_line bytes next) next.first)
+    (line-end bytes next is.line)
 
 delimiter-line : (bytes : List ℕ) (row next : Row) (rows : List Row) → IsTable bytes row next rows →
     IsLine next (row_read Delimiter (delimiter_row (row_line bytes next) next.first))
@@ -169,6 +172,13 @@ prefix-free n.GfmTable h = cc
 prefix-free n.GfmTableRow h = cc
 prefix-free n.GfmTableDelimiterRow h = cc
 prefix-free _ h = refl
+
+-- nor in a leaf of several lines that is no table
+pub lined-free : (name : Name) → is_lined name ≡ true → of_tables name ≡ false
+lined-free n.GfmTable h = cc
+lined-free n.GfmTableRow h = cc
+lined-free n.GfmTableDelimiterRow h = cc
+lined-free _ h = refl
 
 prefixes-free : (es : List Event) → ArePrefixes es → AreFree es
 prefixes-free [] h = tt

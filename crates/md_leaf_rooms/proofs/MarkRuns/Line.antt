@@ -19,7 +19,7 @@ use Rattle.md_frame.specs.MarkRuns.{Apart, Marks, White, mark_runs}
 use Rattle.md_frame.specs.Row.{blank_line}
 use Rattle.md_frame.proofs.BetweenFacts.{all-more, blank-low, is_low}
 use Rattle.md_frame.proofs.LineTexts.{past-whole}
-use Rattle.md_frame.proofs.MarkRuns.Cells.{white-other}
+use Rattle.md_leaf_rooms.proofs.MarkRuns.Cells.{white-other}
 use Rattle.md_frame.proofs.PieceFacts.{CutsFirst}
 use Rattle.md_frame.proofs.PieceRuns.{AreMarks}
 

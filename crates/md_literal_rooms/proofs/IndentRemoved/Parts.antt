@@ -16,7 +16,7 @@ use Rattle.md_seam.proofs.SpelledLemmas.{Roles}
 use Rattle.md_containers.proofs.UnlistedLemmas.{NoListing}
 use Rattle.md_frame.proofs.FillFacts.{PartsRead, fill-same}
 use Rattle.md_frame.proofs.LeafStands.{parts-unlisted}
-use Rattle.md_frame.proofs.IndentRemoved.Names.{AreInside, inside-name, is_inside}
+use Rattle.md_literal_rooms.proofs.IndentRemoved.Names.{AreInside, inside-name, is_inside}
 use Rattle.md_frame.proofs.PartFacts.{NoLinks, NoParts}
 use Rattle.md_frame.proofs.PartsStand.{PartsWhole, stands-outside}
 

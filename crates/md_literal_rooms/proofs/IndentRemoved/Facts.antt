@@ -14,9 +14,9 @@ use Rattle.md_seam.proofs.EndingsLemmas.{stays-others}
 use Rattle.md_seam.proofs.GrammarLemmas.{Leads}
 use Rattle.md_frame.specs.RestLine.{rest_line}
 use Rattle.md_frame.specs.LineColumns.{columns_part, lost_line, part_over, past_columns}
-use Rattle.md_frame.proofs.IndentRemoved.Sites.{is_told_of, line_site, lost-passes}
-use Rattle.md_frame.proofs.IndentRemoved.Names.{AreInside, is_inside, lost-inside}
-use Rattle.md_frame.proofs.IndentRemoved.Parts.{inside-filled, inside-others, inside-parts, inside-stands}
+use Rattle.md_literal_rooms.proofs.IndentRemoved.Sites.{is_told_of, line_site, lost-passes}
+use Rattle.md_literal_rooms.proofs.IndentRemoved.Names.{AreInside, is_inside, lost-inside}
+use Rattle.md_literal_rooms.proofs.IndentRemoved.Parts.{inside-filled, inside-others, inside-parts, inside-stands}
 use Rattle.md_frame.proofs.IndentRemoved.Placed.{Placed, lost-placed}
 use Rattle.md_frame.proofs.IndentRemoved.Places.{FurtherAt, has-left}
 use Rattle.md_frame.proofs.IndentRemoved.Reads.{columns-quiet}

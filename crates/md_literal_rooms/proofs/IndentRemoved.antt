@@ -1,0 +1,9 @@
+-- Lines that lose columns of whitespace in front of a part that reaches to their end: of fenced code, math, code and
+-- HTML.
+pub mod Columns
+pub mod Facts
+pub mod Grammar
+pub mod Names
+pub mod Parts
+pub mod Reads
+pub mod Sites
