@@ -280,8 +280,8 @@ abbrev pub new_line : ParseOptions → HeldLeaf → List Container → Rest → 
 new_line options on [] r bs = At (spot_by options bs [] r (line_kind options on r))
 new_line options on (c ∷ cs) r bs = Within bs c (new_line options on cs r End)
 
--- with what the innermost leaf came to; of a text, that stands behind the definitions at its front, or, where a line
--- takes the last line of it as its head, behind what the others come to
+-- with the innermost leaf as it is then; of a text, behind the definitions at its front, or, where a line takes the
+-- last line of it as its head, behind what is read of the others
 abbrev pub with_came : ParseOptions → Bool → Path → LeafResult → Path
 with_came options heads (At s) c = At (came (front_before heads options s.here s.leaf) c)
 with_came options heads (Within before container p) c = Within before container (with_came options heads p c)

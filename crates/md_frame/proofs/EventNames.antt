@@ -1,7 +1,7 @@
 -- Tables of names of events, and of the roles that they have: which are in front of a line, which in a leaf of several
 -- lines, which in neither, and that names of one table are in another, or in none of those by which resolvers ask.
 --
--- Here, where containers are listed (`ContainerNames`), and where leaves are (`LeafName`, `HeldLeaf`), the frame names
+-- Here, where containers are listed (`ContainerNames`), and where leaves are (`LeafName`, `HeldNames`), the frame names
 -- constructs, and nowhere else. Of what a construct does these tables say nothing.
 use Rattle.std.proofs.Common.{◌≡◌, Bool, true, false, cond, ◌&&◌, not, refl}
 use Rattle.md_engine.specs.declared.event.Name.{Name}

@@ -56,37 +56,36 @@ shown (Some block) r = add_block block r
 -- These events stand from a point to a point before text parts are read, and those once they are; they show this block,
 -- or none, and something stands on their last line, or nothing does.
 pub record LeafFacts (bytes : List ℕ) (block : Option Block) (full : Bool) (p q : Point)
-    (unread done : List Event) : Type 0
-  where
-    -- they nest, and go forward
-    pub unread_nested : Nested_in p q unread
-    pub nested : Nested_in p q done
-    -- they cover what stands there
-    pub tiled : Covered p q unread
-    -- their pieces are over what their names say
-    pub unread_stood : PiecesValid bytes unread
-    pub stood : PiecesValid bytes done
-    -- whether the grammar stands behind a block there, or where blocks may begin as at first
-    pub behind : Bool
-    -- they keep the grammar
-    pub unread_word : grammar.Leads unread_text (blocks ∷ []) (blocks_behind behind ∷ []) unread
-    pub word : grammar.Leads plain_text (blocks ∷ []) (blocks_behind behind ∷ []) done
-    -- and where their line ends
-    pub unread_ending : ending.Leads line_start (spot_behind full) unread
-    pub ending : ending.Leads line_start (spot_behind full) done
-    -- nothing is put around any of them, and they are where blocks may be
-    pub unread_unlisted : NoListing unread
-    pub unlisted : NoListing done
-    pub stands : (held : List Bool) → StandsTo bytes (among held) (among held) done
-    -- their text parts are whole, and are read in the places of their chunks
-    pub parts : PartsWhole bytes unread
-    pub filled : PartsRead bytes unread done
-    -- they stand between characters, and may be outlined
-    pub between : is_between bytes p.index ≡ true → is_between bytes q.index ≡ true → AreBetween bytes done
-    pub parted : PrefixesAtLineStart bytes done
-    pub plain : clear bytes p ≡ true → ArePlain bytes done
-    -- they are read as their block
-    pub reads : (r : Reading) → r.text ≡ None → r.leaf ≡ None → read bytes r done ≡ shown block r
+    (unread done : List Event) : Type 0 where
+  -- they nest, and go forward
+  pub unread_nested : Nested_in p q unread
+  pub nested : Nested_in p q done
+  -- they cover what stands there
+  pub tiled : Covered p q unread
+  -- their pieces are over what their names say
+  pub unread_stood : PiecesValid bytes unread
+  pub stood : PiecesValid bytes done
+  -- whether the grammar stands behind a block there, or where blocks may begin as at first
+  pub behind : Bool
+  -- they keep the grammar
+  pub unread_word : grammar.Leads unread_text (blocks ∷ []) (blocks_behind behind ∷ []) unread
+  pub word : grammar.Leads plain_text (blocks ∷ []) (blocks_behind behind ∷ []) done
+  -- and where their line ends
+  pub unread_ending : ending.Leads line_start (spot_behind full) unread
+  pub ending : ending.Leads line_start (spot_behind full) done
+  -- nothing is put around any of them, and they are where blocks may be
+  pub unread_unlisted : NoListing unread
+  pub unlisted : NoListing done
+  pub stands : (held : List Bool) → StandsTo bytes (among held) (among held) done
+  -- their text parts are whole, and are read in the places of their chunks
+  pub parts : PartsWhole bytes unread
+  pub filled : PartsRead bytes unread done
+  -- they stand between characters, and may be outlined
+  pub between : is_between bytes p.index ≡ true → is_between bytes q.index ≡ true → AreBetween bytes done
+  pub parted : PrefixesAtLineStart bytes done
+  pub plain : clear bytes p ≡ true → ArePlain bytes done
+  -- they are read as their block
+  pub reads : (r : Reading) → r.text ≡ None → r.leaf ≡ None → read bytes r done ≡ shown block r
 
 -- The same, whatever they are read as.
 pub record StandFacts (bytes : List ℕ) (full : Bool) (p q : Point) (unread done : List Event) : Type 0 where

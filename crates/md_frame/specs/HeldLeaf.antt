@@ -7,7 +7,8 @@ use Rattle.std.specs.Prelude.{◌≡◌, Bool, true, false, if◌then◌else◌}
 use Rattle.md_engine.specs.declared.tokenizer.held_leaf.HeldLeaf.{HeldLeaf}
 use Rattle.md_engine.specs.declared.tokenizer.held_leaf.HeldLeaf.TheVariants as held_leaf
 use Rattle.md_meaning.specs.Leaves.{LeafResult, Finished, Opened}
-use Rattle.md_meaning.specs.State.{Leaf, NoLeaf, OpenCode, OpenFence, OpenHtml, OpenTable}
+use Rattle.md_meaning.specs.State.{Leaf, NoLeaf}
+use Rattle.md_frame.specs.HeldNames.{kind_of_other}
 use Rattle.md_frame.specs.Leaf.Paragraph.{IsTextOr, held_or}
 
 -- whether a line that starts no other leaf goes on it although not all containers went on (CommonMark 5.1, "laziness"):
@@ -42,15 +43,7 @@ lazy_of _ = held_leaf.None
 abbrev pub met_by : Bool → HeldLeaf → HeldLeaf
 met_by all leaf = if all then leaf else lazy_of leaf
 
--- The kind of an open leaf of the line definition, of one that is no text (a table of names) and of any: between two
--- lines text is held as `Text` alone.
-abbrev pub kind_of_other : Leaf → HeldLeaf
-kind_of_other (OpenCode lines) = held_leaf.Code
-kind_of_other (OpenFence o lines) = held_leaf.Fence o.marker o.size o.indent
-kind_of_other (OpenHtml kind lines) = held_leaf.Html kind
-kind_of_other (OpenTable delimiter rows) = held_leaf.Table
-kind_of_other leaf = held_leaf.None
-
+-- the kind of an open leaf of the line definition: between two lines text is held as `Text` alone
 abbrev pub kind_of_leaf : Leaf → HeldLeaf
 kind_of_leaf leaf = held_or kind_of_other leaf
 

@@ -8,12 +8,12 @@ use Rattle.md_engine.specs.declared.event.Point.{Point}
 use Rattle.md_content.specs.ContentReads.{is_piece_end}
 
 -- between two lines: where the chunk of the first ends, and what stands in front of the second
-pub record Break : Type 0 where
+pub record LineBreak : Type 0 where
   pub after : Point
   pub front : List Event
 
 -- events that are read over lines with these breaks
-abbrev pub laid : List Break → List Event → List Event
+abbrev pub laid : List LineBreak → List Event → List Event
 laid [] es = es
 laid (b ∷ bs) [] = []
 laid (b ∷ bs) (e ∷ es) =

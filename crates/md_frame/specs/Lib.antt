@@ -6,6 +6,7 @@ pub mod ContainerRules
 pub mod Context
 pub mod EndingName
 pub mod HeldLeaf
+pub mod HeldNames
 pub mod Laid
 pub mod Leaf
 pub mod LeafName

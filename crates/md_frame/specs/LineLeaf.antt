@@ -41,7 +41,7 @@ pub record LineLeaf : Type 0 where
   pub adds : ParseOptions → HeldLeaf → List Cell → Point → List Event
   pub keeps : ParseOptions → HeldLeaf → List Cell → Point → HeldLeaf
   -- By the rest of a line, as the line definition has it: whether it starts there, what is held behind it, what the
-  -- open leaf comes to with it, and its block, if it always ends on its line.
+  -- open leaf is with it, and its block, if it always ends on its line.
   pub starts : ParseOptions → HeldLeaf → Rest → Bool
   pub holds : ParseOptions → HeldLeaf → Rest → HeldLeaf
   pub comes : ParseOptions → Leaf → Rest → LeafResult

@@ -15,7 +15,7 @@ use Rattle.md_seam.specs.Events.Inline.{plain_chunk}
 use Rattle.md_seam.specs.Events.Places.{past_text}
 use Rattle.md_seam.specs.Events.Nested.{around, pair}
 use Rattle.md_meaning.specs.State.{Container}
-use Rattle.md_frame.specs.Laid.{Break}
+use Rattle.md_frame.specs.Laid.{LineBreak}
 use Rattle.md_frame.specs.EndingName.{ending_name}
 use Rattle.md_frame.specs.LeafName.{LeafName}
 use Rattle.md_frame.specs.TurnLeaf.{TurnLeaf}
@@ -98,7 +98,7 @@ read_lines bytes row (next ∷ rows) =
     plain_chunk bytes (record { first = row.first; after = behind_row row }) ++ next.front ++ read_lines bytes next rows
 
 -- between lines: where each ends, and what stands in front of the next
-abbrev pub breaks_of : Row → List Row → List Break
+abbrev pub breaks_of : Row → List Row → List LineBreak
 breaks_of row [] = []
 breaks_of row (next ∷ rows) = (record { after = behind_row row; front = next.front }) ∷ breaks_of next rows
 

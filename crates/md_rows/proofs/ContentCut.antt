@@ -22,7 +22,7 @@ use Rattle.md_seam.specs.declared.inline.Chunk.{Chunk}
 use Rattle.md_seam.specs.Events.Nested.{around, enter, exit, pair}
 use Rattle.md_seam.specs.Substituted.{belongs}
 use Rattle.md_rows.specs.BlockList.{lines_unread, text_unread}
-use Rattle.md_frame.specs.Laid.{Break, laid}
+use Rattle.md_frame.specs.Laid.{LineBreak, laid}
 use Rattle.md_frame.specs.Row.{Row, behind_row, breaks_of, chunks_of}
 use Rattle.md_rows.specs.Rows.{behind_cut, cut_at_most, cut_by}
 use Rattle.md_frame.specs.Row.{ending_events, last_row}
@@ -43,13 +43,13 @@ use Rattle.md_frame.proofs.SubstitutedLemmas.{AllBelong, CutAt, NextBelongs}
 -- Cuts.
 
 -- events that belong to the lines of a break, and others behind it
-placed-all : (b : Break) (bs : List Break) (mine more : List Event) → AllBelong b.after.index mine →
+placed-all : (b : LineBreak) (bs : List LineBreak) (mine more : List Event) → AllBelong b.after.index mine →
     placed (b ∷ bs) (mine ++ more) ≡ mine ++ placed (b ∷ bs) more
 placed-all b bs [] more h = refl
 placed-all b bs (e ∷ mine) more h =
     placed-here b bs e (mine ++ more) h.0 ∙ ap (λ (l : List Event). e ∷ l) (placed-all b bs mine more h.1)
 
-placed-next : (b : Break) (bs : List Break) (more : List Event) → NextBelongs b.after.index more →
+placed-next : (b : LineBreak) (bs : List LineBreak) (more : List Event) → NextBelongs b.after.index more →
     placed (b ∷ bs) more ≡ b.front ++ placed bs more
 placed-next b bs [] h = refl
 placed-next b bs (e ∷ more) h =
@@ -60,7 +60,7 @@ cut-placed : (row : Row) (rows : List Row) (left done : List Event) → CutAt ro
     placed (breaks_of row rows) left ≡ done
 cut-placed row [] left done cut = sym cut
 cut-placed row (next ∷ rows) left done cut =
-    let b : Break = record { after = behind_row row; front = next.front } in
+    let b : LineBreak = record { after = behind_row row; front = next.front } in
     let bs = breaks_of next rows in
     ap (placed (b ∷ bs)) cut.3
     ∙ placed-all b bs cut.0 cut.1 cut.4
@@ -93,7 +93,7 @@ split end (e ∷ es) = go (belongs end e) refl (split end es)
 placed-cut : (row : Row) (rows : List Row) (left : List Event) → CutAt row rows left (placed (breaks_of row rows) left)
 placed-cut row [] left = refl
 placed-cut row (next ∷ rows) left =
-    let b : Break = record { after = behind_row row; front = next.front } in
+    let b : LineBreak = record { after = behind_row row; front = next.front } in
     let bs = breaks_of next rows in
     let s = split (behind_row row).index left in (
       s.mine,
@@ -167,7 +167,7 @@ pub breaks-split : (row : Row) (own : List Row) (next : Row) (more : List Row) �
     breaks_of row own ++ ((record { after = behind_row (last_row row own); front = next.front }) ∷ breaks_of next more)
 breaks-split row [] next more = refl
 breaks-split row (x ∷ own) next more =
-    ap (λ (l : List Break). (record { after = behind_row row; front = x.front }) ∷ l) (breaks-split x own next more)
+    ap (λ (l : List LineBreak). (record { after = behind_row row; front = x.front }) ∷ l) (breaks-split x own next more)
 
 pub last-split : (row : Row) (own : List Row) (next : Row) (more : List Row) →
     last_row row (own ++ next ∷ more) ≡ last_row next more
@@ -180,9 +180,9 @@ pub lines-split : (options : ParseOptions) (bytes : List ℕ) (row : Row) (own :
 lines-split options bytes row [] next more h = h
 lines-split options bytes row (x ∷ own) next more h = lines-split options bytes x own next more h.7
 
-bared-split : (bs cs : List Break) → bared (bs ++ cs) ≡ bared bs ++ bared cs
+bared-split : (bs cs : List LineBreak) → bared (bs ++ cs) ≡ bared bs ++ bared cs
 bared-split [] cs = refl
-bared-split (b ∷ bs) cs = ap (λ (l : List Break). (record { after = b.after; front = [] }) ∷ l) (bared-split bs cs)
+bared-split (b ∷ bs) cs = ap (λ (l : List LineBreak). (record { after = b.after; front = [] }) ∷ l) (bared-split bs cs)
 
 -- a line begins in front of its break, and in front of the end of all
 first-before : (options : ParseOptions) (bytes : List ℕ) (row : Row) (rows : List Row) →
@@ -227,14 +227,14 @@ defines : (row : Row) (own : List Row) (d : DefinitionParts) →
 defines row own d set =
     let bs = breaks_of row own in
     let laid_are : laid (bared bs) (definition_events d row.first ++ []) ≡ set.settled ++ [] =
-    ap (λ (l : List Break). laid l (definition_events d row.first ++ [])) (sym (append-nil (bared bs)))
+    ap (λ (l : List LineBreak). laid l (definition_events d row.first ++ [])) (sym (append-nil (bared bs)))
     ∙ set.settles [] tt [] in
     record {
       ends = end_in-append (last_row row own).end (definition_events d row.first) [] set.ends tt;
       fits = subst (Fits row.first) (sym laid_are) (set.begins [] tt);
       cut =
           ap (placed bs) laid_are
-          ∙ ap (λ (l : List Break). placed l (set.settled ++ [])) (sym (append-nil bs))
+          ∙ ap (λ (l : List LineBreak). placed l (set.settled ++ [])) (sym (append-nil bs))
           ∙ set.cuts [] tt [] tt;
     }
 
@@ -250,7 +250,7 @@ follows options bytes row own next more d es done h end set read =
     let last = last_row row own in
     let two = lines-split options bytes row own next more h in
     let apart = are-apart options bytes last next more two in
-    let b : Break = record { after = behind_row last; front = next.front } in
+    let b : LineBreak = record { after = behind_row last; front = next.front } in
     let bs = breaks_of next more in
     let e = definition_end d in
     let at = ap (λ (p : Point). p.index) end in
@@ -264,7 +264,7 @@ follows options bytes row own next more d es done h end set read =
     let met : nat_le b.after.index next.first.index ≡ true = grind (arith, nat_tests) in
     let laid_are : laid (bared (breaks_of row (own ++ next ∷ more)))
     (events ++ (pair n.LineEnding e next.first ++ es)) ≡ set.settled ++ behind =
-    ap (λ (l : List Break). laid l (events ++ (pair n.LineEnding e next.first ++ es)))
+    ap (λ (l : List LineBreak). laid l (events ++ (pair n.LineEnding e next.first ++ es)))
     (ap bared all ∙ bared-split (breaks_of row own) (b ∷ bs))
     ∙ set.settles (bared (b ∷ bs)) before (pair n.LineEnding e next.first ++ es)
     ∙ ap
@@ -287,7 +287,7 @@ follows options bytes row own next more d es done h end set read =
       fits = subst (Fits row.first) (sym laid_are) (set.begins behind (omega arith));
       cut =
           ap (placed (breaks_of row (own ++ next ∷ more))) laid_are
-          ∙ ap (λ (l : List Break). placed l (set.settled ++ behind)) all
+          ∙ ap (λ (l : List LineBreak). placed l (set.settled ++ behind)) all
           ∙ set.cuts (b ∷ bs) before behind (omega arith)
           ∙ ap (λ (l : List Event). defined_unread d row own ++ l)
           (placed-here b bs (enter n.LineEnding e) (exit n.LineEnding b.after ∷ inside) opens

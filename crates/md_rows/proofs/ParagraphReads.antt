@@ -1,6 +1,7 @@
 -- A paragraph over the cells of its lines is these lines, whose text is not read yet. Each ends behind its ending, and
 -- the next begins behind the prefixes of its containers.
-use Rattle.std.proofs.Common.{◌≡◌, inl, inr, ℕ, zero, suc, ◌+◌, ◌-◌, ◌^◌, ◌<◌, ◌≤◌, Bool, true, false, cond, List, [], ◌∷◌, ◌++◌}
+use Rattle.std.proofs.Common.{◌≡◌, inl, inr, ℕ, zero, suc, ◌+◌, ◌-◌, ◌^◌, ◌<◌, ◌≤◌, Bool, true, false, cond, List, []}
+use Rattle.std.proofs.Common.{◌∷◌, ◌++◌}
 use Rattle.std.proofs.Common.{length, drop, refl, ap, sym, ◌∙◌, subst, append_assoc, append-nil, drop-drop}
 use Rattle.std.proofs.Common.{length-append, length-drop, arith}
 use Rattle.std.specs.Prelude.{◌==◌, ◌&&◌, Option, Some, nat_le, nat_lt, slice_get, slice_index}
@@ -28,7 +29,7 @@ use Rattle.md_seam.proofs.FeedLines.{feed-none, next_column, past-next, past_end
 use Rattle.md_seam.proofs.FeedLines.{tab-feed, tab_cells, tab_end, tab_end-last, tab_end-next, tab_end-stop}
 use Rattle.md_seam.proofs.PlacesLemmas.{at-next}
 use Rattle.md_meaning.proofs.TextsLemmas.{Ending, EndsBefore, NoEnding, ending_bytes}
-use Rattle.md_frame.specs.Laid.{Break, laid}
+use Rattle.md_frame.specs.Laid.{LineBreak, laid}
 use Rattle.md_frame.specs.Row.{Row, TextRow, behind_row, breaks_of, chunks_of, last_row}
 use Rattle.md_rows.specs.Rows.{lines_cells}
 use Rattle.md_frame.specs.Linked.{linked}
@@ -54,13 +55,15 @@ row-within options bytes line row is text =
     let more = length-drop row.end.index bytes in
     omega (arith, is.size)
 
-pub first-row : (options : ParseOptions) (bytes : List ℕ) (row : Row) (rows : List Row) → AreLines options bytes row rows →
+pub first-row : (options : ParseOptions) (bytes : List ℕ) (row : Row) (rows : List Row) →
+    AreLines options bytes row rows →
     (line : List ℕ) × IsRow options bytes line row
 first-row options bytes row [] h = (h.0, h.1)
 first-row options bytes row (next ∷ rows) h = (h.0, h.1)
 
 -- the first line ends where the last does, or before
-pub ends-grow : (options : ParseOptions) (bytes : List ℕ) (row : Row) (rows : List Row) → AreLines options bytes row rows →
+pub ends-grow : (options : ParseOptions) (bytes : List ℕ) (row : Row) (rows : List Row) →
+    AreLines options bytes row rows →
     row.end.index ≤ (last_row row rows).end.index
 ends-grow options bytes row [] h = omega arith
 ends-grow options bytes row (next ∷ rows) h =
@@ -304,8 +307,8 @@ lines-read options bytes x k row (next ∷ rows) behind h r ends =
     exit n.Data next.first ∷ enter_link n.Data next.first text_link ∷ line_events (text_feed x next.first) next.first =
     read.lines ∙ ap (λ (l : List Cell). line_events l row.end) feed in
     let all : List Event = text_events x next.first behind in
-    let bs : List Break = bared (breaks_of next rows) in
-    let b : Break = record { after = behind_row row; front = [] } in
+    let bs : List LineBreak = bared (breaks_of next rows) in
+    let b : LineBreak = record { after = behind_row row; front = [] } in
     record {
       laid_are =
           ap
@@ -389,7 +392,8 @@ end-is row [] = refl
 end-is row (next ∷ []) = refl
 end-is row (next ∷ below ∷ rows) = end-is next (below ∷ rows)
 
-pub part-read : (options under : ParseOptions) (bytes : List ℕ) → length bytes < 2 ^ 61 → (row : Row) (rows : List Row) →
+pub part-read : (options under : ParseOptions) (bytes : List ℕ) → length bytes < 2 ^ 61 →
+    (row : Row) (rows : List Row) →
     AreLines options bytes row rows → AreRead (part_world bytes under (chunks_of row rows)).setting bytes 0 row rows
 part-read options under bytes small row rows h =
     let chunks = chunks_of row rows in
@@ -433,7 +437,7 @@ paragraph-reads options bytes small row rows h =
       ends = (λ no. cc, read.ends);
     })
   where
-    front : (bs : List Break) (es : List Event) → laid bs (enter n.Paragraph row.first ∷ es) ≡
+    front : (bs : List LineBreak) (es : List Event) → laid bs (enter n.Paragraph row.first ∷ es) ≡
         enter n.Paragraph row.first ∷ laid bs es
     front [] es = refl
     front (b ∷ bs) es = refl

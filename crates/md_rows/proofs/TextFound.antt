@@ -1,5 +1,5 @@
--- What a line comes to where text is open: it may turn what is left of the text behind its definitions, make its last
--- line the head of a table, go on it, or begin a leaf behind it.
+-- What a line does where text is open: it may turn what is left of the text behind its definitions, make its last
+-- line the head of a table, continue it, or begin a leaf behind it.
 use Rattle.std.proofs.Common.{◌≡◌, ℕ, Bool, true, false, cond, ◌&&◌, ◌||◌, List, [], ◌∷◌, ◌++◌, length, refl, ap}
 use Rattle.std.proofs.Common.{ap₂, sym, ◌∙◌, subst}
 use Rattle.std.specs.Prelude.{◌==◌, not, if◌then◌else◌, Option, Some, None}
@@ -202,8 +202,8 @@ knows-head lines k = record {
   indent = last-is (λ k. k.indent) lines k;
 }
 
--- What a line that is not blank comes to where text is open, by the leaf that takes it: it turns what is left of the
--- text behind its definitions, or makes its last line a head, behind what the lines in front of that come to, or it
+-- What a line that is not blank does where text is open, by the leaf that takes it: it turns what is left of the text
+-- behind its definitions, or makes its last line a head, behind what is read of the lines in front of that, or it
 -- begins a leaf behind the text.
 
 abbrev pub front_before : Bool → ParseOptions → Blocks → Leaf → Blocks

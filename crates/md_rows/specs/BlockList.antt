@@ -43,7 +43,7 @@ text_unread options bytes row rows =
 abbrev pub heading_unread : Row → Row → List Row → List Event
 heading_unread under row rows = turned_by turn_leaf (unread_lines row rows) row rows under
 
--- what stands in the place of a text and the line that turns it: the definitions at the front of the text, and what
+-- what is in the place of a text and the line that turns it: the definitions at the front of the text, and what
 -- that line turns the rest into
 abbrev pub turned_unread : ParseOptions → List ℕ → Row → List Row → Row → List Event
 turned_unread options bytes row rows under =

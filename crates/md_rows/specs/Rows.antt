@@ -375,16 +375,16 @@ text_done options bytes row rows =
 abbrev pub heading_done : List ℕ → Row → Row → List Row → List Event
 heading_done bytes under row rows = turned_by turn_leaf (read_lines bytes row rows) row rows under
 
--- what stands in the place of a text and the line that turns it, once they are read: the definitions at the front of
+-- what is in the place of a text and the line that turns it, once they are read: the definitions at the front of
 -- the text, and what that line turns the rest into
 abbrev pub turned_done : ParseOptions → List ℕ → Row → List Row → Row → List Event
 turned_done options bytes row rows under =
     cut_at_most (defined_done bytes) (heading_done bytes under) options bytes (suc (length rows)) row rows
 
 -- The lines of a leaf of several, joined. A line is a pair of its own, from its begin to its end; but a blank line in
--- indented code stands bare, without them, since it may stand behind the code. What the first line adds but its end,
+-- indented code is bare, without them, since it may be behind the code. What the first line adds but its end,
 -- what a further one adds but its begin and its end, and the end of the last that has one are one block; between its
--- lines stand an ending in the leaf, and prefixes. Bare lines behind it are whitespace.
+-- lines are an ending in the leaf, and prefixes. Bare lines behind it are whitespace.
 
 -- Of a group: its first line and its last, what its last line is, and its leaf.
 

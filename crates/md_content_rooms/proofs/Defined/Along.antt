@@ -15,7 +15,7 @@ use Rattle.md_seam.specs.Events.Places.{past_byte}
 use Rattle.md_seam.proofs.FeedLines.{NoFeed, all-spread, behind_last, bytes-append, bytes_of, cell, columns_more}
 use Rattle.md_seam.proofs.FeedLines.{next_column, spread, tab_cells, tab_end}
 use Rattle.md_seam.proofs.RestCells.{cells_by}
-use Rattle.md_frame.specs.Laid.{Break}
+use Rattle.md_frame.specs.Laid.{LineBreak}
 use Rattle.md_content_rooms.proofs.Defined.Form.{IsBreak}
 
 -- Where cells stand.
@@ -24,14 +24,15 @@ use Rattle.md_content_rooms.proofs.Defined.Form.{IsBreak}
 abbrev pub no_line : Line
 no_line = record { start = 0; lazy = false }
 
--- between two lines: where the first ends, what stands between them, where the second begins, and the cells from there on
+-- between two lines: where the first ends, what stands between them, where the second begins, and the cells from there
+-- on
 pub record Turn : Type 0 where
   pub end : Point
-  pub break : Break
+  pub break : LineBreak
   pub first : Point
   pub cells : List Cell
 
-abbrev pub breaks : List Turn → List Break
+abbrev pub breaks : List Turn → List LineBreak
 breaks [] = []
 breaks (turn ∷ turns) = turn.break ∷ breaks turns
 
@@ -74,7 +75,8 @@ IsCell bytes p c cs turns left = (IsStep bytes p c × (turns ≡ left)) ⊎ IsTu
 -- these cells stand from a point on, over these turns, up to a last point
 abbrev pub Walks : List ℕ → Point → Point → List Cell → List Turn → Type 0
 Walks bytes last p [] turns = (p ≡ last) × (turns ≡ [])
-Walks bytes last p (c ∷ cs) turns = (left : List Turn) × IsCell bytes p c cs turns left × Walks bytes last c.after cs left
+Walks bytes last p (c ∷ cs) turns =
+    (left : List Turn) × IsCell bytes p c cs turns left × Walks bytes last c.after cs left
 
 -- Cells of a line.
 

@@ -16,7 +16,7 @@ use Rattle.md_seam.specs.Events.Pieces.{piece_stands}
 use Rattle.md_seam.specs.Events.Places.{at_or_before, same_place}
 use Rattle.md_seam.specs.Substituted.{belongs, belongs_by}
 use Rattle.md_seam.proofs.NestedLemmas.{at_or_before-refl, at_or_before-trans, forward-last}
-use Rattle.md_frame.specs.Laid.{Break}
+use Rattle.md_frame.specs.Laid.{LineBreak}
 use Rattle.md_frame.proofs.FrontFacts.{Begins, Behind, Goes, LinePrefix}
 use Rattle.md_frame.proofs.FrontPlaces.{fronts-grow}
 use Rattle.md_frame.proofs.PiecesLemmas as tiles
@@ -26,22 +26,22 @@ use Rattle.md_frame.proofs.SpanLemmas.{Spans, order-grows}
 -- Where cells stand.
 
 -- in front of the next break
-abbrev pub Before : Point → List Break → Type 0
+abbrev pub Before : Point → List LineBreak → Type 0
 Before p [] = Unit {0}
 Before p (b ∷ bs) = p.index < b.after.index
 
 -- breaks with nothing in front of lines
-abbrev pub bared : List Break → List Break
+abbrev pub bared : List LineBreak → List LineBreak
 bared [] = []
 bared (b ∷ bs) = (record { after = b.after; front = [] }) ∷ bared bs
 
 -- events that belong to the lines of a break, and more behind it
-abbrev pub put : Break → (List Event → List Event) → List Event → List Event
+abbrev pub put : LineBreak → (List Event → List Event) → List Event → List Event
 put b more [] = b.front ++ more []
 put b more (e ∷ es) = if belongs b.after.index e then e ∷ put b more es else b.front ++ more (e ∷ es)
 
 -- events, with what stands in front of each line put where they belong to no earlier line
-abbrev pub placed : List Break → List Event → List Event
+abbrev pub placed : List LineBreak → List Event → List Event
 placed [] es = es
 placed (b ∷ bs) es = put b (placed bs) es
 
@@ -91,13 +91,13 @@ belongs-upto e q end h k = go e.kind
     go Enter = open_one
     go Exit = shut_one
 
-pub placed-here : (b : Break) (bs : List Break) (e : Event) (es : List Event) → belongs b.after.index e ≡ true →
+pub placed-here : (b : LineBreak) (bs : List LineBreak) (e : Event) (es : List Event) → belongs b.after.index e ≡ true →
     placed (b ∷ bs) (e ∷ es) ≡ e ∷ placed (b ∷ bs) es
 placed-here b bs e es h =
     ap (λ (x : Bool). cond x (e ∷ put b (placed bs) es) (b.front ++ placed bs (e ∷ es))) h
 
 -- all up to a point in front of the break
-pub placed-upto : (bs : List Break) (q : Point) (es more : List Event) → Upto q es → Before q bs →
+pub placed-upto : (bs : List LineBreak) (q : Point) (es more : List Event) → Upto q es → Before q bs →
     placed bs (es ++ more) ≡ es ++ placed bs more
 placed-upto [] q es more upto before = refl
 placed-upto (b ∷ bs) q [] more upto before = refl
@@ -113,13 +113,13 @@ later-belongs e i j h le = go e.kind h
     go Enter h = grind (arith, nat_tests)
     go Exit h = grind (arith, nat_tests)
 
-placed-bare : (b : Break) (bs : List Break) (es : List Event) → b.front ≡ [] →
-    ((c : Break) (cs : List Break) → bs ≡ c ∷ cs → b.after.index ≤ c.after.index) →
+placed-bare : (b : LineBreak) (bs : List LineBreak) (es : List Event) → b.front ≡ [] →
+    ((c : LineBreak) (cs : List LineBreak) → bs ≡ c ∷ cs → b.after.index ≤ c.after.index) →
     placed (b ∷ bs) es ≡ placed bs es
 placed-bare b bs [] bare le = ap (λ (l : List Event). l ++ placed bs []) bare
 placed-bare b bs (e ∷ es) bare le = go (belongs b.after.index e) refl (placed-bare b bs es bare le)
   where
-    on : (cs : List Break) → bs ≡ cs → belongs b.after.index e ≡ true → e ∷ placed cs es ≡ placed cs (e ∷ es)
+    on : (cs : List LineBreak) → bs ≡ cs → belongs b.after.index e ≡ true → e ∷ placed cs es ≡ placed cs (e ∷ es)
     on [] k h = refl
     on (c ∷ cs) k h =
         sym (placed-here c cs e es (later-belongs e b.after.index c.after.index h (le c cs k)))
@@ -130,13 +130,14 @@ placed-bare b bs (e ∷ es) bare le = go (belongs b.after.index e) refl (placed-
     go false h more = ap (λ (l : List Event). l ++ placed bs (e ∷ es)) bare
 
 -- At a break events that begin where the next line does belong to that line, unless nothing stands between.
-pub placed-break : (b : Break) (bs : List Break) (q : Point) (es : List Event) → Fits q es → b.after.index ≤ q.index →
+pub placed-break : (b : LineBreak) (bs : List LineBreak) (q : Point) (es : List Event) → Fits q es →
+    b.after.index ≤ q.index →
     Before q bs → (q.index ≡ b.after.index → q.vs ≡ 0 → b.front ≡ []) →
     placed (b ∷ bs) es ≡ b.front ++ placed bs es
 placed-break b bs q [] fits le before bare = refl
 placed-break b bs q (e ∷ es) fits le before bare = go (belongs b.after.index e) refl
   where
-    sorted : (cs : List Break) → Before q cs → (c : Break) (ds : List Break) → cs ≡ c ∷ ds →
+    sorted : (cs : List LineBreak) → Before q cs → (c : LineBreak) (ds : List LineBreak) → cs ≡ c ∷ ds →
         b.after.index ≤ c.after.index
     sorted [] h c ds k = cc
     sorted (x ∷ xs) h c ds k =
@@ -223,7 +224,8 @@ pub bare-front : (bytes : List ℕ) (opens : List Container) (p q : Point) (es :
 bare-front bytes opens p q es (Behind at) none first last same = refl
 bare-front bytes opens p q es (Goes open_ones first mid last xs ys is more) none h k same =
     let span = is.common.nested.1 in
-    let to = order-grows first mid (at_or_before-trans first (last_point first xs) mid (forward-last first xs span.0) span.1) in
+    let to = order-grows first mid (at_or_before-trans first (last_point first xs) mid
+    (forward-last first xs span.0) span.1) in
     let further = fronts-grow bytes open_ones mid last ys more in
     let at : mid.index ≡ first.index = omega (arith, to, further, same) in
     let order = fronts-order bytes open_ones mid last ys more in

@@ -19,7 +19,7 @@ use Rattle.md_seam.specs.Events.Places.{past_byte}
 use Rattle.md_seam.specs.Events.Tiles.{is_data}
 use Rattle.md_seam.specs.Spaces.{any_size}
 use Rattle.md_seam.proofs.FeedLines.{NoFeed, behind_last, ending-some, next_column}
-use Rattle.md_frame.specs.Laid.{Break, laid}
+use Rattle.md_frame.specs.Laid.{LineBreak, laid}
 use Rattle.md_content_rooms.proofs.Defined.Along.{IsCell, IsStep, IsTurn, Kind, OfByte}
 use Rattle.md_content_rooms.proofs.Defined.Along.{OfColumn, OfLast, Stands, Steps, Turn, Walks, breaks, column_byte}
 use Rattle.md_content_rooms.proofs.Defined.Along.{kind}
@@ -63,7 +63,7 @@ step-whole bytes p c stands is other = go (kind bytes p c stands is)
 
 -- Where cells stand.
 
-pub before-from : (p q : Point) (bs : List Break) → p.index ≤ q.index → Before q bs → Before p bs
+pub before-from : (p q : Point) (bs : List LineBreak) → p.index ≤ q.index → Before q bs → Before p bs
 before-from p q [] le h = tt
 before-from p q (b ∷ bs) le h = omega (arith, le, h)
 
@@ -109,7 +109,7 @@ abbrev pub Quiet : List Event → Type 0
 Quiet [] = Unit {0}
 Quiet (e ∷ es) = (is_piece_end e ≡ false) × Quiet es
 
-pub laid-quiet : (bs : List Break) (es more : List Event) → Quiet es → laid bs (es ++ more) ≡ es ++ laid bs more
+pub laid-quiet : (bs : List LineBreak) (es more : List Event) → Quiet es → laid bs (es ++ more) ≡ es ++ laid bs more
 laid-quiet [] es more quiet = refl
 laid-quiet (b ∷ bs) [] more quiet = refl
 laid-quiet (b ∷ bs) (e ∷ es) more quiet =
@@ -121,7 +121,7 @@ laid-quiet (b ∷ bs) (e ∷ es) more quiet =
     ∙ ap (λ (l : List Event). e ∷ l) (laid-quiet (b ∷ bs) es more quiet.1)
 
 -- and one in front of the next
-pub laid-before : (bs : List Break) (e : Event) (more : List Event) → Before e.point bs →
+pub laid-before : (bs : List LineBreak) (e : Event) (more : List Event) → Before e.point bs →
     laid bs (e ∷ more) ≡ e ∷ laid bs more
 laid-before [] e more before = refl
 laid-before (b ∷ bs) e more before =
@@ -149,7 +149,8 @@ end_in-append last (x ∷ xs) ys h k = (h.0, end_in-append last xs ys h.1 k)
 
 pub quiet-end_in : (last : Point) (es : List Event) → Quiet es → EndIn last es
 quiet-end_in last [] quiet = tt
-quiet-end_in last (e ∷ es) quiet = (λ ends. let no : true ≡ false = sym ends ∙ quiet.0 in cc, quiet-end_in last es quiet.1)
+quiet-end_in last (e ∷ es) quiet =
+    (λ ends. let no : true ≡ false = sym ends ∙ quiet.0 in cc, quiet-end_in last es quiet.1)
 
 -- Cells that end at a point begin there or in front of it.
 step-apart : (bytes : List ℕ) (p last : Point) (c : Cell) → Stands bytes p → IsStep bytes p c → last.vs ≡ 0 →
@@ -185,7 +186,8 @@ walks-last bytes last p (c ∷ cs) turns stands walks whole =
 
     go : IsCell bytes p c cs turns walks.0 → (Stands bytes c.after → (c.after ≡ last) ⊎ (c.after.index < last.index)) →
         (p ≡ last) ⊎ (p.index < last.index)
-    go (inl (step, same)) on = inr (step-apart bytes p last c stands step whole (on (step-stands bytes p c stands step)))
+    go (inl (step, same)) on =
+        inr (step-apart bytes p last c stands step whole (on (step-stands bytes p c stands step)))
     go (inr turn) on =
         let grows = turn-grows bytes p c cs turns walks.0 turn in
         let first = grows.0 in
@@ -217,17 +219,17 @@ pub record Takes (bytes : List ℕ) (last p : Point) (turns : List Turn) (q : Po
   pub turns_are : turns ≡ took ++ left
   pub line : q.line ≡ p.line + length took
   pub index : p.index ≤ q.index
-  pub before : (bs : List Break) → Before q bs → Before p (breaks took ++ bs)
-  pub lays : (bs : List Break) → Before q bs → (more : List Event) →
+  pub before : (bs : List LineBreak) → Before q bs → Before p (breaks took ++ bs)
+  pub lays : (bs : List LineBreak) → Before q bs → (more : List Event) →
       laid (breaks took ++ bs) (es ++ more) ≡ fs ++ laid bs more
   -- where they end in no tab they begin in none, if no byte stands between
   pub kept : p.index ≡ q.index → q.vs ≡ 0 → p.vs ≡ 0
   -- without what stands in front of lines they are these, to whose lines the events belong by their bytes
   pub settled : List Event
-  pub settles : (bs : List Break) → Before q bs → (more : List Event) →
+  pub settles : (bs : List LineBreak) → Before q bs → (more : List Event) →
       laid (bared (breaks took) ++ bs) (es ++ more) ≡ settled ++ laid bs more
   pub begins : (more : List Event) → Fits q more → Fits p (settled ++ more)
-  pub cuts : (bs : List Break) → Before q bs → (more : List Event) → Fits q more →
+  pub cuts : (bs : List LineBreak) → Before q bs → (more : List Event) → Fits q more →
       placed (breaks took ++ bs) (settled ++ more) ≡ fs ++ placed bs more
   -- each piece ends in front of where all ends, or there
   pub ends : EndIn last es
@@ -251,20 +253,20 @@ takes-none bytes last p cells turns walk = record {
   ends = tt;
 }
 
-bared-append : (ts us : List Turn) (bs : List Break) →
+bared-append : (ts us : List Turn) (bs : List LineBreak) →
     bared (breaks (ts ++ us)) ++ bs ≡ bared (breaks ts) ++ (bared (breaks us) ++ bs)
 bared-append [] us bs = refl
 bared-append (t ∷ ts) us bs =
-    ap (λ (l : List Break). (record { after = t.break.after; front = [] }) ∷ l) (bared-append ts us bs)
+    ap (λ (l : List LineBreak). (record { after = t.break.after; front = [] }) ∷ l) (bared-append ts us bs)
 
 -- in front of breaks with nothing in front of their lines
-pub before-bared : (p : Point) (bs cs : List Break) → Before p (bs ++ cs) → Before p (bared bs ++ cs)
+pub before-bared : (p : Point) (bs cs : List LineBreak) → Before p (bs ++ cs) → Before p (bared bs ++ cs)
 before-bared p [] cs h = h
 before-bared p (b ∷ bs) cs h = h
 
-breaks-append : (ts us : List Turn) (bs : List Break) → breaks (ts ++ us) ++ bs ≡ breaks ts ++ (breaks us ++ bs)
+breaks-append : (ts us : List Turn) (bs : List LineBreak) → breaks (ts ++ us) ++ bs ≡ breaks ts ++ (breaks us ++ bs)
 breaks-append [] us bs = refl
-breaks-append (t ∷ ts) us bs = ap (λ (l : List Break). t.break ∷ l) (breaks-append ts us bs)
+breaks-append (t ∷ ts) us bs = ap (λ (l : List LineBreak). t.break ∷ l) (breaks-append ts us bs)
 
 -- one behind another
 pub takes-then : (bytes : List ℕ) (last p : Point) (turns : List Turn) (q : Point) (rest : List Cell)
@@ -284,9 +286,10 @@ takes-then bytes last p turns q rest left es fs r behind end gs hs one two = rec
       omega (arith, size, first, second);
   index = let first = one.index in let second = two.index in omega (arith, first, second);
   before = λ bs h.
-      subst (Before p) (sym (breaks-append one.took two.took bs)) (one.before (breaks two.took ++ bs) (two.before bs h));
+      subst (Before p) (sym (breaks-append one.took two.took bs))
+      (one.before (breaks two.took ++ bs) (two.before bs h));
   lays = λ bs h more.
-      ap (λ (l : List Break). laid l ((es ++ gs) ++ more)) (breaks-append one.took two.took bs)
+      ap (λ (l : List LineBreak). laid l ((es ++ gs) ++ more)) (breaks-append one.took two.took bs)
       ∙ ap (laid (breaks one.took ++ (breaks two.took ++ bs))) (append_assoc es gs more)
       ∙ one.lays (breaks two.took ++ bs) (two.before bs h) (gs ++ more)
       ∙ ap (λ (l : List Event). fs ++ l) (two.lays bs h more)
@@ -297,7 +300,7 @@ takes-then bytes last p turns q rest left es fs r behind end gs hs one two = rec
       one.kept (omega (arith, first, second, same)) (two.kept (omega (arith, first, second, same)) whole);
   settled = one.settled ++ two.settled;
   settles = λ bs h more.
-      ap (λ (l : List Break). laid l ((es ++ gs) ++ more)) (bared-append one.took two.took bs)
+      ap (λ (l : List LineBreak). laid l ((es ++ gs) ++ more)) (bared-append one.took two.took bs)
       ∙ ap (laid (bared (breaks one.took) ++ (bared (breaks two.took) ++ bs))) (append_assoc es gs more)
       ∙ one.settles (bared (breaks two.took) ++ bs) (before-bared q (breaks two.took) bs (two.before bs h)) (gs ++ more)
       ∙ ap (λ (l : List Event). one.settled ++ l) (two.settles bs h more)
@@ -306,7 +309,7 @@ takes-then bytes last p turns q rest left es fs r behind end gs hs one two = rec
       subst (Fits p) (sym (append_assoc one.settled two.settled more))
       (one.begins (two.settled ++ more) (two.begins more fits));
   cuts = λ bs h more fits.
-      ap (λ (l : List Break). placed l ((one.settled ++ two.settled) ++ more)) (breaks-append one.took two.took bs)
+      ap (λ (l : List LineBreak). placed l ((one.settled ++ two.settled) ++ more)) (breaks-append one.took two.took bs)
       ∙ ap (placed (breaks one.took ++ (breaks two.took ++ bs))) (append_assoc one.settled two.settled more)
       ∙ one.cuts (breaks two.took ++ bs) (two.before bs h) (two.settled ++ more) (two.begins more fits)
       ∙ ap (λ (l : List Event). fs ++ l) (two.cuts bs h more fits)
@@ -319,42 +322,43 @@ pub takes-around : (bytes : List ℕ) (last p : Point) (turns : List Turn) (q : 
     (left : List Turn) (es fs front back : List Event) → Quiet front → Quiet back →
     Takes bytes last p turns q rest left es fs → Fits p front → Upto p front → Fits q back → Upto q back →
     Takes bytes last p turns q rest left (front ++ es ++ back) (front ++ fs ++ back)
-takes-around bytes last p turns q rest left es fs front back quiet still one front_fits front_upto back_fits back_upto = record {
-  walk = one.walk;
-  took = one.took;
-  turns_are = one.turns_are;
-  line = one.line;
-  index = one.index;
-  before = one.before;
-  lays = λ bs h more.
-      ap (laid (breaks one.took ++ bs)) (simp append_assoc)
-      ∙ laid-quiet (breaks one.took ++ bs) front (es ++ (back ++ more)) quiet
-      ∙ ap (λ (l : List Event). front ++ l)
-      (one.lays bs h (back ++ more) ∙ ap (λ (l : List Event). fs ++ l) (laid-quiet bs back more still))
-      ∙ simp append_assoc;
-  kept = one.kept;
-  settled = front ++ one.settled ++ back;
-  settles = λ bs h more.
-      ap (laid (bared (breaks one.took) ++ bs)) (simp append_assoc)
-      ∙ laid-quiet (bared (breaks one.took) ++ bs) front (es ++ (back ++ more)) quiet
-      ∙ ap (λ (l : List Event). front ++ l)
-      (one.settles bs h (back ++ more) ∙ ap (λ (l : List Event). one.settled ++ l) (laid-quiet bs back more still))
-      ∙ simp append_assoc;
-  begins = λ more fits.
-      subst (Fits p) (sym (all front one.settled back more))
-      (fits-append p front (one.settled ++ (back ++ more)) front_fits
-      (one.begins (back ++ more) (fits-append q back more back_fits fits)));
-  cuts = λ bs h more fits.
-      ap (placed (breaks one.took ++ bs)) (all front one.settled back more)
-      ∙ placed-upto (breaks one.took ++ bs) p front (one.settled ++ (back ++ more)) front_upto (one.before bs h)
-      ∙ ap (λ (l : List Event). front ++ l)
-      (one.cuts bs h (back ++ more) (fits-append q back more back_fits fits)
-      ∙ ap (λ (l : List Event). fs ++ l) (placed-upto bs q back more back_upto h))
-      ∙ sym (all front fs back (placed bs more));
-  ends =
-      end_in-append last (front ++ es) back
-      (end_in-append last front es (quiet-end_in last front quiet) one.ends) (quiet-end_in last back still);
-}
+takes-around bytes last p turns q rest left es fs front back quiet still one front_fits front_upto back_fits back_upto =
+    record {
+      walk = one.walk;
+      took = one.took;
+      turns_are = one.turns_are;
+      line = one.line;
+      index = one.index;
+      before = one.before;
+      lays = λ bs h more.
+          ap (laid (breaks one.took ++ bs)) (simp append_assoc)
+          ∙ laid-quiet (breaks one.took ++ bs) front (es ++ (back ++ more)) quiet
+          ∙ ap (λ (l : List Event). front ++ l)
+          (one.lays bs h (back ++ more) ∙ ap (λ (l : List Event). fs ++ l) (laid-quiet bs back more still))
+          ∙ simp append_assoc;
+      kept = one.kept;
+      settled = front ++ one.settled ++ back;
+      settles = λ bs h more.
+          ap (laid (bared (breaks one.took) ++ bs)) (simp append_assoc)
+          ∙ laid-quiet (bared (breaks one.took) ++ bs) front (es ++ (back ++ more)) quiet
+          ∙ ap (λ (l : List Event). front ++ l)
+          (one.settles bs h (back ++ more) ∙ ap (λ (l : List Event). one.settled ++ l) (laid-quiet bs back more still))
+          ∙ simp append_assoc;
+      begins = λ more fits.
+          subst (Fits p) (sym (all front one.settled back more))
+          (fits-append p front (one.settled ++ (back ++ more)) front_fits
+          (one.begins (back ++ more) (fits-append q back more back_fits fits)));
+      cuts = λ bs h more fits.
+          ap (placed (breaks one.took ++ bs)) (all front one.settled back more)
+          ∙ placed-upto (breaks one.took ++ bs) p front (one.settled ++ (back ++ more)) front_upto (one.before bs h)
+          ∙ ap (λ (l : List Event). front ++ l)
+          (one.cuts bs h (back ++ more) (fits-append q back more back_fits fits)
+          ∙ ap (λ (l : List Event). fs ++ l) (placed-upto bs q back more back_upto h))
+          ∙ sym (all front fs back (placed bs more));
+      ends =
+          end_in-append last (front ++ es) back
+          (end_in-append last front es (quiet-end_in last front quiet) one.ends) (quiet-end_in last back still);
+    }
   where
     all : (x y z w : List Event) → (x ++ y ++ z) ++ w ≡ x ++ (y ++ (z ++ w))
     all x y z w = simp append_assoc
@@ -546,7 +550,7 @@ over-end bytes last p c cs turns name may ten walk = go walk.walks.1
                 let first = grows.0 in let more = grows.1 in absurd (omega (arith, first, more, at));
             settled = exit name b.after ∷ [];
             settles = λ bs h more.
-                let d : Break = record { after = b.after; front = [] } in
+                let d : LineBreak = record { after = b.after; front = [] } in
                 ap
                 (λ (x : Bool).
                 cond (x && nat_le b.after.index c.after.index) (exit name b.after ∷ laid bs more)

@@ -1,6 +1,6 @@
 -- The rows of indented code behind its first line: further lines of it, and blank ones.
 --
--- A blank line stands bare, as it may stand behind the code. Between two lines of code it is one of them, so it is
+-- A blank line is bare, as it may be behind the code. Between two lines of code it is one of them, so it is
 -- taken for a further line: with a begin and an end, which go when the lines are joined. Behind the last line of code
 -- it is whitespace.
 use Rattle.std.proofs.Common.{◌≡◌, ℕ, ◌<◌, Bool, true, false, cond, ◌||◌, not, List, [], ◌∷◌}

@@ -14,7 +14,7 @@ use Rattle.md_link_definitions.specs.DefinitionRule.{definition_rest, destinatio
 use Rattle.md_seam.specs.Look.{first_seen}
 use Rattle.md_seam.specs.Spaces.{ends_line}
 use Rattle.md_seam.proofs.FeedLines.{cell}
-use Rattle.md_frame.specs.Laid.{Break, laid}
+use Rattle.md_frame.specs.Laid.{LineBreak, laid}
 use Rattle.md_frame.specs.Row.{Row, behind_row, last_row}
 use Rattle.md_content_rooms.proofs.Defined.Along.{IsCell, IsTurn, Turn, Walks, breaks}
 use Rattle.md_rows.proofs.Defined.Cells.{lines-walk, turns_of}
@@ -38,10 +38,10 @@ IsBehind options bytes d (next ∷ more) =
 -- belong to their lines by their bytes
 pub record IsSet (last : Point) (d : DefinitionParts) (row : Row) (rows : List Row) : Type 0 where
   pub settled : List Event
-  pub settles : (bs : List Break) → Before (definition_end d) bs → (more : List Event) →
+  pub settles : (bs : List LineBreak) → Before (definition_end d) bs → (more : List Event) →
       laid (bared (breaks_of row rows) ++ bs) (definition_events d row.first ++ more) ≡ settled ++ laid bs more
   pub begins : (more : List Event) → Fits (definition_end d) more → Fits row.first (settled ++ more)
-  pub cuts : (bs : List Break) → Before (definition_end d) bs → (more : List Event) → Fits (definition_end d) more →
+  pub cuts : (bs : List LineBreak) → Before (definition_end d) bs → (more : List Event) → Fits (definition_end d) more →
       placed (breaks_of row rows ++ bs) (settled ++ more) ≡ defined_unread d row rows ++ placed bs more
   pub ends : EndIn last (definition_events d row.first)
 
@@ -82,7 +82,7 @@ taken options bytes row (next ∷ rows) (t ∷ took) left e =
       many = omega (arith, many);
       breaks_are =
           ap (λ (x : Turn). x.break ∷ breaks took) (sym first)
-          ∙ ap (λ (l : List Break). (record { after = behind_row row; front = next.front }) ∷ l) more.breaks_are;
+          ∙ ap (λ (l : List LineBreak). (record { after = behind_row row; front = next.front }) ∷ l) more.breaks_are;
       left_are = more.left_are;
       last = more.last;
     }
@@ -203,8 +203,8 @@ lines-cut options bytes small row rows h d e =
 
         unread : defined_unread d row some ≡ form_unread of.form
         unread =
-            ap (λ (bs : List Break). laid bs events) (sym known.breaks_are)
-            ∙ ap (λ (bs : List Break). laid bs events) (sym (append-nil (breaks took)))
+            ap (λ (bs : List LineBreak). laid bs events) (sym known.breaks_are)
+            ∙ ap (λ (bs : List LineBreak). laid bs events) (sym (append-nil (breaks took)))
             ∙ ap (laid (breaks took ++ [])) (sym (append-nil events))
             ∙ of.takes.lays [] tt [] ∙ append-nil (form_unread of.form)
 
@@ -213,12 +213,12 @@ lines-cut options bytes small row rows h d e =
           settled = of.takes.settled;
           settles = λ bs h more.
               subst
-              (λ (l : List Break). laid (bared l ++ bs) (events ++ more) ≡ of.takes.settled ++ laid bs more)
+              (λ (l : List LineBreak). laid (bared l ++ bs) (events ++ more) ≡ of.takes.settled ++ laid bs more)
               known.breaks_are (of.takes.settles bs h more);
           begins = of.takes.begins;
           cuts = λ bs h more fits.
               subst
-              (λ (l : List Break).
+              (λ (l : List LineBreak).
               placed (l ++ bs) (of.takes.settled ++ more) ≡ defined_unread d row some ++ placed bs more)
               known.breaks_are
               (of.takes.cuts bs h more fits ∙ ap (λ (l : List Event). l ++ placed bs more) (sym unread));
