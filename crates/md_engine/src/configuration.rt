@@ -5,6 +5,8 @@
 /// A construct that is off accepts no line.
 #[derive(Clone, Copy, Debug, PartialEq, Eq)]
 pub struct Constructs {
+    /// Alerts, as on GitHub: block quotes that have the marker of a kind, as `[!NOTE]`, alone on their first line.
+    pub alerts: bool,
     /// Block quotes (CommonMark 5.1).
     pub block_quote: bool,
     /// Fenced code (CommonMark 4.5).
@@ -46,6 +48,7 @@ pub struct Constructs {
 impl Constructs {
     /// No construct.
     pub const NONE: Constructs = Constructs {
+        alerts: false,
         block_quote: false,
         code_fenced: false,
         code_indented: false,
@@ -68,6 +71,7 @@ impl Constructs {
 
     /// The constructs of CommonMark.
     pub const COMMONMARK: Constructs = Constructs {
+        alerts: false,
         block_quote: true,
         code_fenced: true,
         code_indented: true,
@@ -95,11 +99,17 @@ impl Constructs {
         ..Constructs::COMMONMARK
     };
 
-    /// Every construct but those of MDX: those of `GFM`, frontmatter and math.
+    /// Every construct but alerts and those of MDX: those of `GFM`, frontmatter and math.
     pub const ALL: Constructs = Constructs {
         frontmatter: true,
         math_flow: true,
         ..Constructs::GFM
+    };
+
+    /// Every construct but those of MDX: those of `ALL`, and alerts.
+    pub const ALERTS: Constructs = Constructs {
+        alerts: true,
+        ..Constructs::ALL
     };
 }
 
@@ -137,9 +147,14 @@ impl ParseOptions {
         constructs: Constructs::GFM,
     };
 
-    /// Every construct but those of MDX.
+    /// Every construct but alerts and those of MDX.
     pub const ALL: ParseOptions = ParseOptions {
         constructs: Constructs::ALL,
+    };
+
+    /// Every construct but those of MDX.
+    pub const ALERTS: ParseOptions = ParseOptions {
+        constructs: Constructs::ALERTS,
     };
 }
 

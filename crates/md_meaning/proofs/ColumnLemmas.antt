@@ -5,7 +5,10 @@ use Rattle.std.specs.Prelude.{nat_le, nat_eq}
 use Rattle.std.specs.List.{starts_with}
 use Rattle.std.specs.Option.{option_or, is_some}
 use Rattle.md_engine.specs.declared.configuration.ParseOptions.{ParseOptions}
+use Rattle.md_meaning.specs.declared.alert.AlertKind.{AlertKind}
+use Rattle.md_meaning.specs.Alert.{alert_at, first_kind, is_marked, kinds, marker_of}
 use Rattle.md_meaning.specs.Containers.{Labelled, Marker, Taken, continues, footnote_by, footnote_continues}
+use Rattle.md_meaning.specs.Containers.{taken_as, with_kind}
 use Rattle.md_meaning.specs.Containers.{footnote_label, item_by, item_continues, item_padding, list_marker}
 use Rattle.md_meaning.specs.Containers.{may_interrupt, opens, opens_footnote, opens_item, opens_quote, quote_taken}
 use Rattle.md_meaning.specs.Html.{HtmlKind, html_kind}
@@ -16,8 +19,8 @@ use Rattle.md_meaning.specs.Leaves.{is_rule, is_run, starts, table_at, table_by,
 use Rattle.md_meaning.specs.Leaves.{underlined, underlined_by, with_line}
 use Rattle.md_meaning.specs.Lines.{begins_with}
 use Rattle.md_meaning.specs.Preamble.{rest_at}
-use Rattle.md_meaning.specs.Rest.{Rest, behind_indent, indent, is_blank, is_parted, is_small, line_of, lose, run_len}
-use Rattle.md_meaning.specs.Rest.{trim, trim_start, white_columns}
+use Rattle.md_meaning.specs.Rest.{Rest, behind, behind_indent, indent, is_blank, is_parted, is_small, line_of, lose}
+use Rattle.md_meaning.specs.Rest.{run_len, trim, trim_start, white_columns}
 use Rattle.md_meaning.specs.State.{At, Container, InFootnote, InItem, InQuote, ParagraphLine, Leaf, NoLeaf, OpenCode}
 use Rattle.md_meaning.specs.State.{OpenFence, OpenHtml, OpenParagraph, OpenTable, Opening, Path, Innermost, Within}
 use Rattle.md_meaning.specs.State.{closed, container_block, cut, fence_block, kept, shut, spot, texts, then_block}
@@ -116,26 +119,65 @@ at_indent F f c d bytes h =
     (f (indent (rest_at c bytes)) (behind_indent (rest_at c bytes)) (lose (indent (rest_at c bytes)) (rest_at d bytes))
     (lose-alike (indent (rest_at c bytes)) c d bytes h))
 
-abbrev pub quote_from : ParseOptions → ℕ → Rest → Option Taken
-quote_from options columns marker =
+abbrev pub quote_from : ParseOptions → Option AlertKind → ℕ → Rest → Option Taken
+quote_from options kind columns marker =
     if is_small options columns && begins_with 62 marker.bytes
     then Some
     (record {
-      container = InQuote;
+      container = InQuote kind;
       rest = lose 1 (record { column = marker.column + 1; spaces = 0; bytes = drop 1 marker.bytes });
     })
     else None
 
-quote_from-alike : (options : ParseOptions) (k : ℕ) (r s : Rest) → Alike r s →
-    BothTaken (quote_from options k r) (quote_from options k s)
-quote_from-alike options k r s (alike c d bytes h) =
+quote_from-alike : (options : ParseOptions) (kind : Option AlertKind) (k : ℕ) (r s : Rest) → Alike r s →
+    BothTaken (quote_from options kind k r) (quote_from options kind k s)
+quote_from-alike options kind k r s (alike c d bytes h) =
     when (is_small options k && begins_with 62 bytes) _ _
-    (taken-alike InQuote _ _ (lose-alike 1 (c + 1) (d + 1) (drop 1 bytes) (no_tab-drop 1 bytes h)))
+    (taken-alike (InQuote kind) _ _ (lose-alike 1 (c + 1) (d + 1) (drop 1 bytes) (no_tab-drop 1 bytes h)))
 
-quote_taken-alike : (options : ParseOptions) (c d : ℕ) (bytes : List ℕ) → NoTab bytes →
-    BothTaken (quote_taken options (rest_at c bytes)) (quote_taken options (rest_at d bytes))
+quote_taken-alike : (options : ParseOptions) (kind : Option AlertKind) (c d : ℕ) (bytes : List ℕ) → NoTab bytes →
+    BothTaken (quote_taken options kind (rest_at c bytes)) (quote_taken options kind (rest_at d bytes))
 unfolding quote_taken
-quote_taken-alike options c d bytes h = at_indent (quote_from options) (quote_from-alike options) c d bytes h
+quote_taken-alike options kind c d bytes h =
+    at_indent (quote_from options kind) (quote_from-alike options kind) c d bytes h
+
+abbrev alert_from : ParseOptions → ℕ → List ℕ → Option AlertKind
+alert_from options columns bytes =
+    if options.constructs.alerts && is_small options columns then first_kind (λ kind. is_marked kind bytes) kinds
+    else None
+
+bytes-alike : (r s : Rest) → Alike r s → r.bytes ≡ s.bytes
+bytes-alike r s (alike c d bytes h) = refl
+
+pub alert-any : (options : ParseOptions) (c d : ℕ) (bytes : List ℕ) → NoTab bytes →
+    alert_at options (rest_at c bytes) ≡ alert_at options (rest_at d bytes)
+unfolding alert_at
+alert-any options c d bytes h =
+    ap (λ (k : ℕ). alert_from options k (behind_indent (rest_at c bytes)).bytes) (indent-any c d bytes h)
+    ∙ ap (alert_from options (indent (rest_at d bytes)))
+    (bytes-alike (behind_indent (rest_at c bytes)) (behind_indent (rest_at d bytes)) (behind_indent-alike c d bytes h))
+
+behind-alike : (n : ℕ) (r s : Rest) → Alike r s → Alike (behind_indent (behind n r)) (behind_indent (behind n s))
+behind-alike n r s (alike c d bytes h) =
+    behind_indent-alike (c + n) (d + n) (drop n bytes) (no_tab-drop n bytes h)
+
+with_kind-alike : (options : ParseOptions) (o p : Option Taken) → BothTaken o p →
+    BothTaken (with_kind options o) (with_kind options p)
+with_kind-alike options o p neither = neither
+with_kind-alike options o p (taken container c d bytes h) =
+    subst
+    (λ (a : Option AlertKind).
+    BothTaken (with_kind options (Some (record { container = container; rest = rest_at c bytes })))
+    (Some (taken_as (record { container = container; rest = rest_at d bytes }) a)))
+    (alert-any options c d bytes h) (go (alert_at options (rest_at c bytes)))
+  where
+    go : (a : Option AlertKind) →
+        BothTaken (Some (taken_as (record { container = container; rest = rest_at c bytes }) a))
+        (Some (taken_as (record { container = container; rest = rest_at d bytes }) a))
+    go None = taken container c d bytes h
+    go (Some kind) =
+        taken-alike (InQuote (Some kind)) _ _
+        (behind-alike (length (marker_of kind)) _ _ (behind_indent-alike c d bytes h))
 
 item_continues-alike : (digits : List ℕ) (marker width : ℕ) (starts_blank : Bool) (c d : ℕ) (bytes : List ℕ) →
     NoTab bytes →
@@ -167,7 +209,7 @@ footnote_continues-alike label c d bytes h =
 
 continues-alike : (options : ParseOptions) (container : Container) (c d : ℕ) (bytes : List ℕ) → NoTab bytes →
     BothTaken (continues options container (rest_at c bytes)) (continues options container (rest_at d bytes))
-continues-alike options InQuote c d bytes h = quote_taken-alike options c d bytes h
+continues-alike options (InQuote kind) c d bytes h = quote_taken-alike options kind c d bytes h
 continues-alike options (InItem digits marker width starts_blank) c d bytes h =
     item_continues-alike digits marker width starts_blank c d bytes h
 continues-alike options (InFootnote label) c d bytes h = footnote_continues-alike label c d bytes h
@@ -175,7 +217,8 @@ continues-alike options (InFootnote label) c d bytes h = footnote_continues-alik
 opens_quote-alike : (options : ParseOptions) (c d : ℕ) (bytes : List ℕ) → NoTab bytes →
     BothTaken (opens_quote options (rest_at c bytes)) (opens_quote options (rest_at d bytes))
 unfolding opens_quote
-opens_quote-alike options c d bytes h = when options.constructs.block_quote _ _ (quote_taken-alike options c d bytes h)
+opens_quote-alike options c d bytes h =
+    when options.constructs.block_quote _ _ (with_kind-alike options _ _ (quote_taken-alike options None c d bytes h))
 
 item_padding-any : (c d : ℕ) (bytes : List ℕ) → NoTab bytes →
     item_padding (rest_at c bytes) ≡ item_padding (rest_at d bytes)

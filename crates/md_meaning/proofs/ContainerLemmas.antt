@@ -1,13 +1,13 @@
 -- What a container that opens leaves of a line is shorter than the line, so there is an end to containers.
-use Rattle.std.proofs.Common.{Bool, length}
+use Rattle.std.proofs.Common.{Bool, length, Option, None}
 use Rattle.std.specs.Option.{option_or}
 use Rattle.md_engine.specs.declared.configuration.ParseOptions.{ParseOptions}
-use Rattle.md_meaning.specs.Containers.{opens, opens_footnote, opens_item, opens_quote, quote_taken}
+use Rattle.md_meaning.specs.Containers.{Taken, opens, opens_footnote, opens_item, opens_quote, quote_taken, with_kind}
 use Rattle.md_meaning.specs.Rest.{Rest, behind_indent, indent}
 use Rattle.md_meaning.proofs.FindsLemmas.{first-found, when-found}
 use Rattle.md_meaning.proofs.FootnoteTaken.{footnote-leaves}
 use Rattle.md_meaning.proofs.ItemTaken.{item-leaves}
-use Rattle.md_meaning.proofs.QuoteTaken.{quote-leaves}
+use Rattle.md_meaning.proofs.QuoteTaken.{kind-leaves, quote-leaves}
 use Rattle.md_meaning.proofs.TakenLemmas.{Leaves, LeavesFewer, behind-leaves}
 
 -- each container that opens takes a byte
@@ -16,11 +16,14 @@ pub opens-leaves : (options : ParseOptions) (interrupting : Bool) (r : Rest) →
 unfolding opens_quote quote_taken opens_item opens_footnote
 opens-leaves options interrupting r =
     let from : Rest = behind_indent r in
+    let quote : Option Taken = quote_taken options None r in
     first-found (Leaves (length r.bytes)) (opens_quote options r)
     (option_or (opens_item options interrupting r) (opens_footnote options r))
-    (when-found (Leaves (length r.bytes)) options.constructs.block_quote (quote_taken options r)
+    (when-found (Leaves (length r.bytes)) options.constructs.block_quote (with_kind options quote)
     (λ e.
-    behind-leaves (quote_taken options r) r (quote-leaves options (indent r) from.column from.spaces from.bytes)))
+    kind-leaves options quote (length r.bytes)
+    (behind-leaves quote r
+    (quote-leaves options None (indent r) from.column from.spaces from.bytes))))
     (first-found (Leaves (length r.bytes)) (opens_item options interrupting r) (opens_footnote options r)
     (behind-leaves (opens_item options interrupting r) r
     (item-leaves options interrupting (indent r) from.column from.spaces from.bytes))

@@ -1,3 +1,4 @@
+pub mod AlertLemmas
 pub mod ColumnLemmas
 pub mod ContainerLemmas
 pub mod DefinitionLemmas

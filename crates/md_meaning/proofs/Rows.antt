@@ -2,6 +2,9 @@
 use Rattle.std.proofs.Common.{◌≡◌, ℕ, true, false, List, [], ◌∷◌, ◌++◌, Some, None, refl, codes}
 use Rattle.md_engine.specs.declared.configuration.ParseOptions.{ParseOptions}
 use Rattle.md_engine.specs.declared.configuration.TheConstants.ParseOptions as given
+use Rattle.md_meaning.specs.declared.alert.AlertKind.{AlertKind}
+use Rattle.md_meaning.specs.declared.alert.AlertKind.TheVariants as kind
+use Rattle.md_meaning.specs.Alert.{alert_at}
 use Rattle.md_meaning.specs.Tree.{Line, Block, Frontmatter, Quote, ListOf, Item, Footnote, Heading, Break, Code}
 use Rattle.md_meaning.specs.Tree.{Html, Fence, Math, Definition, Paragraph, Table, Blocks, End, More}
 use Rattle.md_meaning.specs.Html.{is_raw_name, is_basic_name, begins_raw, begins_basic, after_value}
@@ -55,7 +58,14 @@ abbrev line : List ℕ → Line
 line text = record { spaces = 0; text = text }
 
 abbrev quote : List Block → Block
-quote bs = Quote (blocks bs)
+quote bs = Quote None (blocks bs)
+
+-- with alerts too
+abbrev alerting : ParseOptions
+alerting = record { constructs = record extended.constructs { alerts = true } }
+
+abbrev alert : AlertKind → List Block → Block
+alert kind bs = Quote (Some kind) (blocks bs)
 
 abbrev bullet : List Block → Block
 bullet bs = Item 45 [] (blocks bs)
@@ -84,6 +94,24 @@ record Rows : Type 0 where
   lazy_break : tree plain (text_of (codes "> a" ∷ codes "***" ∷ [])) ≡ blocks (quote (paragraph a ∷ []) ∷ Break ∷ [])
   blank_in_quote : tree plain (text_of (codes ">a" ∷ codes ">" ∷ codes ">b" ∷ [])) ≡
       blocks (quote (paragraph a ∷ paragraph b ∷ []) ∷ [])
+  -- alerts
+  alert_note : tree alerting (text_of (codes "> [!note]  " ∷ codes "> a" ∷ [])) ≡
+      blocks (alert kind.Note (paragraph a ∷ []) ∷ [])
+  alert_not_lazy : tree alerting (text_of (codes "> [!NOTE]" ∷ b ∷ [])) ≡ blocks (alert kind.Note [] ∷ paragraph b ∷ [])
+  alert_no_text_behind : tree alerting (codes "> [!NOTE] a") ≡ blocks (quote (paragraph (codes "[!NOTE] a") ∷ []) ∷ [])
+  alert_first_line_alone : tree alerting (text_of (codes "> a" ∷ codes "> [!TIP]" ∷ [])) ≡
+      blocks (quote (paragraph_2 a (codes "[!TIP]") ∷ []) ∷ [])
+  alert_one_marker : tree alerting (text_of (codes "> [!NOTE]" ∷ codes "> [!TIP]" ∷ [])) ≡
+      blocks (alert kind.Note (paragraph (codes "[!TIP]") ∷ []) ∷ [])
+  alert_small_indent : tree alerting (codes ">    [!NOTE]") ≡ blocks (alert kind.Note [] ∷ [])
+  alert_large_indent : tree alerting (codes ">     [!NOTE]") ≡
+      blocks (quote (Code (line (codes "[!NOTE]") ∷ []) ∷ []) ∷ [])
+  alert_in_item : tree alerting (text_of (codes "- > [!tip]" ∷ codes "  > b" ∷ [])) ≡
+      blocks (bullets (bullet (alert kind.Tip (paragraph b ∷ []) ∷ []) ∷ []) ∷ [])
+  alert_then_underline : tree alerting (text_of (codes "> [!CAUTION]" ∷ codes "=" ∷ [])) ≡
+      blocks (alert kind.Caution [] ∷ paragraph (codes "=") ∷ [])
+  alert_off : tree extended (text_of (codes "> [!NOTE]" ∷ codes "> a" ∷ [])) ≡
+      blocks (quote (paragraph_2 (codes "[!NOTE]") a ∷ []) ∷ [])
   -- lists
   other_marker : tree plain (text_of (codes "- a" ∷ codes "+ b" ∷ [])) ≡
       blocks
@@ -153,15 +181,25 @@ rows : Rows
 unfolding is_raw_name is_basic_name begins_raw begins_basic after_value after_assignment after_attribute ends_opening
     begins_complete kind_after html_kind is_raw_end html_ends enclosed enclosed_lines label_at balanced destination_at
     title_at definition_at cut_at_most cut_definitions pieces row_cells is_head delimiter_columns shut_paragraph
-    front_of quote_taken item_continues footnote_continues opens_quote opens_item opens_footnote break_at heading_at
-    code_at code_goes_on fence_at fence_goes_on html_at html_goes_on starts table_goes_on underline_depth underlined
-    table_at fresh_line text_line all_continued stopped
+    front_of alert_at quote_taken item_continues footnote_continues opens_quote opens_item opens_footnote break_at
+    heading_at code_at code_goes_on fence_at fence_goes_on html_at html_goes_on starts table_goes_on underline_depth
+    underlined table_at fresh_line text_line all_continued stopped
 rows = record {
   lazy = refl;
   lazy_in_two = refl;
   not_lazy = refl;
   lazy_break = refl;
   blank_in_quote = refl;
+  alert_note = refl;
+  alert_not_lazy = refl;
+  alert_no_text_behind = refl;
+  alert_first_line_alone = refl;
+  alert_one_marker = refl;
+  alert_small_indent = refl;
+  alert_large_indent = refl;
+  alert_in_item = refl;
+  alert_then_underline = refl;
+  alert_off = refl;
   other_marker = refl;
   one_list = refl;
   nested_items = refl;

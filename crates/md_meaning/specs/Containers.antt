@@ -4,6 +4,8 @@ use Rattle.std.specs.Prelude.{◌∷◌, length, drop, Option, Some, None}
 use Rattle.std.specs.List.{starts_with, take_while}
 use Rattle.std.specs.Option.{option_or}
 use Rattle.md_engine.specs.declared.configuration.ParseOptions.{ParseOptions}
+use Rattle.md_meaning.specs.declared.alert.AlertKind.{AlertKind}
+use Rattle.md_meaning.specs.Alert.{alert_at, marker_of}
 use Rattle.md_meaning.specs.Lines.{begins_with}
 use Rattle.md_meaning.specs.Rest.{Rest, is_white, is_blank, is_parted, indent, has_small_indent, lose, behind_indent}
 use Rattle.md_meaning.specs.Rest.{behind}
@@ -18,11 +20,11 @@ pub record Taken : Type 0 where
   pub rest : Rest
 
 -- a quote's prefix: a small indent, `>`, and one column of whitespace if there is one (CommonMark 5.1)
-unfoldable pub quote_taken : ParseOptions → Rest → Option Taken
-quote_taken options r =
+unfoldable pub quote_taken : ParseOptions → Option AlertKind → Rest → Option Taken
+quote_taken options kind r =
     let marker = behind_indent r in
     if has_small_indent options r && begins_with greater_than marker.bytes
-    then Some (record { container = InQuote; rest = lose 1 (behind 1 marker) })
+    then Some (record { container = InQuote kind; rest = lose 1 (behind 1 marker) })
     else None
 
 -- a nonblank line continues an item if it is indented by its width; a blank line does, unless it comes directly after a
@@ -42,12 +44,26 @@ footnote_continues label r =
 
 -- whether an open container continues on this line, and the rest in it
 abbrev pub continues : ParseOptions → Container → Rest → Option Taken
-continues options InQuote r = quote_taken options r
+continues options (InQuote kind) r = quote_taken options kind r
 continues options (InItem digits marker width starts_blank) r = item_continues digits marker width starts_blank r
 continues options (InFootnote label) r = footnote_continues label r
 
+-- a quote whose first rest is the marker of a kind: all of it belongs to the prefix
+abbrev pub taken_as : Taken → Option AlertKind → Taken
+taken_as t None = t
+taken_as t (Some kind) = record {
+  container = InQuote (Some kind);
+  rest = behind_indent (behind (length (marker_of kind)) (behind_indent t.rest));
+}
+
+abbrev pub with_kind : ParseOptions → Option Taken → Option Taken
+with_kind options None = None
+with_kind options (Some t) = Some (taken_as t (alert_at options t.rest))
+
+-- a quote, or an alert
 unfoldable pub opens_quote : ParseOptions → Rest → Option Taken
-opens_quote options r = if options.constructs.block_quote then quote_taken options r else None
+opens_quote options r =
+    if options.constructs.block_quote then with_kind options (quote_taken options None r) else None
 
 -- a list marker: the digits of an ordered one, and the byte behind them (CommonMark 5.2)
 pub record Marker : Type 0 where

@@ -17,7 +17,7 @@ with_front b bs = More b bs
 -- every longest run of neighbouring items with one marker becomes a list, in all containers
 abbrev mutual
   pub grouped_block : Block → Block
-  grouped_block (Quote bs) = Quote (grouped bs)
+  grouped_block (Quote kind bs) = Quote kind (grouped bs)
   grouped_block (Item marker digits bs) = Item marker digits (grouped bs)
   grouped_block (Footnote label bs) = Footnote label (grouped bs)
   grouped_block b = b

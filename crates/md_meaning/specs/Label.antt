@@ -33,7 +33,7 @@ no_labels = record { definitions = []; footnotes = [] }
 abbrev mutual
   -- the labels of a block
   pub block_labels : t.Block → Labels
-  block_labels (t.Quote blocks) = labels blocks
+  block_labels (t.Quote kind blocks) = labels blocks
   block_labels (t.ListOf marker items) = labels items
   block_labels (t.Item marker digits blocks) = labels blocks
   block_labels (t.Footnote label blocks) =

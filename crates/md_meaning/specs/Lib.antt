@@ -17,6 +17,7 @@ pub mod Table
 pub mod Label
 pub mod State
 pub mod Preamble
+pub mod Alert
 pub mod Containers
 pub mod Leaves
 pub mod Step

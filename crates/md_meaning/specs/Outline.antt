@@ -1,5 +1,6 @@
 -- The outline of a tree: its lines from the first to the last.
 use Rattle.std.specs.Prelude.{ℕ, ◌+◌, List, [], ◌∷◌, ◌++◌, map, length, Option, Some, None}
+use Rattle.md_meaning.specs.declared.alert.AlertKind.{AlertKind}
 use Rattle.md_meaning.specs.declared.outline.OutlineLine.{OutlineLine}
 use Rattle.md_meaning.specs.declared.outline.Word.{Word}
 use Rattle.md_meaning.specs.declared.outline.Word.TheVariants as word
@@ -59,11 +60,15 @@ table_entries depth delimiter (head ∷ rows) =
     ∷ (row_entries (depth + 1) head ++ entry_with (depth + 1) word.Delimiter delimiter
     ∷ rows_entries (depth + 1) rows)
 
+abbrev pub quote_word : Option AlertKind → Word
+quote_word None = word.Quote
+quote_word (Some kind) = word.Alert kind
+
 abbrev mutual
   pub block_entries : ℕ → Block → List Entry
   block_entries depth (Frontmatter marker lines) =
       entry depth (word.Frontmatter marker) ∷ entries (depth + 1) word.Line lines
-  block_entries depth (Quote bs) = entry depth word.Quote ∷ outline (depth + 1) bs
+  block_entries depth (Quote kind bs) = entry depth (quote_word kind) ∷ outline (depth + 1) bs
   block_entries depth (ListOf marker items) = entry depth (word.List marker) ∷ outline (depth + 1) items
   block_entries depth (Item marker digits bs) = entry depth word.Item ∷ outline (depth + 1) bs
   block_entries depth (Footnote label bs) =

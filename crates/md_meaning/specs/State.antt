@@ -2,6 +2,7 @@
 use Rattle.std.specs.Prelude.{ℕ, ◌-◌, Bool, false, ◌==◌, if◌then◌else◌, List, [], ◌∷◌, map, length, take, Option}
 use Rattle.std.specs.List.{suffix_len}
 use Rattle.md_engine.specs.declared.configuration.ParseOptions.{ParseOptions}
+use Rattle.md_meaning.specs.declared.alert.AlertKind.{AlertKind}
 use Rattle.md_meaning.specs.Tree.{Line, Block, Quote, Item, Footnote, Code, Html, Fence, Math, Definition, Paragraph}
 use Rattle.md_meaning.specs.Tree.{Table, Blocks, End, More}
 use Rattle.md_meaning.specs.Rest.{Rest, is_blank, indent, trim_start}
@@ -11,7 +12,8 @@ use Rattle.md_meaning.specs.Ascii.{dollar}
 
 -- an open container
 pub data Container : Type 0 where
-  InQuote : Container
+  -- the kind, if it is an alert
+  InQuote : Option AlertKind → Container
   -- the digits before the marker, the marker byte, the width in columns, and whether its first line was blank and no
   -- other line came yet
   InItem : List ℕ → ℕ → ℕ → Bool → Container
@@ -112,7 +114,7 @@ abbrev pub shut : ParseOptions → Innermost → Blocks
 shut options s = then_leaf options s.here s.leaf
 
 abbrev pub container_block : Container → Blocks → Block
-container_block InQuote bs = Quote bs
+container_block (InQuote kind) bs = Quote kind bs
 container_block (InItem digits marker width starts_blank) bs = Item marker digits bs
 container_block (InFootnote label) bs = Footnote label bs
 

@@ -1,5 +1,6 @@
 -- The block tree: what a text means, without positions.
 use Rattle.std.specs.Prelude.{ℕ, Bool, List, Option}
+use Rattle.md_meaning.specs.declared.alert.AlertKind.{AlertKind}
 
 -- a line of code, HTML or math: virtual spaces, then bytes
 pub record Line : Type 0 where
@@ -11,7 +12,8 @@ mutual
   pub data Block : Type 0 where
     -- the byte of the fences, and the lines
     Frontmatter : ℕ → List (List ℕ) → Block
-    Quote : Blocks → Block
+    -- the kind, if it is an alert
+    Quote : Option AlertKind → Blocks → Block
     -- the byte of the markers, and the items
     ListOf : ℕ → Blocks → Block
     -- the marker byte, the digits before it (none for a bullet), and the blocks

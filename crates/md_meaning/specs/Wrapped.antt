@@ -4,6 +4,7 @@ use Rattle.std.specs.Prelude.{◌≡◌, ◌≢◌, ℕ, ◌-◌, ◌/◌, ◌^�
 use Rattle.std.specs.Prelude.{length, map}
 use Rattle.std.specs.List.{concat, list_all}
 use Rattle.md_engine.specs.declared.configuration.ParseOptions.{ParseOptions}
+use Rattle.md_meaning.specs.Alert.{first_alert}
 use Rattle.md_meaning.specs.Ascii.{greater_than, plus, space, tab}
 use Rattle.md_meaning.specs.Bytes.{begins}
 use Rattle.md_meaning.specs.Label.{labels}
@@ -30,12 +31,14 @@ itemised text = concat (prefixed (plus ∷ space ∷ []) (space ∷ space ∷ []
 abbrev pub IsSmall : List ℕ → Type 0
 IsSmall text = length text ≤ (2 ^ 64 - 1) / 8
 
--- a text that the quote law is about: it is not empty, and has neither a tab nor a byte order mark nor frontmatter
+-- a text that the quote law is about: it is not empty, and has neither a tab nor a byte order mark nor frontmatter; and
+-- where alerts are on, its first line is no marker of a kind
 pub record IsQuotable (options : ParseOptions) (text : List ℕ) : Type 0 where
   pub some : text ≢ []
   pub no_tab : list_all (λ b. not (b == tab)) text ≡ true
   pub no_mark : has_mark text ≡ false
   pub no_front : front_of options (lines_of text) ≡ None
+  pub no_alert : options.constructs.alerts ≡ true → first_alert options (lines_of text) ≡ None
 
 -- a text that the list law is about: its first line is not empty and does not begin with whitespace, and it has neither
 -- a tab nor a byte order mark nor frontmatter
@@ -50,7 +53,7 @@ pub record IsItemable (options : ParseOptions) (text : List ℕ) : Type 0 where
 abbrev pub NestsInQuote : ParseOptions → List ℕ → List ℕ → Blocks → Type 0
 NestsInQuote options text quote bs =
     options.constructs.block_quote ≡ true → IsQuotable options text →
-    (wraps : tree options quote ≡ More (Quote bs) End) × (labels (tree options quote) ≡ labels bs)
+    (wraps : tree options quote ≡ More (Quote None bs) End) × (labels (tree options quote) ≡ labels bs)
 
 -- The list law, of such a text, and of it with `+ ` before its first line and two spaces before each other: it means
 -- one list, whose one item has them in it, unchanged, and has the same labels.

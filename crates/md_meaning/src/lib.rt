@@ -2,5 +2,6 @@
 // alone (`proofs/`), the words of an outline, and the names of HTML.
 #![tactic(auto)]
 
+pub mod alert;
 pub mod html_names;
 pub mod outline;

@@ -1,5 +1,7 @@
 // The lines of an outline: what a block tree looks like, read from its first line to its last.
 
+use crate::alert::AlertKind;
+
 /// What a line of the outline stands for: a block, which has no text of its own, or a part of one with its text.
 #[derive(Clone, Copy, Debug, PartialEq, Eq)]
 pub enum Word {
@@ -27,6 +29,8 @@ pub enum Word {
     Row,
     /// A block quote.
     Quote,
+    /// A block quote with a kind.
+    Alert(AlertKind),
     /// A list, and the byte of its markers: `*`, `+`, `-`, `.` or `)`.
     List(u8),
     /// An item of a list.

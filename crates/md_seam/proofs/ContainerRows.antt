@@ -4,7 +4,7 @@ use Rattle.std.specs.Prelude.{Some, None}
 use Rattle.md_engine.specs.declared.event.Event.{Event}
 use Rattle.md_engine.specs.declared.event.Name.TheVariants as n
 use Rattle.md_meaning.specs.Tree as t
-use Rattle.md_seam.specs.Events.Spelled.{spelled}
+use Rattle.md_seam.specs.Events.Spelled.{kind_at, spelled}
 use Rattle.md_seam.specs.Events.Nested.{pair, around}
 use Rattle.md_seam.specs.Events.Grammar.{keeps_grammar}
 use Rattle.md_seam.proofs.EventRowParts.{at, within_tab, chunk, string_chunk, line, Row}
@@ -24,10 +24,10 @@ lazy_events =
     ++ chunk (at 2 1 4) (at 2 2 5)))
 
 abbrev pub lazy_tree : t.Blocks
-lazy_tree = t.More (t.Quote (t.More (t.Paragraph (codes "a" ∷ codes "b" ∷ [])) t.End)) t.End
+lazy_tree = t.More (t.Quote None (t.More (t.Paragraph (codes "a" ∷ codes "b" ∷ [])) t.End)) t.End
 
 row-lazy : Row lazy_text lazy_events lazy_tree
-unfolding spelled keeps_grammar
+unfolding spelled keeps_grammar kind_at
 row-lazy = record {
   placed = refl;
   before = refl;
@@ -65,10 +65,10 @@ prefix_events =
     ++ chunk (at 2 4 7) (at 2 5 8)))
 
 abbrev pub prefix_tree : t.Blocks
-prefix_tree = t.More (t.Quote (t.More (t.Paragraph (codes "a" ∷ codes "b" ∷ [])) t.End)) t.End
+prefix_tree = t.More (t.Quote None (t.More (t.Paragraph (codes "a" ∷ codes "b" ∷ [])) t.End)) t.End
 
 row-prefix : Row prefix_text prefix_events prefix_tree
-unfolding spelled keeps_grammar
+unfolding spelled keeps_grammar kind_at
 row-prefix = record {
   placed = refl;
   before = refl;
@@ -118,7 +118,7 @@ ordered_tree =
     (t.More (t.Item 41 (codes "7") (t.More (t.Paragraph (codes "b" ∷ [])) t.End)) t.End))) t.End
 
 row-ordered : Row ordered_text ordered_events ordered_tree
-unfolding spelled keeps_grammar
+unfolding spelled keeps_grammar kind_at
 row-ordered = record {
   placed = refl;
   before = refl;
@@ -163,7 +163,7 @@ items_tree =
     (t.More (t.Item 43 [] (t.More (t.Paragraph (codes "b" ∷ [])) t.End)) t.End)
 
 row-items : spelled items_events items_text ≡ items_tree
-unfolding spelled
+unfolding spelled kind_at
 row-items = refl
 
 -- a list in a quote, with a blank line and a line of the second paragraph indented: "> - a\n>\n>   b\n> -"
@@ -204,14 +204,14 @@ nested_events =
 abbrev pub nested_tree : t.Blocks
 nested_tree =
     t.More
-    (t.Quote
+    (t.Quote None
     (t.More
     (t.ListOf 45
     (t.More (t.Item 45 [] (t.More (t.Paragraph (codes "a" ∷ [])) (t.More (t.Paragraph (codes "b" ∷ [])) t.End)))
     (t.More (t.Item 45 [] t.End) t.End))) t.End)) t.End
 
 row-nested : Row nested_text nested_events nested_tree
-unfolding spelled keeps_grammar
+unfolding spelled keeps_grammar kind_at
 row-nested = record {
   placed = refl;
   before = refl;
@@ -255,7 +255,7 @@ left_fence_tree =
     (t.More (t.Paragraph (codes "b" ∷ [])) t.End)
 
 row-left-fence : Row left_fence_text left_fence_events left_fence_tree
-unfolding spelled keeps_grammar
+unfolding spelled keeps_grammar kind_at
 row-left-fence = record {
   placed = refl;
   before = refl;
@@ -296,10 +296,10 @@ shared_tab_events =
     ++ pair n.CodeFlowChunk (within_tab 2 4 8 2) (at 2 6 10)))
 
 abbrev pub shared_tab_tree : t.Blocks
-shared_tab_tree = t.More (t.Quote (t.More (t.Fence 126 None None (line 1 (codes "a") ∷ []) false) t.End)) t.End
+shared_tab_tree = t.More (t.Quote None (t.More (t.Fence 126 None None (line 1 (codes "a") ∷ []) false) t.End)) t.End
 
 row-shared-tab : Row shared_tab_text shared_tab_events shared_tab_tree
-unfolding spelled keeps_grammar
+unfolding spelled keeps_grammar kind_at
 row-shared-tab = record {
   placed = refl;
   before = refl;
@@ -333,10 +333,10 @@ tabs_events =
     ++ pair n.CodeFlowChunk (within_tab 1 7 2 2) (at 1 10 4)))
 
 abbrev pub tabs_tree : t.Blocks
-tabs_tree = t.More (t.Quote (t.More (t.Code (line 2 (codes "a") ∷ [])) t.End)) t.End
+tabs_tree = t.More (t.Quote None (t.More (t.Code (line 2 (codes "a") ∷ [])) t.End)) t.End
 
 row-tabs : Row tabs_text tabs_events tabs_tree
-unfolding spelled keeps_grammar
+unfolding spelled keeps_grammar kind_at
 row-tabs = record {
   placed = refl;
   before = refl;
@@ -397,10 +397,12 @@ definition_events =
 abbrev pub definition_tree : t.Blocks
 definition_tree =
     t.More
-    (t.Quote (t.More (t.Definition (codes "a" ∷ codes "b" ∷ []) (codes "c") (Some (codes "d" ∷ codes "e" ∷ []))) t.End)) t.End
+    (t.Quote None
+    (t.More (t.Definition (codes "a" ∷ codes "b" ∷ []) (codes "c") (Some (codes "d" ∷ codes "e" ∷ []))) t.End))
+    t.End
 
 row-definition : Row definition_text definition_events definition_tree
-unfolding spelled keeps_grammar
+unfolding spelled keeps_grammar kind_at
 row-definition = record {
   placed = refl;
   before = refl;
@@ -449,7 +451,7 @@ footnote_tree =
     (t.Footnote (codes "a") (t.More (t.Paragraph (codes "b" ∷ [])) (t.More (t.Paragraph (codes "c" ∷ [])) t.End))) t.End
 
 row-footnote : Row footnote_text footnote_events footnote_tree
-unfolding spelled keeps_grammar
+unfolding spelled keeps_grammar kind_at
 row-footnote = record {
   placed = refl;
   before = refl;
@@ -489,7 +491,7 @@ cut_chunk_tree =
     t.More (t.ListOf 45 (t.More (t.Item 45 [] (t.More (t.Paragraph (codes "a" ∷ codes "b" ∷ [])) t.End)) t.End)) t.End
 
 row-cut-chunk : Row cut_chunk_text cut_chunk_events cut_chunk_tree
-unfolding spelled keeps_grammar
+unfolding spelled keeps_grammar kind_at
 row-cut-chunk = record {
   placed = refl;
   before = refl;
@@ -547,10 +549,12 @@ behind_definition_events =
 abbrev pub behind_definition_tree : t.Blocks
 behind_definition_tree =
     t.More
-    (t.Quote (t.More (t.Definition (codes "a" ∷ []) (codes "b") None) (t.More (t.Heading 1 (codes "c" ∷ [])) t.End))) t.End
+    (t.Quote None
+    (t.More (t.Definition (codes "a" ∷ []) (codes "b") None) (t.More (t.Heading 1 (codes "c" ∷ [])) t.End)))
+    t.End
 
 row-behind-definition : Row behind_definition_text behind_definition_events behind_definition_tree
-unfolding spelled keeps_grammar
+unfolding spelled keeps_grammar kind_at
 row-behind-definition = record {
   placed = refl;
   before = refl;
@@ -608,12 +612,12 @@ lazy_head_events =
 abbrev pub lazy_head_tree : t.Blocks
 lazy_head_tree =
     t.More
-    (t.Quote
+    (t.Quote None
     (t.More (t.Paragraph (codes "a" ∷ [])) (t.More (t.Table (codes "-|-") ((codes "b" ∷ codes "c" ∷ []) ∷ [])) t.End)))
     t.End
 
 row-lazy-head : Row lazy_head_text lazy_head_events lazy_head_tree
-unfolding spelled keeps_grammar
+unfolding spelled keeps_grammar kind_at
 row-lazy-head = record {
   placed = refl;
   before = refl;
@@ -660,10 +664,10 @@ blank_code_events =
 
 abbrev pub blank_code_tree : t.Blocks
 blank_code_tree =
-    t.More (t.Quote (t.More (t.Code (line 0 (codes "a") ∷ line 2 [] ∷ line 0 (codes "b") ∷ [])) t.End)) t.End
+    t.More (t.Quote None (t.More (t.Code (line 0 (codes "a") ∷ line 2 [] ∷ line 0 (codes "b") ∷ [])) t.End)) t.End
 
 row-blank-code : Row blank_code_text blank_code_events blank_code_tree
-unfolding spelled keeps_grammar
+unfolding spelled keeps_grammar kind_at
 row-blank-code = record {
   placed = refl;
   before = refl;
@@ -697,10 +701,10 @@ cut_html_events =
     ++ pair n.HtmlFlowData (at 1 5 2) (at 1 8 5)))
 
 abbrev pub cut_html_tree : t.Blocks
-cut_html_tree = t.More (t.Quote (t.More (t.Html (line 2 (codes "<a>") ∷ [])) t.End)) t.End
+cut_html_tree = t.More (t.Quote None (t.More (t.Html (line 2 (codes "<a>") ∷ [])) t.End)) t.End
 
 row-cut-html : Row cut_html_text cut_html_events cut_html_tree
-unfolding spelled keeps_grammar
+unfolding spelled keeps_grammar kind_at
 row-cut-html = record {
   placed = refl;
   before = refl;

@@ -9,7 +9,8 @@ use Rattle.md_engine.specs.declared.event.Kind.{Kind}
 use Rattle.md_engine.specs.declared.event.Kind.TheVariants.{Enter, Exit}
 use Rattle.md_engine.specs.declared.event.Name.{Name}
 use Rattle.md_engine.specs.declared.event.Name.TheVariants as n
-use Rattle.md_seam.specs.Events.Spelled.{Reading, Text, Purpose, Role, TextRole, IsQuiet}
+use Rattle.md_seam.specs.Events.Spelled.{Reading, Text, Purpose, Role, TextRole, IsQuiet, IsQuoteMarker}
+use Rattle.md_seam.specs.Events.Spelled.{is_before_blocks, kind_at, on_shape, with_kind}
 use Rattle.md_seam.specs.Events.Spelled.{IsPrefix, role, begun, before_prefix, after_prefix, read_by, read, unread}
 use Rattle.md_seam.specs.Events.Spelled.{spelled}
 use Rattle.md_seam.specs.Events.Inline.{is_linked, is_inline}
@@ -17,7 +18,7 @@ use Rattle.md_seam.specs.Events.Tiles.{stands_in_part, is_data, is_part, is_chun
 use Rattle.md_seam.specs.Events.Tiles.{first_list, further_lists, filled_from, filled}
 use Rattle.md_seam.specs.Events.Told.{is_told}
 use Rattle.md_seam.specs.Events.Nested.{is_exit}
-use Rattle.md_seam.proofs.SpelledLemmas.{Roles, QuietOrPrefix, QuietOrEnding, read-append, read-inline}
+use Rattle.md_seam.proofs.SpelledLemmas.{Roles, QuietOrEnding, read-append, read-inline}
 use Rattle.md_seam.proofs.ToldLemmas.{told-role}
 
 -- Names.
@@ -39,8 +40,14 @@ part-told _ h = cc
 pub part-tells : (name : Name) → is_part name ≡ true → (purpose : Purpose) × (role name ≡ TextRole purpose)
 part-tells name h = told-role (role name) (part-told name h)
 
--- what stands inside a text part is quiet, or a container prefix
-pub stands-role : (kind : Kind) (name : Name) → stands_in_part kind name ≡ true → QuietOrPrefix (role name)
+-- what may be inside a text part: what the tree does not show, and container prefixes with their markers
+abbrev pub InPart : Role → Type 0
+InPart IsQuiet = Unit {0}
+InPart IsPrefix = Unit {0}
+InPart IsQuoteMarker = Unit {0}
+InPart _ = ⊥
+
+pub stands-role : (kind : Kind) (name : Name) → stands_in_part kind name ≡ true → InPart (role name)
 stands-role Exit n.Data h = tt
 stands-role kind n.SpaceOrTab h = tt
 stands-role kind _ h = first_of (search, cc)
@@ -86,7 +93,7 @@ enter-has bytes Exit name p r = go (is_part name)
     go true = tt
     go false = tt
 
-keep-has : (bytes : List ℕ) (kind : Kind) (x : Role) (p : Point) (r : Reading) → QuietOrPrefix x → HasText r →
+keep-has : (bytes : List ℕ) (kind : Kind) (x : Role) (p : Point) (r : Reading) → InPart x → HasText r →
     HasText (read_by bytes kind x p r)
 keep-has bytes Enter IsQuiet p r h has = has
 keep-has bytes Exit IsQuiet p r h has = has
@@ -94,6 +101,13 @@ keep-has bytes Enter IsPrefix p r h has =
     (before_prefix bytes p has.0, ap (λ (x : Option Text). option_map (before_prefix bytes p) x) has.1)
 keep-has bytes Exit IsPrefix p r h has =
     (after_prefix p has.0, ap (λ (x : Option Text). option_map (after_prefix p) x) has.1)
+keep-has bytes Enter IsQuoteMarker p r h has = go (is_before_blocks r.text r.leaf r.here)
+  where
+    go : (x : Bool) →
+        HasText (cond x (record r { outer = on_shape (with_kind (kind_at bytes p.index)) r.outer }) r)
+    go true = has
+    go false = has
+keep-has bytes Exit IsQuoteMarker p r h has = has
 keep-has bytes kind _ p r h has = absurd h
 
 quiet-kept : (bytes : List ℕ) (kind : Kind) (x : Role) (p : Point) (r : Reading) → x ≡ IsQuiet →

@@ -3,6 +3,9 @@ use Rattle.std.proofs.Common.{◌≡◌, ℕ, zero, suc, Bool, true, false, cond
 use Rattle.std.proofs.Common.{length, Option, Some, None, refl, ◌∙◌}
 use Rattle.std.proofs.lemmas.Bool.{and_from, and_parts, or_right}
 use Rattle.md_engine.specs.declared.configuration.ParseOptions.{ParseOptions}
+use Rattle.md_meaning.specs.declared.alert.AlertKind.{AlertKind}
+use Rattle.md_meaning.specs.Alert.{alert_at}
+use Rattle.md_meaning.specs.Containers.{taken_as, with_kind}
 use Rattle.md_meaning.specs.Containers.{Labelled, Marker, Taken, continues, footnote_by, footnote_continues, item_by}
 use Rattle.md_meaning.specs.Containers.{item_continues, opens, opens_footnote, opens_item, opens_quote, quote_taken}
 use Rattle.md_meaning.specs.Definition.{Defined, cut_definitions}
@@ -14,9 +17,9 @@ use Rattle.md_meaning.specs.Leaves.{html_at, html_by, html_goes_on, html_line, i
 use Rattle.md_meaning.specs.Leaves.{table_by, table_goes_on, underline_depth, underlined, underlined_by}
 use Rattle.md_meaning.specs.Lines.{lines_of}
 use Rattle.md_meaning.specs.Meaning.{tree}
-use Rattle.md_seam.specs.Events.On.{are_on, is_on, is_setext_depth}
+use Rattle.md_seam.specs.Events.On.{are_on, is_kind_on, is_on, is_setext_depth}
 use Rattle.md_meaning.specs.Preamble.{Front, front_by, first_column, front_of, preamble_by, rests_at, without_mark}
-use Rattle.md_meaning.specs.Rest.{Rest, is_blank, line_of, lose}
+use Rattle.md_meaning.specs.Rest.{Rest, has_small_indent, is_blank, line_of, lose}
 use Rattle.md_meaning.specs.State.{At, Container, InFootnote, InItem, InQuote, ParagraphLine, Leaf, NoLeaf, OpenCode}
 use Rattle.md_meaning.specs.State.{OpenFence, OpenHtml, OpenParagraph, OpenTable, Opening, Path, Innermost, Within}
 use Rattle.md_meaning.specs.State.{at_spot, closed, container_block, cut, fence_block, shut, shut_paragraph, spot}
@@ -340,7 +343,7 @@ leaf_line-on options s r h = go s.leaf h.1
 
 -- whether the construct of an open container is on
 abbrev is_container_on : ParseOptions → Container → Bool
-is_container_on options InQuote = options.constructs.block_quote
+is_container_on options (InQuote kind) = options.constructs.block_quote && is_kind_on options kind
 is_container_on options (InItem digits marker width starts_blank) = options.constructs.list_item
 is_container_on options (InFootnote label) = options.constructs.gfm_footnote_definition
 
@@ -352,17 +355,47 @@ TakenOn options t = is_container_on options t.container ≡ true
 container-on : (options : ParseOptions) (container : Container) (bs : Blocks) →
     is_container_on options container ≡ true → are_on options bs ≡ true →
     is_on options (container_block container bs) ≡ true
-container-on options InQuote bs h k = and_from options.constructs.block_quote (are_on options bs) h k
+container-on options (InQuote kind) bs h k =
+    and_from (options.constructs.block_quote && is_kind_on options kind) (are_on options bs) h k
 container-on options (InItem digits marker width starts_blank) bs h k =
     and_from options.constructs.list_item (are_on options bs) h k
 container-on options (InFootnote label) bs h k =
     and_from options.constructs.gfm_footnote_definition (are_on options bs) h k
 
 -- a quote
-quote_taken-on : (options : ParseOptions) (r : Rest) → options.constructs.block_quote ≡ true →
-    Finds (quote_taken options r) (TakenOn options)
+quote_taken-on : (options : ParseOptions) (kind : Option AlertKind) (r : Rest) →
+    is_container_on options (InQuote kind) ≡ true → Finds (quote_taken options kind r) (TakenOn options)
 unfolding quote_taken
-quote_taken-on options r h = search (when-found, some-found)
+quote_taken-on options kind r h = search (when-found, some-found)
+
+-- a kind is found only where alerts are on
+alert_at-on : (options : ParseOptions) (r : Rest) →
+    Finds (alert_at options r) (λ kind. options.constructs.alerts ≡ true)
+unfolding alert_at
+alert_at-on options r =
+    when-found _ (options.constructs.alerts && has_small_indent options r) _
+    (λ e kind found. first_of_two options.constructs.alerts (has_small_indent options r) e)
+
+-- a quote, and its kind
+with_kind-on : (options : ParseOptions) (o : Option Taken) → options.constructs.block_quote ≡ true →
+    Finds o (TakenOn options) → Finds (with_kind options o) (TakenOn options)
+with_kind-on options None on h = none-found (TakenOn options)
+with_kind-on options (Some t) on h = go (alert_at options t.rest) (alert_at-on options t.rest)
+  where
+    go : (a : Option AlertKind) → Finds a (λ kind. options.constructs.alerts ≡ true) →
+        Finds (Some (taken_as t a)) (TakenOn options)
+    go None found = h
+    go (Some kind) found =
+        some-found (TakenOn options) _
+        (and_from options.constructs.block_quote options.constructs.alerts on (found kind refl))
+
+opens_quote-on : (options : ParseOptions) (r : Rest) → Finds (opens_quote options r) (TakenOn options)
+unfolding opens_quote
+opens_quote-on options r =
+    when-found (TakenOn options) options.constructs.block_quote _
+    (λ on.
+    with_kind-on options (quote_taken options None r) on
+    (quote_taken-on options None r (and_from options.constructs.block_quote true on refl)))
 
 -- an item with a marker
 item_by-on : (options : ParseOptions) (interrupting : Bool) (before : ℕ) (from : Rest) (marker : Option Marker) →
@@ -379,15 +412,15 @@ footnote_by-on options from (Some l) h = search (when-found, some-found)
 -- the first container that opens
 opens-on : (options : ParseOptions) (interrupting : Bool) (r : Rest) →
     Finds (opens options interrupting r) (TakenOn options)
-unfolding opens_quote opens_item opens_footnote
+unfolding opens_item opens_footnote
 opens-on options interrupting r =
-    search (first-found, when-found, quote_taken-on, item_by-on, footnote_by-on, first_of_two, first_of_three)
+    search (first-found, when-found, opens_quote-on, item_by-on, footnote_by-on, first_of_two, first_of_three)
 
 -- an open container that continues
 continues-on : (options : ParseOptions) (container : Container) (r : Rest) →
     is_container_on options container ≡ true → Finds (continues options container r) (TakenOn options)
 unfolding item_continues footnote_continues
-continues-on options InQuote r h = quote_taken-on options r h
+continues-on options (InQuote kind) r h = quote_taken-on options kind r h
 continues-on options (InItem digits marker width starts_blank) r h = search (when-found, some-found)
 continues-on options (InFootnote label) r h = search (when-found, some-found)
 
@@ -529,9 +562,10 @@ front-on options b bs h k = and_from (is_on options b) (are_on options bs) h k
 mutual
   grouped_block-on : (options : ParseOptions) (b : Block) → is_on options b ≡ true →
       is_on options (grouped_block b) ≡ true
-  grouped_block-on options (Quote bs) h =
-      let parts = and_parts options.constructs.block_quote (are_on options bs) h in
-      and_from options.constructs.block_quote (are_on options (grouped bs)) parts.0 (grouped-on options bs parts.1)
+  grouped_block-on options (Quote kind bs) h =
+      let x : Bool = options.constructs.block_quote && is_kind_on options kind in
+      let parts = and_parts x (are_on options bs) h in
+      and_from x (are_on options (grouped bs)) parts.0 (grouped-on options bs parts.1)
   grouped_block-on options (Item marker digits bs) h =
       let parts = and_parts options.constructs.list_item (are_on options bs) h in
       and_from options.constructs.list_item (are_on options (grouped bs)) parts.0 (grouped-on options bs parts.1)

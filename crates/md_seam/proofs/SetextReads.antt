@@ -10,7 +10,7 @@ use Rattle.md_seam.specs.Events.Nested.{around, pair}
 use Rattle.md_seam.specs.Events.Spelled.{AsHeading, HeadingSetextLeaf, HeadingSoFar, OfHeadingSetext, OpenLeaf, Reading}
 use Rattle.md_seam.specs.Events.Spelled.{Text, at_ending, begun, fresh, next_line, noted, on_leaf, read, text_to}
 use Rattle.md_meaning.proofs.TextsLemmas.{IsOfLines, split-lines}
-use Rattle.md_seam.proofs.SpelledLemmas.{Between, QuietOrPrefix, Roles, read-from, read-prefixes, text_after}
+use Rattle.md_seam.proofs.SpelledLemmas.{Between, QuietOrPrefix, Roles, read-from, read-within, text_after}
 
 -- Its text is read as the lines of that, which is cut at its container prefixes.
 pub read-setext_text : (bytes : List ℕ) (r : Reading) (p q : Point) (inside : List Event) (lines : List (List ℕ)) →
@@ -38,7 +38,7 @@ pub read-setext_gap : (bytes : List ℕ) (r : Reading) (p q : Point) (front : Li
 read-setext_gap bytes r p q front heading none opened prefixes =
     read-from bytes r r (pair n.LineEnding p q) front
     (ap (λ (x : Option Text). at_ending bytes q x r) none ∙ go (nat_lt q.index (length bytes)))
-    ∙ read-prefixes bytes r front none prefixes
+    ∙ read-within bytes r (HeadingSetextLeaf heading) front none opened prefixes
   where
     go : (x : Bool) → cond x (on_leaf next_line r) r ≡ r
     go false = refl

@@ -2,6 +2,7 @@
 use Rattle.std.proofs.Common.{◌≡◌, true, refl}
 use Rattle.md_engine.specs.declared.configuration.ParseOptions.{ParseOptions}
 use Rattle.md_engine.specs.declared.configuration.TheConstants.ParseOptions as given
+use Rattle.md_meaning.specs.Alert.{alert_at}
 use Rattle.md_meaning.specs.Html.{begins_raw, begins_basic, after_value, after_assignment, after_attribute}
 use Rattle.md_meaning.specs.Html.{ends_opening, begins_complete, kind_after, html_kind, html_ends, is_raw_name}
 use Rattle.md_meaning.specs.Html.{is_basic_name}
@@ -76,12 +77,12 @@ record Meant : Type 0 where
   cut_html_means : tree extended cut_html_text ≡ cut_html_tree
 
 meant : Meant
-unfolding begins_raw begins_basic after_value after_assignment after_attribute ends_opening begins_complete kind_after
-    html_kind html_ends enclosed enclosed_lines label_at balanced destination_at title_at definition_at cut_at_most
-    cut_definitions pieces row_cells is_head delimiter_columns shut_paragraph front_of quote_taken item_continues
-    footnote_continues opens_quote opens_item opens_footnote break_at heading_at code_at code_goes_on fence_at
-    fence_goes_on html_at html_goes_on starts table_goes_on underline_depth underlined table_at fresh_line text_line
-    all_continued stopped is_raw_name is_basic_name
+unfolding alert_at begins_raw begins_basic after_value after_assignment after_attribute ends_opening begins_complete
+    kind_after html_kind html_ends enclosed enclosed_lines label_at balanced destination_at title_at definition_at
+    cut_at_most cut_definitions pieces row_cells is_head delimiter_columns shut_paragraph front_of quote_taken
+    item_continues footnote_continues opens_quote opens_item opens_footnote break_at heading_at code_at code_goes_on
+    fence_at fence_goes_on html_at html_goes_on starts table_goes_on underline_depth underlined table_at fresh_line
+    text_line all_continued stopped is_raw_name is_basic_name
 meant = record {
   empty_means = refl;
   blank_means = refl;

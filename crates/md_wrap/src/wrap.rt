@@ -6,6 +6,8 @@
 // What a text means that is wrapped so is known for most texts: the container, with what the text means in it. That is
 // the law in the contract of each function, with the texts that it speaks of. It speaks of no text with a tab, whose
 // columns would change, nor of one with a byte order mark or frontmatter, which stand at the front of a document alone.
+// Where alerts are on, that of a quote speaks of no text whose first line is the marker of a kind either: behind `> `
+// it would make the quote an alert.
 
 ghost use Rattle.std.specs.Prelude.{◌≡◌, ◌≢◌, ◌<◌, ◌≤◌, [], ◌∷◌, drop, length, take, string_bytes, IfOk, OnOk, ◌++◌};
 ghost use Rattle.std.specs.List.{concat};

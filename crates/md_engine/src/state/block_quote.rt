@@ -4,6 +4,16 @@
 #[derive(Clone, Copy)]
 pub enum State {
     Start,
+    OpenStart,
+    OpenBefore,
+    OpenAfter,
+    AlertTry,
+    AlertStart,
+    AlertBefore,
+    AlertMark,
+    AlertLetter,
+    AlertName,
+    PrefixEnd,
     ContStart,
     ContBefore,
     ContAfter,

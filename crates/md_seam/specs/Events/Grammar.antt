@@ -115,7 +115,8 @@ inside text n.Frontmatter =
 inside text n.FrontmatterFence = Then (one n.FrontmatterSequence) white
 -- a block quote, with its first prefix
 inside text n.BlockQuote = Then white (Then (one n.BlockQuotePrefix) blocks)
-inside text n.BlockQuotePrefix = Then (one n.BlockQuoteMarker) white
+inside text n.BlockQuotePrefix =
+    Then (one n.BlockQuoteMarker) (Then white (optional (Then white (Then (one n.BlockQuoteMarker) white))))
 -- lists: items, and line endings between them
 inside text n.ListOrdered = Then (one n.ListItem) (Many (Then (some line_break) (one n.ListItem)))
 inside text n.ListUnordered = Then (one n.ListItem) (Many (Then (some line_break) (one n.ListItem)))

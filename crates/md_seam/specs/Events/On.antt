@@ -1,6 +1,7 @@
 -- Which blocks may stand in a tree under given options: those whose construct is on.
-use Rattle.std.specs.Prelude.{ℕ, Bool, true, ◌&&◌, ◌||◌, ◌==◌}
+use Rattle.std.specs.Prelude.{ℕ, Bool, true, ◌&&◌, ◌||◌, ◌==◌, Option, Some, None}
 use Rattle.md_engine.specs.declared.configuration.ParseOptions.{ParseOptions}
+use Rattle.md_meaning.specs.declared.alert.AlertKind.{AlertKind}
 use Rattle.md_meaning.specs.Tree.{Block, Frontmatter, Quote, ListOf, Item, Footnote, Heading, Break, Code, Html}
 use Rattle.md_meaning.specs.Tree.{Fence, Math, Definition, Paragraph, Table, Blocks, End, More}
 
@@ -8,11 +9,17 @@ use Rattle.md_meaning.specs.Tree.{Fence, Math, Definition, Paragraph, Table, Blo
 abbrev pub is_setext_depth : ℕ → Bool
 is_setext_depth depth = (depth == 1) || (depth == 2)
 
+-- whether a quote may have this kind
+abbrev pub is_kind_on : ParseOptions → Option AlertKind → Bool
+is_kind_on options None = true
+is_kind_on options (Some kind) = options.constructs.alerts
+
 -- whether the construct of a block is on, and those of all blocks in it; a paragraph may always stand
 abbrev mutual
   pub is_on : ParseOptions → Block → Bool
   is_on options (Frontmatter marker lines) = options.constructs.frontmatter
-  is_on options (Quote blocks) = options.constructs.block_quote && are_on options blocks
+  is_on options (Quote kind blocks) =
+      options.constructs.block_quote && is_kind_on options kind && are_on options blocks
   is_on options (ListOf marker items) = options.constructs.list_item && are_on options items
   is_on options (Item marker digits blocks) = options.constructs.list_item && are_on options blocks
   is_on options (Footnote label blocks) = options.constructs.gfm_footnote_definition && are_on options blocks

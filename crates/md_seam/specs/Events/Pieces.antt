@@ -5,6 +5,7 @@ use Rattle.std.specs.Prelude.{ℕ, Bool, true, false, ◌&&◌, ◌||◌, ◌==�
 use Rattle.std.specs.Prelude.{length, slice_range, Option, Some, None}
 use Rattle.std.specs.List.{list_all}
 use Rattle.std.specs.Str.{bytes_eq}
+use Rattle.md_meaning.specs.Alert.{is_marker}
 use Rattle.md_engine.specs.declared.event.Name.{Name}
 use Rattle.md_engine.specs.declared.event.Name.TheVariants as n
 use Rattle.md_seam.specs.Events.Inline.{Piece, is_one_line}
@@ -49,7 +50,7 @@ piece_rule n.ByteOrderMark = Some (λ text. bytes_eq text (239 ∷ 187 ∷ 191 �
 piece_rule n.Data = Some is_in_line
 piece_rule n.FrontmatterSequence = Some (λ text. bytes_eq text (codes "---") || bytes_eq text (codes "+++"))
 piece_rule n.FrontmatterChunk = Some is_in_line
-piece_rule n.BlockQuoteMarker = Some (is_one_of (codes ">"))
+piece_rule n.BlockQuoteMarker = Some (λ text. is_one_of (codes ">") text || is_marker text)
 piece_rule n.ListItemValue = Some (λ text. nat_le (length text) 9 && list_all is_digit text)
 piece_rule n.ListItemMarker = Some (is_one_of (codes "*+-.)"))
 piece_rule n.GfmFootnoteDefinitionLabelMarker = Some (is_one_of (codes "[]"))

@@ -3,7 +3,7 @@
 -- A fold over the events. It goes on from a half-read tree: the containers that are open, the blocks that are finished
 -- in the innermost, the leaf block that is open, and the text that is being read.
 use Rattle.std.specs.Prelude.{ℕ, ◌+◌, ◌-◌, Bool, true, false, ◌||◌, ◌==◌, nat_lt, if◌then◌else◌, List, [], ◌∷◌, ◌++◌}
-use Rattle.std.specs.Prelude.{length, map, slice_range, Option, Some, None, option_map}
+use Rattle.std.specs.Prelude.{length, map, slice_range, Option, Some, None, option_map, take, drop}
 use Rattle.md_engine.specs.declared.event.Point.{Point}
 use Rattle.md_engine.specs.declared.event.Event.{Event}
 use Rattle.md_engine.specs.declared.event.Kind.{Kind}
@@ -13,6 +13,8 @@ use Rattle.md_engine.specs.declared.event.Name.TheVariants as n
 use Rattle.md_meaning.specs.Tree.{Line, Block, Blocks, Quote, ListOf, Item, Footnote, Heading, Break, Code, Html}
 use Rattle.md_meaning.specs.Tree.{Fence, Math, Definition, Paragraph, Table, End, More}
 use Rattle.md_meaning.specs.Tree as t
+use Rattle.md_meaning.specs.declared.alert.AlertKind.{AlertKind}
+use Rattle.md_meaning.specs.Alert.{first_kind, has_marker, kinds}
 use Rattle.md_meaning.specs.Containers.{is_bullet}
 use Rattle.md_meaning.specs.Rest.{trim, tab_columns}
 use Rattle.md_meaning.specs.State.{then_block}
@@ -43,7 +45,7 @@ first_some (Some x) now = Some x
 -- What is known of an open container: which list it is, an item's marker and digits, the label of a footnote
 -- definition. There is no marker yet where it is 0, and no digits or label where they are empty.
 pub data Shape : Type 0 where
-  QuoteShape : Shape
+  QuoteShape : Option AlertKind → Shape
   OrderedShape : Shape
   UnorderedShape : Shape
   ItemShape : ℕ → List ℕ → Shape
@@ -165,6 +167,8 @@ pub data Role : Type 0 where
   IsPrefix : Role
   -- a line ending, which may open a line
   IsEnding : Role
+  -- a marker of a quote, which may tell its kind
+  IsQuoteMarker : Role
   -- what the tree does not show
   IsQuiet : Role
 
@@ -174,7 +178,8 @@ role n.Frontmatter = LeafRole OfFrontmatter
 role n.FrontmatterFence = IsFence
 role n.FrontmatterSequence = TextRole AsMarkers
 role n.FrontmatterChunk = TextRole AsLine
-role n.BlockQuote = ContainerRole QuoteShape
+role n.BlockQuote = ContainerRole (QuoteShape None)
+role n.BlockQuoteMarker = IsQuoteMarker
 role n.BlockQuotePrefix = IsPrefix
 role n.ListOrdered = ContainerRole OrderedShape
 role n.ListUnordered = ContainerRole UnorderedShape
@@ -385,7 +390,7 @@ list_marker is_marker (More (Item marker digits blocks) items) = if is_marker ma
 list_marker is_marker _ = 0
 
 abbrev pub block_around : Shape → Blocks → Block
-block_around QuoteShape blocks = Quote blocks
+block_around (QuoteShape kind) blocks = Quote kind blocks
 block_around OrderedShape items = ListOf (list_marker is_ordered items) items
 block_around UnorderedShape items = ListOf (list_marker is_bullet items) items
 block_around (ItemShape marker digits) blocks = Item marker digits blocks
@@ -397,6 +402,20 @@ named AsDigits text (ItemShape marker digits) = ItemShape marker (first_told dig
 named AsItemMarker text (ItemShape marker digits) = ItemShape (if marker == 0 then first_byte text else marker) digits
 named AsFootnoteLabel text (FootnoteShape label) = FootnoteShape (first_told label text)
 named _ text shape = shape
+
+-- the kind whose marker begins at an index of a text, if one does
+unfoldable pub kind_at : List ℕ → ℕ → Option AlertKind
+kind_at bytes index = first_kind (λ kind. has_marker kind (drop index bytes)) kinds
+
+-- whether no block of the innermost container is read yet, nor a part of one
+abbrev pub is_before_blocks : Option Text → Option OpenLeaf → Blocks → Bool
+is_before_blocks None None End = true
+is_before_blocks text leaf blocks = false
+
+-- a quote is of the first kind that a marker in front of its blocks gives it
+abbrev pub with_kind : Option AlertKind → Shape → Shape
+with_kind (Some k) (QuoteShape None) = QuoteShape (Some k)
+with_kind _ shape = shape
 
 -- The step of one event.
 
@@ -453,6 +472,10 @@ read_enter bytes IsRow p r = on_leaf at_row r
 read_enter bytes IsCell p r = on_leaf at_cell r
 read_enter bytes IsPrefix p r = on_text (before_prefix bytes p) r
 read_enter bytes IsEnding p r = r
+read_enter bytes IsQuoteMarker p r =
+    if is_before_blocks r.text r.leaf r.here
+    then record r { outer = on_shape (with_kind (kind_at bytes p.index)) r.outer }
+    else r
 read_enter bytes IsQuiet p r = r
 
 abbrev pub read_exit : List ℕ → Role → Point → Reading → Reading

@@ -5,7 +5,7 @@ use Rattle.md_meaning.specs.Tree.{Block, Blocks, End, Footnote, Item, ListOf, Mo
 abbrev mutual
   -- whether it holds of a block, and of all blocks in it
   pub all_within : (Block → Bool) → Block → Bool
-  all_within p (Quote blocks) = p (Quote blocks) && all_blocks p blocks
+  all_within p (Quote kind blocks) = p (Quote kind blocks) && all_blocks p blocks
   all_within p (ListOf marker items) = p (ListOf marker items) && all_blocks p items
   all_within p (Item marker digits blocks) = p (Item marker digits blocks) && all_blocks p blocks
   all_within p (Footnote label blocks) = p (Footnote label blocks) && all_blocks p blocks
