@@ -3,6 +3,10 @@ pub mod FrontmatterMeaning
 pub mod QuoteTermination
 pub mod QuoteMeaning
 pub mod QuoteLines
+pub mod AlertBytes
+pub mod AlertCells
+pub mod AlertLines
+pub mod OpeningLines
 pub mod QuoteCells
 pub mod QuoteShorter
 pub mod Shorter
@@ -29,6 +33,7 @@ pub mod ItemBreak
 pub mod ItemLines
 pub mod GroupedLemmas
 pub mod ListedOpen
+pub mod ListedMarkers
 pub mod ListedBlockSteps
 pub mod ListedPartSteps
 pub mod ListedReads

@@ -12,7 +12,7 @@ use Rattle.md_meaning.specs.State.{then_block}
 use Rattle.md_meaning.specs.Tree.{Block, Blocks, End, Item, ListOf, More}
 use Rattle.md_seam.specs.Events.Blocks.{is_block}
 use Rattle.md_seam.specs.Events.Spelled.{OpenContainer, AsDigits}
-use Rattle.md_seam.specs.Events.Spelled.{FootnoteShape, ContainerRole, IsEnding, IsPrefix, IsQuiet}
+use Rattle.md_seam.specs.Events.Spelled.{FootnoteShape, ContainerRole, IsEnding, IsPrefix, IsQuiet, IsQuoteMarker}
 use Rattle.md_seam.specs.Events.Spelled.{ItemShape, OpenLeaf, LeafRole, OrderedShape}
 use Rattle.md_seam.specs.Events.Spelled.{Purpose, Reading, Role, Shape, TextRole, Text, UnorderedShape, begun}
 use Rattle.md_seam.specs.Events.Spelled.{block_around, fresh, is_ordered, left}
@@ -25,21 +25,15 @@ use Rattle.md_containers.specs.Listed.{marker_by, next_by}
 use Rattle.md_containers.proofs.GroupedLemmas.{IsOther, NoLists, grouped-item, grouped-other}
 use Rattle.md_containers.proofs.GroupedLemmas.{last-apart, last-same, no-lists-then, other-is-no-list, other-no-list}
 use Rattle.md_containers.proofs.GroupedLemmas.{with_last}
-use Rattle.md_containers.proofs.ListedOpen.{OpenList, list_shape, list_around, outer_by, place_of, Heads, Fits, Apart, IsItemOf, IsNoItem, Agree, AgreeAt, Knows, Known, Passes, passes-here, Stepped, passed}
+use Rattle.md_containers.proofs.ListedOpen.{Agree, AgreeAt, Apart, Fits, HasBlocks, Heads, IsItemOf, IsNoItem, Known}
+use Rattle.md_containers.proofs.ListedOpen.{Knows, OpenList, Passes, Stepped, list_around, list_shape, outer_by, passed}
+use Rattle.md_containers.proofs.ListedOpen.{passes-here, place_of}
+use Rattle.md_containers.proofs.ListedMarkers.{marker-begins, marker-goes, marker-here}
 
--- what stands between blocks passes
-pub between-passes : (kind : Kind) (x : Role) → IsBetween x → Passes kind x
-between-passes Enter IsPrefix h = tt
-between-passes Enter IsEnding h = tt
-between-passes Enter IsQuiet h = tt
-between-passes Exit IsPrefix h = tt
-between-passes Exit IsEnding h = tt
-between-passes Exit IsQuiet h = tt
-between-passes kind _ h = absurd h
-
--- and says nothing of what comes next
+-- what is between blocks says nothing of what comes next
 pub between-next : (kind : Kind) (x : Role) → IsBetween x → (ahead : ℕ) (next : Option ℕ) → next_by kind x ahead next ≡ next
 between-next kind IsPrefix h ahead next = refl
+between-next kind IsQuoteMarker h ahead next = refl
 between-next kind IsEnding h ahead next = refl
 between-next kind IsQuiet h ahead next = refl
 between-next kind _ h ahead next = absurd h
@@ -50,15 +44,15 @@ pub know-same : (bytes : List ℕ) (w : Option OpenList) (ls : List OpenList) (r
     (next now : Option ℕ) → s.here ≡ r.here → now ≡ next → Knows bytes AmongBlocks w ls r other now →
     Knows bytes AmongBlocks w ls s ahead next
 know-same bytes None ls r s ahead other next now e n known = λ m h. subst (Apart m) (sym e) (known m (n ∙ h))
-know-same bytes (Some l) ls r s ahead other next now e n known = (sym n ∙ known.0, subst (Fits l) (sym e) known.1)
+know-same bytes (Some l) ls r s ahead other next now e n known =
+    (sym n ∙ known.0, subst (Fits l) (sym e) known.1, subst HasBlocks (sym e) known.2)
 
 pub among-between : (bytes : List ℕ) (kind : Kind) (x : Role) (p : Point) (w : Option OpenList) (ls : List OpenList)
-    (r : Reading) (ahead : ℕ) (next : Option ℕ) (held : List Bool) → IsBetween x →
+    (r : Reading) (ahead : ℕ) (next : Option ℕ) (held : List Bool) → IsBetween x → Passes kind x →
     Known bytes (record { held = held; inner = AmongBlocks }) w ls r
     (marker_by kind x (get_or bytes p.index 0) ahead) (next_by kind x ahead next) →
     Stepped bytes kind x p w ls r ahead next held (record { held = held; inner = AmongBlocks })
-among-between bytes kind x p w ls r ahead next held h known =
-    let passes : Passes kind x = between-passes kind x h in
+among-between bytes kind x p w ls r ahead next held h passes known =
     passed bytes kind x p w ls r ahead next held AmongBlocks passes known.agree known.lists
     (know-same bytes w ls r (read_by bytes kind x p r) ahead (marker_by kind x (get_or bytes p.index 0) ahead) next
     (next_by kind x ahead next) (passes-here bytes kind x p passes r) (between-next kind x h ahead next) known.inner)
@@ -149,11 +143,17 @@ among-begin bytes (TextRole purpose) p None ls r ahead next held may known =
 among-begin bytes (TextRole purpose) p (Some l) ls r ahead next held may known =
     none-some l.marker (sym (own-next purpose may next) ∙ known.inner.0)
 among-begin bytes IsPrefix p w ls r ahead next held may known =
-    among-between bytes Enter IsPrefix p w ls r ahead next held tt known
+    among-between bytes Enter IsPrefix p w ls r ahead next held tt tt known
+among-begin bytes IsQuoteMarker p None ls r ahead next held may known =
+    marker-begins bytes p ls r ahead next held AmongBlocks (λ outer h. h) known.agree known.lists
+    (know-same bytes None ls r (read_by bytes Enter IsQuoteMarker p r) ahead ahead next next (marker-here bytes p r)
+    refl known.inner)
+among-begin bytes IsQuoteMarker p (Some l) ls r ahead next held may known =
+    marker-goes bytes p l ls r ahead next held known.inner.2 known
 among-begin bytes IsEnding p w ls r ahead next held may known =
-    among-between bytes Enter IsEnding p w ls r ahead next held tt known
+    among-between bytes Enter IsEnding p w ls r ahead next held tt tt known
 among-begin bytes IsQuiet p w ls r ahead next held may known =
-    among-between bytes Enter IsQuiet p w ls r ahead next held tt known
+    among-between bytes Enter IsQuiet p w ls r ahead next held tt tt known
 among-begin bytes _ p w ls r ahead next held may known = absurd may
 
 -- A block is added.
@@ -274,6 +274,10 @@ apart-behind l b d x fits lists m h e y =
     ∙ last-apart m e (grouped y) l.before (ListOf l.marker items) h
     ∙ ap (λ (gs : Blocks). then_block gs (ListOf m (More (Item m e (grouped y)) End))) (sym (fits.more d x))
 
+blocks-then : (bs : Blocks) (b : Block) → HasBlocks (then_block bs b)
+blocks-then End b = tt
+blocks-then (More a bs) b = tt
+
 pub item-ended : (bytes : List ℕ) (p : Point) (k : ℕ) (e : List ℕ) (l : OpenList) (ls : List OpenList) (d : List ℕ)
     (before : Blocks) (arounds : List OpenContainer) (here : Blocks) (leaf : Option OpenLeaf) (text : Option Text)
     (ahead : ℕ) (next : Option ℕ) (held : List Bool) → is_list_marker l.marker ≡ true → Fits l before →
@@ -321,7 +325,7 @@ item-ended bytes p k e l ls d before arounds here leaf text ahead next held mark
       known = record {
         agree = agree;
         lists = no-lists-then before item lists tt;
-        inner = (goes_on-some l.marker next h, fits-on l before d here fits lists);
+        inner = (goes_on-some l.marker next h, fits-on l before d here fits lists, blocks-then before item);
       };
     }
     go false h = record {
@@ -393,9 +397,11 @@ among-end bytes (ContainerRole shape) p w ls r ahead next (true ∷ held) may kn
 among-end bytes (ContainerRole shape) p w ls r ahead next (false ∷ held) may known =
     holder-ends bytes p shape w ls r.outer r.here r.leaf r.text ahead next held tt known.agree known.lists known.inner
 among-end bytes IsPrefix p w ls r ahead next held may known =
-    among-between bytes Exit IsPrefix p w ls r ahead next held tt known
+    among-between bytes Exit IsPrefix p w ls r ahead next held tt tt known
+among-end bytes IsQuoteMarker p w ls r ahead next held may known =
+    among-between bytes Exit IsQuoteMarker p w ls r ahead next held tt tt known
 among-end bytes IsEnding p w ls r ahead next held may known =
-    among-between bytes Exit IsEnding p w ls r ahead next held tt known
+    among-between bytes Exit IsEnding p w ls r ahead next held tt tt known
 among-end bytes IsQuiet p w ls r ahead next held may known =
-    among-between bytes Exit IsQuiet p w ls r ahead next held tt known
+    among-between bytes Exit IsQuiet p w ls r ahead next held tt tt known
 among-end bytes _ p w ls r ahead next held may known = absurd may

@@ -15,7 +15,7 @@ use Rattle.md_engine.specs.declared.event.Point.{Point}
 use Rattle.md_meaning.specs.Grouped.{grouped}
 use Rattle.md_meaning.specs.State.{then_block}
 use Rattle.md_meaning.specs.Tree.{Blocks, End, Item, Line, ListOf, More}
-use Rattle.md_seam.specs.Events.Spelled.{OpenContainer, ContainerRole, IsEnding}
+use Rattle.md_seam.specs.Events.Spelled.{OpenContainer, ContainerRole, IsEnding, IsQuoteMarker}
 use Rattle.md_seam.specs.Events.Spelled.{ItemShape, OpenLeaf, LeafRole, OrderedShape, Purpose}
 use Rattle.md_seam.specs.Events.Spelled.{Reading, Role, Shape, TextRole, Text, UnorderedShape, at_ending, begun}
 use Rattle.md_seam.specs.Events.Spelled.{is_ordered, left}
@@ -116,6 +116,11 @@ AgreeAt InFront held ls outer = AgreeFront held ls outer
 AgreeAt (InMarker q) held ls outer = AgreeFront held ls outer
 AgreeAt _ held ls outer = Agree held ls outer
 
+-- there are some
+abbrev pub HasBlocks : Blocks → Type 0
+HasBlocks End = ⊥
+HasBlocks (More b bs) = Unit {0}
+
 abbrev pub first_marker : List OpenList → ℕ
 first_marker [] = 0
 first_marker (l ∷ ls) = l.marker
@@ -123,7 +128,7 @@ first_marker (l ∷ ls) = l.marker
 -- Of what is innermost, by what stands ahead: the marker of the item that has begun, and the next block.
 abbrev pub Knows : List ℕ → Inner → Option OpenList → List OpenList → Reading → ℕ → Option ℕ → Type 0
 Knows bytes AmongBlocks None ls r ahead next = (m : ℕ) → next ≡ Some m → Apart m r.here
-Knows bytes AmongBlocks (Some l) ls r ahead next = (next ≡ Some l.marker) × Fits l r.here
+Knows bytes AmongBlocks (Some l) ls r ahead next = (next ≡ Some l.marker) × Fits l r.here × HasBlocks r.here
 Knows bytes InFront None ls r ahead next = (r.here ≡ End) × (ahead ≡ first_marker ls)
 Knows bytes (InMarker q) None ls r ahead next =
     (r.here ≡ End) × (get_or bytes q.index 0 ≡ first_marker ls) × IsMarkerAt bytes q × (r.text ≡ Some (begun q))
@@ -195,6 +200,7 @@ read-turn bytes Stays place ahead next e r = refl
 -- an event that leaves the containers that are open and the blocks that are finished
 abbrev pub Passes : Kind → Role → Type 0
 Passes Enter (ContainerRole shape) = ⊥
+Passes Enter IsQuoteMarker = ⊥
 Passes Enter _ = Unit {0}
 Passes Exit (ContainerRole shape) = ⊥
 Passes Exit (LeafRole kind) = ⊥
@@ -243,6 +249,7 @@ pub passes-moved : (bytes : List ℕ) (kind : Kind) (x : Role) (p : Point) → P
     (outer : List OpenContainer) (here : Blocks) →
     read_by bytes kind x p (moved r outer here) ≡ moved (read_by bytes kind x p r) outer here
 passes-moved bytes Enter (ContainerRole shape) p h r outer here = absurd h
+passes-moved bytes Enter IsQuoteMarker p h r outer here = absurd h
 passes-moved bytes Enter _ p h r outer here = refl
 passes-moved bytes Exit (ContainerRole shape) p h r outer here = absurd h
 passes-moved bytes Exit (LeafRole kind) p h r outer here = absurd h
@@ -279,6 +286,7 @@ passes-listed bytes kind x p h (Some l) held ls r =
 
 pub passes-turn : (kind : Kind) (x : Role) → Passes kind x → turn kind x ≡ Stays
 passes-turn Enter (ContainerRole shape) h = absurd h
+passes-turn Enter IsQuoteMarker h = absurd h
 passes-turn Enter _ h = refl
 passes-turn Exit (ContainerRole shape) h = absurd h
 passes-turn Exit _ h = refl

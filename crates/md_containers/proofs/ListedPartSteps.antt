@@ -12,8 +12,8 @@ use Rattle.md_meaning.specs.State.{then_block}
 use Rattle.md_meaning.specs.Texts.{first_byte}
 use Rattle.md_meaning.specs.Tree.{Block, Blocks, End, Line}
 use Rattle.md_seam.specs.Events.Spelled.{OpenContainer, AsDigits, AsFootnoteLabel, AsItemMarker, BreakLeaf}
-use Rattle.md_seam.specs.Events.Spelled.{ContainerRole, IsCell, IsEnding, IsFence, IsPrefix, IsQuiet, IsRow}
-use Rattle.md_seam.specs.Events.Spelled.{ItemShape, OpenLeaf, LeafRole, OrderedShape, Purpose, UnorderedShape}
+use Rattle.md_seam.specs.Events.Spelled.{ContainerRole, IsCell, IsEnding, IsFence, IsPrefix, IsQuiet, IsQuoteMarker}
+use Rattle.md_seam.specs.Events.Spelled.{IsRow, ItemShape, OpenLeaf, LeafRole, OrderedShape, Purpose, UnorderedShape}
 use Rattle.md_seam.specs.Events.Spelled.{Reading, Role, Shape, TextRole, Text, at_ending, begun}
 use Rattle.md_seam.specs.Events.Spelled.{block_of, finished, named}
 use Rattle.md_seam.specs.Events.Spelled.{next_line, on_leaf, on_shape, read_by, text_to, told_at}
@@ -31,7 +31,9 @@ use Rattle.md_containers.proofs.GroupedLemmas.{no-lists-then, other-is-no-list}
 use Rattle.md_containers.proofs.ListedOpen.{Agree, AgreeFront, Apart, IsBegun, IsItemOf, IsNoItem, Known, OpenList, Passes}
 use Rattle.md_containers.proofs.ListedOpen.{Stepped, as_listed, first_marker, moved, of-itself, of-leaf, outer_by, passed}
 use Rattle.md_containers.proofs.ListedOpen.{passes-here, place_of, read_turn}
-use Rattle.md_containers.proofs.ListedBlockSteps.{between-passes, apart-end, other-apart}
+use Rattle.md_containers.proofs.ListedBlockSteps.{apart-end, other-apart}
+use Rattle.md_containers.proofs.ListedMarkers.{marker-begins, marker-here, marker-in_leaf, marker-in_text}
+use Rattle.md_containers.proofs.ListedMarkers.{marker-stays, shape-listed}
 
 -- What tells something of a container.
 
@@ -40,17 +42,6 @@ IsOfHolder AsDigits = Unit {0}
 IsOfHolder AsItemMarker = Unit {0}
 IsOfHolder AsFootnoteLabel = Unit {0}
 IsOfHolder _ = ⊥
-
-pub shape-listed : (f : Shape → Shape) (held : List Bool) (ls : List OpenList) (outer : List OpenContainer) →
-    on_shape f (outer_by held ls outer) ≡ outer_by held ls (on_shape f outer)
-shape-listed f [] ls [] = refl
-shape-listed f [] ls (a ∷ arounds) = refl
-shape-listed f (true ∷ held) [] [] = refl
-shape-listed f (true ∷ held) [] (a ∷ arounds) = refl
-shape-listed f (true ∷ held) (l ∷ ls) [] = refl
-shape-listed f (true ∷ held) (l ∷ ls) (a ∷ arounds) = refl
-shape-listed f (false ∷ held) ls [] = refl
-shape-listed f (false ∷ held) ls (a ∷ arounds) = refl
 
 abbrev pub fields : List OpenContainer → Blocks → Option OpenLeaf → Option Text → Reading
 fields outer here leaf text = record { outer = outer; here = here; leaf = leaf; text = text }
@@ -259,6 +250,9 @@ label-begin bytes (TextRole AsFootnoteLabel) p ls r ahead other next now held ma
     label-between bytes Enter (TextRole AsFootnoteLabel) p ls r ahead other next now held tt known
 label-begin bytes IsPrefix p ls r ahead other next now held may known =
     label-between bytes Enter IsPrefix p ls r ahead other next now held tt known
+label-begin bytes IsQuoteMarker p ls r ahead other next now held may known =
+    marker-begins bytes p ls r ahead next held InLabel (λ outer h. h) known.agree known.lists
+    (marker-here bytes p r ∙ known.inner)
 label-begin bytes IsEnding p ls r ahead other next now held may known =
     label-between bytes Enter IsEnding p ls r ahead other next now held tt known
 label-begin bytes IsQuiet p ls r ahead other next now held may known =
@@ -275,6 +269,8 @@ label-end bytes (TextRole AsFootnoteLabel) p ls r ahead other next now held may 
     (label-known bytes p ls r.outer r.here r.leaf r.text ahead next held known.agree known.lists known.inner)
 label-end bytes IsPrefix p ls r ahead other next now held may known =
     label-between bytes Exit IsPrefix p ls r ahead other next now held tt known
+label-end bytes IsQuoteMarker p ls r ahead other next now held may known =
+    label-between bytes Exit IsQuoteMarker p ls r ahead other next now held tt known
 label-end bytes IsEnding p ls r ahead other next now held may known =
     label-between bytes Exit IsEnding p ls r ahead other next now held tt known
 label-end bytes IsQuiet p ls r ahead other next now held may known =
@@ -283,13 +279,11 @@ label-end bytes _ p ls r ahead other next now held may known = absurd may
 
 -- In a leaf block.
 
-pub part-passes : (kind : Kind) (x : Role) → IsPart x → Passes kind x
-part-passes Enter (ContainerRole shape) h = absurd h
-part-passes Enter _ h = tt
-part-passes Exit (ContainerRole shape) h = absurd h
-part-passes Exit (LeafRole kind) h = absurd h
-part-passes Exit (TextRole purpose) h = h
-part-passes Exit _ h = tt
+part-passes : (x : Role) → IsPart x → Passes Exit x
+part-passes (ContainerRole shape) h = absurd h
+part-passes (LeafRole kind) h = absurd h
+part-passes (TextRole purpose) h = h
+part-passes _ h = tt
 
 -- whether a leaf block is open
 abbrev pub HasLeaf : Reading → Type 0
@@ -327,6 +321,8 @@ part-leaf bytes Exit IsRow p h r leaf = leaf
 part-leaf bytes Exit IsCell p h r leaf = leaf
 part-leaf bytes Enter IsPrefix p h r leaf = leaf
 part-leaf bytes Exit IsPrefix p h r leaf = leaf
+part-leaf bytes Enter IsQuoteMarker p h r leaf = subst HasLeaf (sym (marker-in_leaf bytes p r leaf.0 leaf.1)) leaf
+part-leaf bytes Exit IsQuoteMarker p h r leaf = leaf
 part-leaf bytes Enter IsEnding p h r leaf = leaf
 part-leaf bytes Exit IsEnding p h r leaf = ending-leaf bytes p r.text r leaf
 part-leaf bytes Enter IsQuiet p h r leaf = leaf
@@ -335,11 +331,11 @@ part-leaf bytes Enter _ p h r leaf = changed-leaf _ r leaf
 part-leaf bytes Exit _ p h r leaf = changed-leaf _ r leaf
 
 pub leaf-part : (bytes : List ℕ) (kind : Kind) (x : Role) (p : Point) (ls : List OpenList) (r : Reading)
-    (ahead other : ℕ) (next now : Option ℕ) (held : List Bool) → IsPart x →
+    (ahead other : ℕ) (next now : Option ℕ) (held : List Bool) → IsPart x → Passes kind x →
     Known bytes (record { held = held; inner = InLeaf }) None ls r other now →
     Stepped bytes kind x p None ls r ahead next held (record { held = held; inner = InLeaf })
-leaf-part bytes kind x p ls r ahead other next now held h known =
-    passed bytes kind x p None ls r ahead next held InLeaf (part-passes kind x h) known.agree known.lists
+leaf-part bytes kind x p ls r ahead other next now held h passes known =
+    passed bytes kind x p None ls r ahead next held InLeaf passes known.agree known.lists
     (part-leaf bytes kind x p h r known.inner)
 
 pub leaf-begin : (bytes : List ℕ) (x : Role) (p : Point) (ls : List OpenList) (r : Reading) (ahead other : ℕ)
@@ -348,8 +344,11 @@ pub leaf-begin : (bytes : List ℕ) (x : Role) (p : Point) (ls : List OpenList) 
     Stepped bytes Enter x p None ls r ahead next held
     (site_after (record { held = held; inner = InLeaf }) Enter x p)
 leaf-begin bytes (ContainerRole shape) p ls r ahead other next now held may known = absurd may
+leaf-begin bytes IsQuoteMarker p ls r ahead other next now held may known =
+    marker-stays bytes p ls r ahead next held InLeaf (marker-in_leaf bytes p r known.inner.0 known.inner.1)
+    (record { agree = known.agree; lists = known.lists; inner = known.inner })
 leaf-begin bytes x p ls r ahead other next now held may known =
-    leaf-part bytes Enter x p ls r ahead other next now held may known
+    leaf-part bytes Enter x p ls r ahead other next now held may tt known
 
 pub leaf-other : (leaf : OpenLeaf) → IsOther (block_of leaf)
 leaf-other BreakLeaf = tt
@@ -405,7 +404,7 @@ leaf-end bytes (LeafRole kind) p ls r ahead other next now held may known =
     (leaf-other known.inner.0) (leaf-grouped known.inner.0) known.agree known.lists
     (λ outer here. ap (λ (l : Option OpenLeaf). finished l (moved r outer here)) known.inner.1)
 leaf-end bytes x p ls r ahead other next now held may known =
-    leaf-part bytes Exit x p ls r ahead other next now held may known
+    leaf-part bytes Exit x p ls r ahead other next now held may (part-passes x may) known
 
 -- In a text that is a block of its own.
 
@@ -422,6 +421,8 @@ pub between-text : (bytes : List ℕ) (kind : Kind) (x : Role) (p : Point) → I
 between-text bytes Enter IsPrefix p h r text =
     (before_prefix bytes p text.0, ap (option_map (before_prefix bytes p)) text.1)
 between-text bytes Exit IsPrefix p h r text = (after_prefix p text.0, ap (option_map (after_prefix p)) text.1)
+between-text bytes Enter IsQuoteMarker p h r text = subst HasText (sym (marker-in_text bytes p r text.0 text.1)) text
+between-text bytes Exit IsQuoteMarker p h r text = text
 between-text bytes Enter IsEnding p h r text = text
 between-text bytes Exit IsEnding p h r text = ending-text bytes p r.text r refl text
 between-text bytes Enter IsQuiet p h r text = text
@@ -429,11 +430,11 @@ between-text bytes Exit IsQuiet p h r text = text
 between-text bytes kind _ p h r text = absurd h
 
 pub text-between : (bytes : List ℕ) (kind : Kind) (x : Role) (p : Point) (ls : List OpenList) (r : Reading)
-    (ahead other : ℕ) (next now : Option ℕ) (held : List Bool) → IsBetween x →
+    (ahead other : ℕ) (next now : Option ℕ) (held : List Bool) → IsBetween x → Passes kind x →
     Known bytes (record { held = held; inner = InText }) None ls r other now →
     Stepped bytes kind x p None ls r ahead next held (record { held = held; inner = InText })
-text-between bytes kind x p ls r ahead other next now held h known =
-    passed bytes kind x p None ls r ahead next held InText (between-passes kind x h) known.agree known.lists
+text-between bytes kind x p ls r ahead other next now held h passes known =
+    passed bytes kind x p None ls r ahead next held InText passes known.agree known.lists
     (between-text bytes kind x p h r known.inner)
 
 pub text-begin : (bytes : List ℕ) (x : Role) (p : Point) (ls : List OpenList) (r : Reading) (ahead other : ℕ)
@@ -442,11 +443,14 @@ pub text-begin : (bytes : List ℕ) (x : Role) (p : Point) (ls : List OpenList) 
     Stepped bytes Enter x p None ls r ahead next held
     (site_after (record { held = held; inner = InText }) Enter x p)
 text-begin bytes IsPrefix p ls r ahead other next now held may known =
-    text-between bytes Enter IsPrefix p ls r ahead other next now held tt known
+    text-between bytes Enter IsPrefix p ls r ahead other next now held tt tt known
+text-begin bytes IsQuoteMarker p ls r ahead other next now held may known =
+    marker-stays bytes p ls r ahead next held InText (marker-in_text bytes p r known.inner.0 known.inner.1)
+    (record { agree = known.agree; lists = known.lists; inner = known.inner })
 text-begin bytes IsEnding p ls r ahead other next now held may known =
-    text-between bytes Enter IsEnding p ls r ahead other next now held tt known
+    text-between bytes Enter IsEnding p ls r ahead other next now held tt tt known
 text-begin bytes IsQuiet p ls r ahead other next now held may known =
-    text-between bytes Enter IsQuiet p ls r ahead other next now held tt known
+    text-between bytes Enter IsQuiet p ls r ahead other next now held tt tt known
 text-begin bytes _ p ls r ahead other next now held may known = absurd may
 
 pub text-end : (bytes : List ℕ) (x : Role) (p : Point) (ls : List OpenList) (r : Reading) (ahead other : ℕ)
@@ -463,9 +467,11 @@ text-end bytes (TextRole purpose) p ls r ahead other next now held may known =
     (record { spaces = known.inner.0.spaces; text = text_to bytes p.index known.inner.0 })
     (record (moved r outer here) { text = None }))
 text-end bytes IsPrefix p ls r ahead other next now held may known =
-    text-between bytes Exit IsPrefix p ls r ahead other next now held tt known
+    text-between bytes Exit IsPrefix p ls r ahead other next now held tt tt known
+text-end bytes IsQuoteMarker p ls r ahead other next now held may known =
+    text-between bytes Exit IsQuoteMarker p ls r ahead other next now held tt tt known
 text-end bytes IsEnding p ls r ahead other next now held may known =
-    text-between bytes Exit IsEnding p ls r ahead other next now held tt known
+    text-between bytes Exit IsEnding p ls r ahead other next now held tt tt known
 text-end bytes IsQuiet p ls r ahead other next now held may known =
-    text-between bytes Exit IsQuiet p ls r ahead other next now held tt known
+    text-between bytes Exit IsQuiet p ls r ahead other next now held tt tt known
 text-end bytes _ p ls r ahead other next now held may known = absurd may

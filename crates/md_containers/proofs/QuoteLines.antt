@@ -1,7 +1,6 @@
 -- What the prefix of a quote takes of a line is what the definition of lines takes.
-use Rattle.std.proofs.Common.{◌≡◌, ℕ, zero, suc, ◌+◌, ◌^◌, ◌<◌, ◌≤◌, Bool, true, false, cond, List, [], ◌∷◌}
-use Rattle.std.proofs.Common.{◌++◌, length, drop, slice_range, Option, Some, None, refl, sym, ap, ◌∙◌, subst, arith}
-use Rattle.std.proofs.Common.{append_assoc}
+use Rattle.std.proofs.Common.{◌≡◌, ℕ, zero, suc, ◌+◌, ◌^◌, ◌<◌, ◌≤◌, Bool, true, false, cond, List, [], ◌∷◌, ◌++◌}
+use Rattle.std.proofs.Common.{length, drop, slice_range, Option, Some, None, refl, sym, ap, ◌∙◌, subst, arith}
 use Rattle.std.specs.Prelude.{IsTrue, ◌==◌, slice_get}
 use Rattle.std.proofs.lemmas.Bool.{eqb-true}
 use Rattle.std.proofs.lemmas.Bool.Decides.{nat_tests}
@@ -14,6 +13,7 @@ use Rattle.md_engine.specs.declared.tokenizer.Line.{Line}
 use Rattle.md_engine.specs.Meaning.{Cell}
 use Rattle.md_containers.specs.QuoteRule.{behind_end, behind_events, behind_rest, has_marker, marker_end, marker_events}
 use Rattle.md_containers.specs.QuoteRule.{marker_rest, prefix_end, prefix_events, prefix_rest, takes_prefix}
+use Rattle.md_meaning.specs.declared.alert.AlertKind.{AlertKind}
 use Rattle.md_seam.specs.Ahead.{begins_white, white_end, white_rest}
 use Rattle.md_meaning.specs.Containers.{Taken, quote_taken}
 use Rattle.md_seam.specs.Events.Inline.{pair_unless_empty}
@@ -24,13 +24,12 @@ use Rattle.md_meaning.specs.Rest.{Rest, behind, behind_indent, has_small_indent,
 use Rattle.md_seam.specs.Spaces.{small_indent}
 use Rattle.md_meaning.specs.State.{InQuote}
 use Rattle.md_seam.proofs.AheadLemmas.{none-end}
-use Rattle.md_seam.proofs.FeedLines.{Stops, byte-one, cell, past-next}
-use Rattle.md_seam.proofs.FeedLines.{spread}
+use Rattle.md_seam.proofs.FeedLines.{Stops, byte-one, cell, past-next, spread}
 use Rattle.md_seam.proofs.InlineLemmas.{same-refl}
 use Rattle.md_seam.proofs.LostColumns.{Step, White, column-step, step-append, white-none}
-use Rattle.md_seam.proofs.RestCells.{Bare, RestAt, bare, bare-cells, bare-same, behind-no_ending, cells_by}
-use Rattle.md_seam.proofs.RestCells.{column-end, column-first, indent-length, indent-over, indent-taken, lose-no_ending}
-use Rattle.md_seam.proofs.RestCells.{past_cut, past_rest, rest_cells, white-length, without_first}
+use Rattle.md_seam.proofs.RestCells.{Bare, RestAt, bare, bare-cells, bare-same, behind-no_ending, cells_by, column-end}
+use Rattle.md_seam.proofs.RestCells.{column-first, indent-length, indent-over, indent-taken, lose-no_ending, past_cut}
+use Rattle.md_seam.proofs.RestCells.{past_rest, rest_cells, white-length, without_first}
 use Rattle.md_seam.proofs.RestLines.{large-room, small-room}
 use Rattle.md_meaning.proofs.TextsLemmas.{NoEnding}
 
@@ -121,13 +120,12 @@ record HasBehind (line : Line) (text past : List ℕ) (end : Point) (stop cells 
   fed : behind_rest cells ≡ rest_cells line left (behind_end cells p) ++ stop
   stands : RestAt text past left (behind_end cells p)
   ends : past_rest left (behind_end cells p) ≡ end
-  events : behind_events cells p ≡
-      pair_unless_empty n.SpaceOrTab p (behind_end cells p) ++ exit n.BlockQuotePrefix (behind_end cells p) ∷ []
+  events : behind_events cells p ≡ pair_unless_empty n.SpaceOrTab p (behind_end cells p)
   white : White text p (behind_end cells p)
   shorter : length (behind_rest cells) ≤ length cells
 
 behind-none : (cells : List Cell) (p : Point) → begins_white cells ≡ false →
-    (behind_rest cells ≡ cells) × (behind_end cells p ≡ p) × (behind_events cells p ≡ exit n.BlockQuotePrefix p ∷ [])
+    (behind_rest cells ≡ cells) × (behind_end cells p ≡ p) × (behind_events cells p ≡ [])
 behind-none [] p e = (refl, refl, refl)
 behind-none (c ∷ cs) p e = (rw e refl, rw e refl, rw e refl)
 
@@ -147,9 +145,8 @@ behind-one line text past r stop p is k = go (indent r) refl
           stands = subst (RestAt text past r) end is;
           ends = ap (past_rest r) none.1;
           events = none.2
-              ∙ sym
-              (ap (λ (t : Bool). cond t [] (pair n.SpaceOrTab p p) ++ exit n.BlockQuotePrefix p ∷ []) (same-refl p))
-              ∙ ap (λ (q : Point). pair_unless_empty n.SpaceOrTab p q ++ exit n.BlockQuotePrefix q ∷ []) end;
+              ∙ sym (ap (λ (t : Bool). cond t [] (pair n.SpaceOrTab p p)) (same-refl p))
+              ∙ ap (pair_unless_empty n.SpaceOrTab p) end;
           white = subst (White text p) end (white-none text p);
           shorter = let same = ap length none.0 in omega arith;
         })
@@ -168,15 +165,9 @@ behind-one line text past r stop p is k = go (indent r) refl
           stands = subst (RestAt text past (without_first r)) end first.stands;
           ends = ap (past_rest (without_first r)) (sym end) ∙ column-end line text past r p is first;
           events = ap (λ (l : List Cell). behind_events l p) same
-              ∙ ap
-              (λ (t : Bool).
-              cond t (pair n.SpaceOrTab p first.at ++ exit n.BlockQuotePrefix first.at ∷ [])
-              (exit n.BlockQuotePrefix p ∷ [])) first.white
-              ∙ sym
-              (ap
-              (λ (t : Bool).
-              cond t [] (pair n.SpaceOrTab p first.at) ++ exit n.BlockQuotePrefix first.at ∷ []) step.apart)
-              ∙ ap (λ (q : Point). pair_unless_empty n.SpaceOrTab p q ++ exit n.BlockQuotePrefix q ∷ []) end;
+              ∙ ap (λ (t : Bool). cond t (pair n.SpaceOrTab p first.at) []) first.white
+              ∙ sym (ap (λ (t : Bool). cond t [] (pair n.SpaceOrTab p first.at)) step.apart)
+              ∙ ap (pair_unless_empty n.SpaceOrTab p) end;
           white = subst (White text p) end step.white;
           shorter = let a = ap length further in let b = ap length same in omega arith;
         }
@@ -192,7 +183,7 @@ record HasMarker (line : Line) (text past : List ℕ) (end : Point) (stop cells 
   behind : Point
   events : marker_events cells p ≡
       enter n.BlockQuotePrefix p ∷ enter n.BlockQuoteMarker p ∷ exit n.BlockQuoteMarker behind
-      ∷ pair_unless_empty n.SpaceOrTab behind (marker_end cells p) ++ exit n.BlockQuotePrefix (marker_end cells p) ∷ []
+      ∷ pair_unless_empty n.SpaceOrTab behind (marker_end cells p)
   next : behind.index ≡ suc p.index
   same_line : behind.line ≡ p.line
   byte : slice_get text p.index ≡ Some 62
@@ -218,18 +209,19 @@ stop-marker [] k = refl
 stop-marker (c ∷ cs) k = ap (λ (b : ℕ). b == 62) (eqb-true c.byte 10 k)
 
 -- where no indent is left
-abbrev taken_at : Rest → Option Taken
-taken_at r = cond (begins_with 62 r.bytes) (Some (record { container = InQuote; rest = lose 1 (behind 1 r) })) None
+abbrev taken_at : Option AlertKind → Rest → Option Taken
+taken_at kind r =
+    cond (begins_with 62 r.bytes) (Some (record { container = InQuote kind; rest = lose 1 (behind 1 r) })) None
 
-marker-is : (line : Line) (text past : List ℕ) (r : Rest) (stop : List Cell) (p : Point) → RestAt text past r p →
-    indent r ≡ 0 → Stops stop →
-    MarkerIs line text past (past_rest r p) stop (rest_cells line r p ++ stop) p (taken_at r)
-marker-is line text past r stop p is e k = go r.spaces r.bytes is (bare r e)
+marker-is : (kind : Option AlertKind) (line : Line) (text past : List ℕ) (r : Rest) (stop : List Cell) (p : Point) →
+    RestAt text past r p → indent r ≡ 0 → Stops stop →
+    MarkerIs line text past (past_rest r p) stop (rest_cells line r p ++ stop) p (taken_at kind r)
+marker-is kind line text past r stop p is e k = go r.spaces r.bytes is (bare r e)
   where
     Done : ℕ → List ℕ → Type 0
     Done spaces bytes =
         MarkerIs line text past (past_text bytes (past_cut spaces p)) stop (cells_by line spaces bytes p ++ stop) p
-        (taken_at (rest r.column spaces bytes))
+        (taken_at kind (rest r.column spaces bytes))
 
     go : (spaces : ℕ) (bytes : List ℕ) → RestAt text past (rest r.column spaces bytes) p → Bare spaces bytes →
         Done spaces bytes
@@ -304,21 +296,22 @@ PrefixIs options line text past end stop cells p (Some taken) =
 PrefixIs options line text past end stop cells p None = takes_prefix options cells ≡ false
 
 -- the definition takes what stands behind the indent, if that is small
-taken-small : (options : ParseOptions) (r : Rest) → has_small_indent options r ≡ true →
-    quote_taken options r ≡ taken_at (behind_indent r)
+taken-small : (options : ParseOptions) (kind : Option AlertKind) (r : Rest) → has_small_indent options r ≡ true →
+    quote_taken options kind r ≡ taken_at kind (behind_indent r)
 unfolding quote_taken
-taken-small options r e = rw e refl
+taken-small options kind r e = rw e refl
 
-taken-large : (options : ParseOptions) (r : Rest) → has_small_indent options r ≡ false → quote_taken options r ≡ None
+taken-large : (options : ParseOptions) (kind : Option AlertKind) (r : Rest) → has_small_indent options r ≡ false →
+    quote_taken options kind r ≡ None
 unfolding quote_taken
-taken-large options r e = rw e refl
+taken-large options kind r e = rw e refl
 
 -- a prefix stands on the cells of a line where it does on its bytes
-pub prefix-agrees : (options : ParseOptions) (line : Line) (text past : List ℕ) (r : Rest) (stop : List Cell)
-    (p : Point) →
+pub prefix-agrees : (options : ParseOptions) (kind : Option AlertKind) (line : Line) (text past : List ℕ) (r : Rest)
+    (stop : List Cell) (p : Point) →
     RestAt text past r p → Stops stop → length (rest_cells line r p ++ stop) < 2 ^ 63 →
-    PrefixIs options line text past (past_rest r p) stop (rest_cells line r p ++ stop) p (quote_taken options r)
-prefix-agrees options line text past r stop p is k short = go (has_small_indent options r) refl
+    PrefixIs options line text past (past_rest r p) stop (rest_cells line r p ++ stop) p (quote_taken options kind r)
+prefix-agrees options kind line text past r stop p is k short = go (has_small_indent options r) refl
   where
     room : ℕ
     room = small_indent options
@@ -345,13 +338,9 @@ prefix-agrees options line text past r stop p is k short = go (has_small_indent 
         marker = q;
         behind = m.behind;
         events =
-            ap (λ (es : List Event). es ++ marker_events left q) white.events
-            ∙ ap (λ (es : List Event). pair_unless_empty n.SpaceOrTab p q ++ es) m.events
-            ∙ sym
-            (append_assoc (pair_unless_empty n.SpaceOrTab p q)
-            (enter n.BlockQuotePrefix q ∷ enter n.BlockQuoteMarker q ∷ exit n.BlockQuoteMarker m.behind
-            ∷ pair_unless_empty n.SpaceOrTab m.behind (marker_end left q))
-            (exit n.BlockQuotePrefix (marker_end left q) ∷ []));
+            ap (λ (es : List Event). es ++ exit n.BlockQuotePrefix (marker_end left q) ∷ [])
+            (ap (λ (es : List Event). es ++ marker_events left q) white.events
+            ∙ ap (λ (es : List Event). pair_unless_empty n.SpaceOrTab p q ++ es) m.events);
         indent = white.white.onward;
         past = m.next;
         column = m.white.onward;
@@ -368,7 +357,7 @@ prefix-agrees options line text past r stop p is k short = go (has_small_indent 
     Done : Option Taken → Type 0
     Done taken = PrefixIs options line text past (past_rest r p) stop cells p taken
 
-    go : (t : Bool) → has_small_indent options r ≡ t → Done (quote_taken options r)
+    go : (t : Bool) → has_small_indent options r ≡ t → Done (quote_taken options kind r)
     go true e =
         let size : length cells ≡
         length (rest_cells line r p) + length stop = length-append (rest_cells line r p) stop in
@@ -376,47 +365,47 @@ prefix-agrees options line text past r stop p is k short = go (has_small_indent 
         (let most = indent-length line text past r p is in omega arith) short in
         let taken = indent-taken line text past room r p stop is k fits in
         let white = white-walk line text past (indent r) room r p stop is k refl fits in
-        let marker : MarkerIs line text past (past_rest r p) stop left q (taken_at (behind_indent r)) =
-        subst (λ (l : List Cell). MarkerIs line text past (past_rest r p) stop l q (taken_at (behind_indent r)))
+        let marker : MarkerIs line text past (past_rest r p) stop left q (taken_at kind (behind_indent r)) =
+        subst (λ (l : List Cell). MarkerIs line text past (past_rest r p) stop l q (taken_at kind (behind_indent r)))
         (sym taken.cells)
         (subst
         (λ (end : Point).
         MarkerIs line text past end stop (rest_cells line (behind_indent r) q ++ stop) q
-        (taken_at (behind_indent r))) taken.ends
-        (marker-is line text past (behind_indent r) stop q taken.stands taken.none k)) in
-        subst Done (sym (taken-small options r e)) (whole (taken_at (behind_indent r)) white marker)
+        (taken_at kind (behind_indent r))) taken.ends
+        (marker-is kind line text past (behind_indent r) stop q taken.stands taken.none k)) in
+        subst Done (sym (taken-small options kind r e)) (whole (taken_at kind (behind_indent r)) white marker)
     go false e =
-        subst Done (sym (taken-large options r e))
+        subst Done (sym (taken-large options kind r e))
         (marker-white left (indent-over line text past room r p stop is (large-room options r e)))
 
 -- What is left.
 
-taken-left : (P : Taken → Type 0) (options : ParseOptions) (r : Rest) (taken : Taken) →
-    P (record { container = InQuote; rest = lose 1 (behind 1 (behind_indent r)) }) →
-    quote_taken options r ≡ Some taken → P taken
-taken-left P options r taken h e = subst Of e (small (has_small_indent options r) refl)
+pub taken-left : (P : Taken → Type 0) (options : ParseOptions) (kind : Option AlertKind) (r : Rest) (taken : Taken) →
+    P (record { container = InQuote kind; rest = lose 1 (behind 1 (behind_indent r)) }) →
+    quote_taken options kind r ≡ Some taken → P taken
+taken-left P options kind r taken h e = subst Of e (small (has_small_indent options r) refl)
   where
     Of : Option Taken → Type 0
     Of None = Unit {0}
     Of (Some t) = P t
 
     marked : (t : Bool) →
-        Of (cond t (Some (record { container = InQuote; rest = lose 1 (behind 1 (behind_indent r)) })) None)
+        Of (cond t (Some (record { container = InQuote kind; rest = lose 1 (behind 1 (behind_indent r)) })) None)
     marked true = h
     marked false = tt
 
-    small : (t : Bool) → has_small_indent options r ≡ t → Of (quote_taken options r)
-    small true f = subst Of (sym (taken-small options r f)) (marked (begins_with 62 (behind_indent r).bytes))
-    small false f = subst Of (sym (taken-large options r f)) tt
+    small : (t : Bool) → has_small_indent options r ≡ t → Of (quote_taken options kind r)
+    small true f = subst Of (sym (taken-small options kind r f)) (marked (begins_with 62 (behind_indent r).bytes))
+    small false f = subst Of (sym (taken-large options kind r f)) tt
 
-pub quote-container : (options : ParseOptions) (r : Rest) (taken : Taken) → quote_taken options r ≡ Some taken →
-    taken.container ≡ InQuote
-quote-container options r taken e = taken-left (λ t. t.container ≡ InQuote) options r taken refl e
+pub quote-container : (options : ParseOptions) (kind : Option AlertKind) (r : Rest) (taken : Taken) →
+    quote_taken options kind r ≡ Some taken → taken.container ≡ InQuote kind
+quote-container options kind r taken e = taken-left (λ t. t.container ≡ InQuote kind) options kind r taken refl e
 
 -- a line without an ending is left without one
-pub quote-no_ending : (options : ParseOptions) (r : Rest) (taken : Taken) → NoEnding r.bytes →
-    quote_taken options r ≡ Some taken → NoEnding taken.rest.bytes
-quote-no_ending options r taken h e =
+pub quote-no_ending : (options : ParseOptions) (kind : Option AlertKind) (r : Rest) (taken : Taken) → NoEnding r.bytes →
+    quote_taken options kind r ≡ Some taken → NoEnding taken.rest.bytes
+quote-no_ending options kind r taken h e =
     let marker = behind_indent r in
-    taken-left (λ t. NoEnding t.rest.bytes) options r taken
+    taken-left (λ t. NoEnding t.rest.bytes) options kind r taken
     (lose-no_ending 1 (behind 1 marker) (behind-no_ending 1 marker (lose-no_ending (indent r) r h))) e

@@ -9,7 +9,7 @@ use Rattle.md_engine.specs.declared.event.Kind.TheVariants.{Enter, Exit}
 use Rattle.md_engine.specs.declared.event.Point.{Point}
 use Rattle.md_meaning.specs.Containers.{is_bullet}
 use Rattle.md_seam.specs.Events.Spelled.{AsDigits, AsFootnoteLabel, AsItemMarker, FootnoteShape, ContainerRole}
-use Rattle.md_seam.specs.Events.Spelled.{IsEnding, IsPrefix, IsQuiet, ItemShape, LeafRole, OrderedShape}
+use Rattle.md_seam.specs.Events.Spelled.{IsEnding, IsPrefix, IsQuiet, IsQuoteMarker, ItemShape, LeafRole, OrderedShape}
 use Rattle.md_seam.specs.Events.Spelled.{Purpose, Role, Shape, TextRole, UnorderedShape, is_ordered, role}
 use Rattle.md_seam.specs.Events.Told.{OfItself, OfLeaf, Told, told_of}
 
@@ -48,6 +48,7 @@ is_item_shape _ = false
 -- what may stand wherever nothing else is read
 abbrev pub IsBetween : Role → Type 0
 IsBetween IsPrefix = Unit {0}
+IsBetween IsQuoteMarker = Unit {0}
 IsBetween IsEnding = Unit {0}
 IsBetween IsQuiet = Unit {0}
 IsBetween _ = ⊥
