@@ -6,13 +6,14 @@ use Rattle.md_engine.specs.declared.event.Event.{Event}
 use Rattle.md_engine.specs.declared.event.Kind.{Kind}
 use Rattle.md_engine.specs.declared.event.Kind.TheVariants.{Enter, Exit}
 use Rattle.md_engine.specs.declared.event.Point.{Point}
-use Rattle.md_seam.specs.Events.Spelled.{OpenContainer, ContainerRole, IsEnding, OpenLeaf, LeafRole, Purpose, Reading, Role, Shape, TextRole}
+use Rattle.md_seam.specs.Events.Spelled.{OpenContainer, ContainerRole, IsEnding, IsQuoteMarker, OpenLeaf, LeafRole}
+use Rattle.md_seam.specs.Events.Spelled.{Purpose, Reading, Role, Shape, TextRole}
 use Rattle.md_seam.specs.Events.Spelled.{Text, block_around, block_of, finished, left, on_shape, read, read_by, role}
-use Rattle.md_seam.specs.Events.Spelled.{told_at}
+use Rattle.md_seam.specs.Events.Spelled.{told_at, with_kind}
 use Rattle.md_seam.specs.Events.Throughout.{all_blocks}
 use Rattle.md_meaning.specs.Tree.{Block}
 use Rattle.md_seam.proofs.ThroughoutLemmas.{all-inside, all-then}
-use Rattle.md_outline.proofs.RoleLemmas.{by-ending, by-told_at}
+use Rattle.md_outline.proofs.RoleLemmas.{by-ending, by-marker, by-told_at}
 
 abbrev pub outer_hold : (Block → Bool) → List OpenContainer → Bool
 outer_hold p [] = true
@@ -59,6 +60,9 @@ stay-step p bytes Exit (LeafRole kind) at r d = stay-finished p r.leaf r d
 stay-step p bytes Exit (TextRole x) at r d = stay-told p bytes x at r.text r d
 stay-step p bytes Exit IsEnding at r d =
     by-ending (λ now. AllHold p now → AllHold p r) bytes at r.text r (λ d. d) (λ d. d) d
+stay-step p bytes Enter IsQuoteMarker at r d =
+    by-marker (λ now. AllHold p now → AllHold p r) bytes at r (λ d. d)
+    (λ kind d. (d.0, sym (outer-named p (with_kind kind) r.outer) ∙ d.1)) d
 stay-step p bytes Enter _ at r d = d
 stay-step p bytes Exit _ at r d = d
 

@@ -5,12 +5,12 @@ use Rattle.std.specs.Prelude.{◌==◌, if◌then◌else◌}
 use Rattle.std.proofs.lemmas.Bool.{true≢false}
 use Rattle.md_meaning.specs.declared.outline.Word.TheVariants as word
 use Rattle.md_meaning.specs.Containers.{is_bullet}
-use Rattle.md_meaning.specs.Outline.{Entry, block_entries, entry, entry_with, outline}
+use Rattle.md_meaning.specs.Outline.{Entry, block_entries, entry, entry_with, outline, quote_word}
 use Rattle.md_meaning.specs.State.{then_block}
 use Rattle.md_meaning.specs.Texts.{first_byte}
 use Rattle.md_meaning.specs.Tree.{Block, Blocks, End, Item, More}
 use Rattle.md_seam.specs.Events.Spelled.{OpenContainer, AsDigits, AsItemMarker, FootnoteShape, ItemShape, OrderedShape}
-use Rattle.md_seam.specs.Events.Spelled.{Shape, UnorderedShape, block_around, is_ordered, list_marker}
+use Rattle.md_seam.specs.Events.Spelled.{QuoteShape, Shape, UnorderedShape, block_around, is_ordered, list_marker}
 use Rattle.md_seam.specs.Events.Spelled.{named, on_shape}
 
 -- how many containers are open
@@ -55,7 +55,7 @@ HaveWords (around ∷ outer) here =
     HasWord around.shape here × HaveWords outer (then_block around.before (block_around around.shape here))
 
 -- the innermost container, if it is a list, is shown with the same marker
-abbrev SameWord : List OpenContainer → Blocks → Blocks → Type 0
+abbrev pub SameWord : List OpenContainer → Blocks → Blocks → Type 0
 SameWord [] xs ys = Unit {0}
 SameWord (around ∷ outer) xs ys = list_word around.shape ys ≡ list_word around.shape xs
 
@@ -73,7 +73,7 @@ first-told f End a b e = e
 first-told f (More (Item m d x) bs) a b e = refl
 first-told f (More _ bs) a b e = refl
 
-first-word : (shape : Shape) (before : Blocks) (a b : Block) →
+pub first-word : (shape : Shape) (before : Blocks) (a b : Block) →
     ((f : ℕ → Bool) → list_marker f (More b End) ≡ list_marker f (More a End)) →
     list_word shape (then_block before b) ≡ list_word shape (then_block before a)
 first-word OrderedShape before a b e = first-told is_ordered before a b (e is_ordered)
@@ -126,37 +126,72 @@ words-then outer here b h = words-stay outer here (then_block here b) (then-same
 
 -- Lines.
 
--- a line in front of others
-in-front : (x : Entry) (xs ys zs : List Entry) → xs ≡ ys ++ zs → x ∷ xs ≡ (x ∷ ys) ++ zs
-in-front x xs ys zs h = ap (λ l. x ∷ l) h
+-- those with which a container begins, which is shown with this marker if it is a list
+abbrev pub opening : ℕ → Shape → ℕ → List Entry
+opening depth (QuoteShape kind) marker = entry depth (quote_word kind) ∷ []
+opening depth OrderedShape marker = entry depth (word.List marker) ∷ []
+opening depth UnorderedShape marker = entry depth (word.List marker) ∷ []
+opening depth (ItemShape m d) marker = entry depth word.Item ∷ []
+opening depth (FootnoteShape label) marker =
+    entry depth word.Footnote ∷ entry_with (depth + 1) word.Label label ∷ []
 
--- lines that are added to the innermost blocks are added to all
-inside-lines : (depth : ℕ) (shape : Shape) (xs ys : Blocks) (es : List Entry) →
-    list_word shape ys ≡ list_word shape xs → outline (depth + 1) ys ≡ outline (depth + 1) xs ++ es →
-    block_entries depth (block_around shape ys) ≡ block_entries depth (block_around shape xs) ++ es
-inside-lines depth OrderedShape xs ys es e h =
-    ap (λ m. entry depth (word.List m) ∷ outline (depth + 1) ys) e
-    ∙ ap (λ l. entry depth (word.List (list_marker is_ordered xs)) ∷ l) h
-inside-lines depth UnorderedShape xs ys es e h =
-    ap (λ m. entry depth (word.List m) ∷ outline (depth + 1) ys) e
-    ∙ ap (λ l. entry depth (word.List (list_marker is_bullet xs)) ∷ l) h
-inside-lines depth (FootnoteShape label) xs ys es e h =
-    ap (λ l. entry depth word.Footnote ∷ entry_with (depth + 1) word.Label label ∷ l) h
-inside-lines depth _ xs ys es e h = in-front _ (outline (depth + 1) ys) (outline (depth + 1) xs) es h
+opening-shown : (depth : ℕ) (shape : Shape) (here : Blocks) →
+    block_entries depth (block_around shape here)
+    ≡ opening depth shape (list_word shape here) ++ outline (depth + 1) here
+opening-shown depth (QuoteShape kind) here = refl
+opening-shown depth OrderedShape here = refl
+opening-shown depth UnorderedShape here = refl
+opening-shown depth (ItemShape m d) here = refl
+opening-shown depth (FootnoteShape label) here = refl
 
+-- those in front of the innermost blocks
+abbrev pub fronts : List OpenContainer → Blocks → List Entry
+fronts [] here = []
+fronts (around ∷ outer) here =
+    (fronts outer (then_block around.before (block_around around.shape here)) ++ outline (depth_of outer) around.before)
+    ++ opening (depth_of outer) around.shape (list_word around.shape here)
+
+pub shown-fronts : (outer : List OpenContainer) (here : Blocks) →
+    shown outer here ≡ fronts outer here ++ outline (depth_of outer) here
+shown-fronts [] here = refl
+shown-fronts (around ∷ outer) here =
+    let depth : ℕ = depth_of outer in
+    let block : Block = block_around around.shape here in
+    let before : List Entry = outline depth around.before in
+    let front : List Entry = fronts outer (then_block around.before block) in
+    let begin : List Entry = opening depth around.shape (list_word around.shape here) in
+    shown-fronts outer (then_block around.before block)
+    ∙ ap (λ l. front ++ l) (outline-then depth around.before block)
+    ∙ sym (append_assoc front before (block_entries depth block))
+    ∙ ap (λ l. (front ++ before) ++ l) (opening-shown depth around.shape here)
+    ∙ sym (append_assoc (front ++ before) begin (outline (depth + 1) here))
+
+-- they are the same where the innermost container is shown with the same marker
+pub fronts-same : (outer : List OpenContainer) (xs ys : Blocks) → SameWord outer xs ys →
+    fronts outer ys ≡ fronts outer xs
+fronts-same [] xs ys e = refl
+fronts-same (around ∷ outer) xs ys e =
+    let before : List Entry = outline (depth_of outer) around.before in
+    ap (λ l. (l ++ before) ++ opening (depth_of outer) around.shape (list_word around.shape ys))
+    (fronts-same outer (then_block around.before (block_around around.shape xs))
+    (then_block around.before (block_around around.shape ys)) (around-word outer around xs ys))
+    ∙ ap
+    (λ m.
+    (fronts outer (then_block around.before (block_around around.shape xs)) ++ before)
+    ++ opening (depth_of outer) around.shape m)
+    e
+
+-- so lines that are added to the innermost blocks are added to all
 grown : (outer : List OpenContainer) (xs ys : Blocks) (es : List Entry) → SameWord outer xs ys →
     outline (depth_of outer) ys ≡ outline (depth_of outer) xs ++ es →
     shown outer ys ≡ shown outer xs ++ es
-grown [] xs ys es e h = h
-grown (around ∷ outer) xs ys es e h =
-    let before : List Entry = outline (depth_of outer) around.before in
-    let old : Block = block_around around.shape xs in
-    let new : Block = block_around around.shape ys in
-    grown outer (then_block around.before old) (then_block around.before new) es (around-word outer around xs ys)
-    (outline-then (depth_of outer) around.before new
-    ∙ ap (λ l. before ++ l) (inside-lines (depth_of outer) around.shape xs ys es e h)
-    ∙ sym (append_assoc before (block_entries (depth_of outer) old) es)
-    ∙ ap (λ l. l ++ es) (sym (outline-then (depth_of outer) around.before old)))
+grown outer xs ys es e h =
+    let depth : ℕ = depth_of outer in
+    shown-fronts outer ys
+    ∙ ap (λ l. l ++ outline depth ys) (fronts-same outer xs ys e)
+    ∙ ap (λ l. fronts outer xs ++ l) h
+    ∙ sym (append_assoc (fronts outer xs) (outline depth xs) es)
+    ∙ ap (λ l. l ++ es) (sym (shown-fronts outer xs))
 
 -- a block more
 pub shown-then : (outer : List OpenContainer) (here : Blocks) (b : Block) → HaveWords outer here →
@@ -215,6 +250,21 @@ renamed f around outer here h e =
     ∙ sym (append-nil (outline (depth_of outer) (then_block around.before old))))
     ∙ append-nil (shown (around ∷ outer) here)
 
+-- lists that have told their markers still have, and as many containers are open
+pub words-renamed : (f : Shape → Shape) (outer : List OpenContainer) (here : Blocks) →
+    ((shape : Shape) → HasWord shape here → HasWord (f shape) here) → KeepsWord f here → HaveWords outer here →
+    HaveWords (on_shape f outer) here
+words-renamed f [] here has k h = h
+words-renamed f (around ∷ outer) here has k h = (
+  has around.shape h.0,
+  words-stay outer (then_block around.before (block_around around.shape here))
+      (then_block around.before (block_around (f around.shape) here)) (named-same f outer around here k h.1) h.1,
+)
+
+pub depth-renamed : (f : Shape → Shape) (outer : List OpenContainer) → depth_of (on_shape f outer) ≡ depth_of outer
+depth-renamed f [] = refl
+depth-renamed f (around ∷ outer) = refl
+
 -- What is told of the innermost container changes nothing that is shown.
 pub record StaysShown (f : Shape → Shape) (outer : List OpenContainer) (here : Blocks) : Type 0 where
   pub lines : shown (on_shape f outer) here ≡ shown outer here
@@ -223,20 +273,18 @@ pub record StaysShown (f : Shape → Shape) (outer : List OpenContainer) (here :
 
 stays-shown : (f : Shape → Shape) (outer : List OpenContainer) (here : Blocks) →
     ((shape : Shape) → ToldItem shape (f shape)) → KeepsWord f here → HaveWords outer here → StaysShown f outer here
-stays-shown f [] here alone k h = record { lines = refl; words = h; depth = refl }
-stays-shown f (around ∷ outer) here alone k h =
-    let same = named-same f outer around here k h.1 in
-    record {
-      lines =
-          renamed f around outer here
-          (λ depth. told-lines depth around.shape (f around.shape) here (alone around.shape)) same;
-      words = (
-        told-word around.shape (f around.shape) here (alone around.shape) h.0,
-        words-stay outer (then_block around.before (block_around around.shape here))
-            (then_block around.before (block_around (f around.shape) here)) same h.1,
-      );
-      depth = refl;
-    }
+stays-shown f outer here alone k h = record {
+  lines = lines outer h;
+  words = words-renamed f outer here (λ shape w. told-word shape (f shape) here (alone shape) w) k h;
+  depth = depth-renamed f outer;
+}
+  where
+    lines : (outer : List OpenContainer) → HaveWords outer here → shown (on_shape f outer) here ≡ shown outer here
+    lines [] h = refl
+    lines (around ∷ outer) h =
+        renamed f around outer here
+        (λ depth. told-lines depth around.shape (f around.shape) here (alone around.shape))
+        (named-same f outer around here k h.1)
 
 -- digits are not shown
 digits-alone : (text : List ℕ) (shape : Shape) → ToldItem shape (named AsDigits text shape)

@@ -1,5 +1,4 @@
--- Definitions: an outline shows the lines of their labels and titles as they come. Each part begins with an empty line,
--- which its text fills.
+-- Definitions: lines of labels and titles are shown as they come; each part begins with an empty line, which is filled.
 use Rattle.std.proofs.Common.{◌≡◌, ℕ, ◌+◌, Bool, true, false, cond, not, List, [], ◌∷◌, ◌++◌, length, slice_range, refl, sym}
 use Rattle.std.proofs.Common.{◌∙◌, ap, subst, append_assoc}
 use Rattle.std.specs.Prelude.{Option, Some, None, option_map, ◌||◌}
@@ -40,8 +39,8 @@ use Rattle.md_outline.proofs.ClosedTrees.{HaveWords, depth_of, shown, shown-then
 use Rattle.md_outline.proofs.LinedLines.{end-taken}
 use Rattle.md_outline.proofs.OutlineAgrees.{Agrees, TextIs, text-lines}
 use Rattle.md_outline.proofs.RoleLemmas.{by-ending}
-use Rattle.md_outline.proofs.SiteTexts.{Keeps, NoText, TextFrom, begins-texts, from-here, text-ending, text-ends}
-use Rattle.md_outline.proofs.SiteTexts.{text-line}
+use Rattle.md_outline.proofs.SiteTexts.{IsOpen, Keeps, NoText, TextFrom, begins-texts, from-here, text-ending}
+use Rattle.md_outline.proofs.SiteTexts.{text-ends, text-line}
 use Rattle.md_outline.proofs.TextCuts.{first-piece, piece-entries}
 use Rattle.md_outline.proofs.TextPieces.{begins-behind}
 
@@ -61,7 +60,15 @@ pub record Shows (definition : DefinitionSoFar) (is_told : Bool) (lines : ℕ �
   is : Defined definition is_told s r
   all : s.lines ≡ shown r.outer r.here ++ lines s.depth
 
--- whatever text is read
+defined-open : (definition : DefinitionSoFar) (is_told : Bool) (s : OutlineState) (r : Reading) →
+    Defined definition is_told s r → IsOpen s r
+defined-open definition is_told s r is = record {
+  leaf = DefinitionLeaf definition;
+  lined = record { place = length (shown r.outer r.here); is_fenced = is_told; form = form.Definition };
+  read = is.opened;
+  shows = is.lined;
+}
+
 defined-keeps : (definition : DefinitionSoFar) (is_told : Bool) → Keeps (Defined definition is_told)
 defined-keeps definition is_told s r span spaces text is = record {
   opened = is.opened;
@@ -166,6 +173,22 @@ abbrev pub BehindText : OutlineState → Reading → Type 0
 BehindText s r =
     (label : List (List ℕ)) × (destination : List ℕ) × (title : List (List ℕ)) × Some_line title ×
     Shows (known_all label destination (Some title)) true (all_lines label destination (Some title)) s r
+
+-- at each of these it is open
+pub at_text-open : (part : Part) (s : OutlineState) (r : Reading) → AtText part s r → IsOpen s r
+at_text-open part s r h = defined-open (part_known part h.0 h.1) (label_known part) s r h.2.is
+
+pub in_text-open : (part : Part) (s : OutlineState) (r : Reading) → InText part s r → IsOpen s r
+in_text-open part s r h = defined-open (part_known part h.0 h.1) (label_known part) s r h.2
+
+pub behind-open : (left : Left) (s : OutlineState) (r : Reading) → Behind left s r → IsOpen s r
+behind-open left s r h = defined-open (known_all h.0 h.1 h.2) true s r h.4.is
+
+pub destination-open : (s : OutlineState) (r : Reading) → InDestinationText s r → IsOpen s r
+destination-open s r h = defined-open (known_all h.0 [] None) true s r h.1.is
+
+pub behind_text-open : (s : OutlineState) (r : Reading) → BehindText s r → IsOpen s r
+behind_text-open s r h = defined-open (known_all h.0 h.1 (Some h.2)) true s r h.4.is
 
 -- It begins.
 

@@ -15,14 +15,14 @@ use Rattle.md_engine.specs.declared.event.Point.{Point}
 use Rattle.md_meaning.specs.Lines.{is_ending}
 use Rattle.md_seam.specs.Events.Nested.{Balanced, Fits, Forward, Matches, around, enter, exit, open_behind}
 use Rattle.md_seam.specs.Events.Places.{at_or_before}
-use Rattle.md_seam.specs.Events.Spelled.{AsDestination, AsLabel, AsTitle, IsEnding, IsPrefix, IsQuiet, IsTitle}
-use Rattle.md_seam.specs.Events.Spelled.{OfDefinition, LeafRole, Purpose, Role, TextRole, byte_at, role}
+use Rattle.md_seam.specs.Events.Spelled.{AsDestination, AsLabel, AsTitle, IsEnding, IsPrefix, IsQuiet, IsQuoteMarker}
+use Rattle.md_seam.specs.Events.Spelled.{IsTitle, OfDefinition, LeafRole, Purpose, Role, TextRole, byte_at, role}
 use Rattle.md_seam.proofs.SpelledLemmas.{Between, Quiet, QuietOrEnding, Roles}
 use Rattle.md_outline.specs.LinesStand.{AtLabel, AtTitleText, BehindPart, BehindTitleText, InDestination, InPart}
 use Rattle.md_outline.specs.LinesStand.{InParted, LabelPart, Left, LinesStand, MayHaveDestination, MayHaveTitle}
 use Rattle.md_outline.specs.LinesStand.{MayStand, NoneLeft, Outside, Part, Site, TitleLeft, TitlePart, part_site, site_by}
-use Rattle.md_outline.proofs.LinesPass.{Keeps, Passes, Steps, keeps-quiet, passes-append, passes-around, passes-by}
-use Rattle.md_outline.proofs.LinesPass.{passes-event, passes-quiet, stand-both}
+use Rattle.md_outline.proofs.LinesPass.{Keeps, Passes, Steps, keeps-quiet, keeps-quote_marker, passes-append}
+use Rattle.md_outline.proofs.LinesPass.{passes-around, passes-by, passes-event, passes-quiet, stand-both}
 
 -- All of it.
 pub passes-definition : (bytes : List ℕ) (name : Name) (p q : Point) (left : Left) (es : List Event) →
@@ -39,6 +39,7 @@ passes-between bytes left es h = passes-by bytes Between (BehindPart left) es on
   where
     one : (x : Role) → Between x → Keeps bytes (BehindPart left) x
     one IsQuiet h kind p = keeps-quiet bytes (BehindPart left) kind p
+    one IsQuoteMarker h kind p = keeps-quote_marker bytes (BehindPart left) kind p
     one IsPrefix h Enter p = (tt, refl)
     one IsPrefix h Exit p = (tt, refl)
     one IsEnding h Enter p = (tt, refl)
@@ -121,6 +122,7 @@ passes-parted bytes part es h = passes-by bytes Between (InParted part) es one h
   where
     one : (x : Role) → Between x → Keeps bytes (InParted part) x
     one IsQuiet h kind p = keeps-quiet bytes (InParted part) kind p
+    one IsQuoteMarker h kind p = keeps-quote_marker bytes (InParted part) kind p
     one IsPrefix h Enter p = (tt, refl)
     one IsPrefix h Exit p = (tt, refl)
     one IsEnding h Enter p = (tt, refl)
@@ -193,6 +195,10 @@ walk-event : (bytes : List ℕ) (part : Part) (q p : Point) (kind : Kind) (name 
 walk-event bytes part q p Enter name names zs IsQuiet is between none fits some stays parted =
     (tt, stays (subst NoPrefix (sym is) tt, none))
 walk-event bytes part q p Exit name names zs IsQuiet is between none fits some stays parted =
+    (tt, stays (closed-none names name none))
+walk-event bytes part q p Enter name names zs IsQuoteMarker is between none fits some stays parted =
+    (tt, stays (subst NoPrefix (sym is) tt, none))
+walk-event bytes part q p Exit name names zs IsQuoteMarker is between none fits some stays parted =
     (tt, stays (closed-none names name none))
 walk-event bytes part q p Enter name names zs IsEnding is between none fits some stays parted =
     (tt, stays (subst NoPrefix (sym is) tt, none))

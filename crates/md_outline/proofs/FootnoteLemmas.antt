@@ -3,10 +3,12 @@ use Rattle.std.proofs.Common.{◌≡◌, ℕ, ◌+◌, true, List, [], ◌∷◌
 use Rattle.std.proofs.Common.{append_assoc}
 use Rattle.std.specs.Prelude.{Option, Some, None}
 use Rattle.md_engine.specs.declared.event.Point.{Point}
+use Rattle.md_meaning.specs.declared.alert.AlertKind.{AlertKind}
 use Rattle.md_meaning.specs.declared.outline.Word.TheVariants as word
 use Rattle.md_meaning.specs.Outline.{Entry, entry, entry_with}
 use Rattle.md_meaning.specs.Tree.{Blocks, End, Footnote}
 use Rattle.md_seam.specs.Events.Spelled.{OpenContainer, AsFootnoteLabel, FootnoteShape, Reading, Text, named, on_shape}
+use Rattle.md_seam.specs.Events.Spelled.{with_kind}
 use Rattle.md_seam.specs.Events.Spelled as spelled
 use Rattle.md_outline.specs.FootnoteState.{label_told}
 use Rattle.md_outline.specs.Outlined.{is_unparted}
@@ -35,6 +37,23 @@ awaits-label label r fresh words = record {
   empty = refl;
   words = words;
 }
+
+-- a marker of a quote gives it no kind
+pub awaits-given : (kind : Option AlertKind) (opened : List OpenContainer) (here : Blocks) → AwaitsLabel opened here →
+    AwaitsLabel (on_shape (with_kind kind) opened) here
+awaits-given kind opened here a = record {
+  outer = a.outer;
+  before = a.before;
+  is = ap (on_shape (with_kind kind)) a.is ∙ same kind;
+  empty = a.empty;
+  words = a.words;
+}
+  where
+    same : (kind : Option AlertKind) →
+        on_shape (with_kind kind) (record { shape = FootnoteShape []; before = a.before } ∷ a.outer)
+        ≡ record { shape = FootnoteShape []; before = a.before } ∷ a.outer
+    same None = refl
+    same (Some k) = refl
 
 -- its label ends
 label-agrees : (now : List ℕ) (s : OutlineState) (r : Reading) (a : AwaitsLabel r.outer r.here) →

@@ -18,7 +18,8 @@ use Rattle.md_seam.specs.Events.Nested.{Balanced, is_exit, pair}
 use Rattle.md_seam.specs.Events.Places.{same_place}
 use Rattle.md_seam.specs.Events.Spelled.{AsCell, AsDelimiter, AsDestination, AsDigits, AsFootnoteLabel, AsHeading}
 use Rattle.md_seam.specs.Events.Spelled.{AsInfo, AsItemMarker, AsLabel, AsLine, AsMarkers, AsMeta, AsParagraph, AsTitle}
-use Rattle.md_seam.specs.Events.Spelled.{IsEnding, IsPrefix, IsQuiet, Purpose, Role, TextRole, byte_at, role}
+use Rattle.md_seam.specs.Events.Spelled.{IsEnding, IsPrefix, IsQuiet, IsQuoteMarker, Purpose, Role, TextRole, byte_at}
+use Rattle.md_seam.specs.Events.Spelled.{role}
 use Rattle.md_seam.specs.Events.Tiles.{Tiles, chunks_stand, depth_behind, filled, filled_from, first_list, further_lists}
 use Rattle.md_seam.specs.Events.Tiles.{is_chunk, is_part, parts, plain_lists, plain_read, stands_in_part}
 use Rattle.md_seam.proofs.FilledLemmas.{EachInline, chunk-behind, first-inline, further-inline, spelled-filled}
@@ -37,7 +38,7 @@ use Rattle.md_outline.specs.Outlined.{stands_between, tells_between}
 use Rattle.md_outline.specs.Roles.{is_seen, is_shown, is_told, shown_as}
 use Rattle.md_outline.specs.TablePlaces.{AtCell, AtHead, BehindCell, BehindHead, BehindRow, InCell, InDelimiter, InRow}
 use Rattle.md_outline.specs.TablePlaces.{MayBe, TablePlace, spot_by}
-use Rattle.md_outline.proofs.LinesPass.{keeps-quiet}
+use Rattle.md_outline.proofs.LinesPass.{keeps-quiet, keeps-quote_marker}
 
 -- Text parts.
 
@@ -308,10 +309,14 @@ lists-go : (bytes : List ℕ) (stage : Stage) (kind : Kind) (x : Role) (p : Poin
     QuietOrPrefix x → IsToldText (stage_by stage kind x p)
 lists-go bytes AllTold Enter IsQuiet p text is = tt
 lists-go bytes AllTold Exit IsQuiet p text is = tt
+lists-go bytes AllTold Enter IsQuoteMarker p text is = tt
+lists-go bytes AllTold Exit IsQuoteMarker p text is = tt
 lists-go bytes AllTold Enter IsPrefix p text is = tt
 lists-go bytes AllTold Exit IsPrefix p text is = tt
 lists-go bytes AtFootnoteLabel Enter IsQuiet p text is = tt
 lists-go bytes AtFootnoteLabel Exit IsQuiet p text is = tt
+lists-go bytes AtFootnoteLabel Enter IsQuoteMarker p text is = tt
+lists-go bytes AtFootnoteLabel Exit IsQuoteMarker p text is = tt
 lists-go bytes AtFootnoteLabel Enter IsPrefix p text is = tt
 lists-go bytes AtFootnoteLabel Exit IsPrefix p text is = tt
 lists-go bytes AllTold kind _ p text is = absurd is
@@ -397,6 +402,8 @@ lines-go : (bytes : List ℕ) (site : Site) (kind : Kind) (x : Role) (p : Point)
     QuietOrPrefix x → MayStand bytes site kind x p → IsTextSite (site_by bytes site kind x p)
 lines-go bytes site kind IsQuiet p text is may =
     subst IsTextSite (sym (keeps-quiet bytes site kind p).1) text
+lines-go bytes site kind IsQuoteMarker p text is may =
+    subst IsTextSite (sym (keeps-quote_marker bytes site kind p).1) text
 lines-go bytes Outside Enter IsPrefix p text is may = tt
 lines-go bytes Outside Exit IsPrefix p text is may = tt
 lines-go bytes InTitle Enter IsPrefix p text is may = tt

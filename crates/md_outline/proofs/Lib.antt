@@ -1,3 +1,4 @@
+pub mod AlertLemmas
 pub mod BlocksStay
 pub mod ClosedTrees
 pub mod DefinedLemmas
@@ -6,6 +7,7 @@ pub mod FirstLine
 pub mod FootnoteLemmas
 pub mod FrontPass
 pub mod HeadingLemmas
+pub mod KindLemmas
 pub mod LayerOutlined
 pub mod LinedLemmas
 pub mod LinedLines

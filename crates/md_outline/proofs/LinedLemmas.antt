@@ -35,7 +35,7 @@ use Rattle.md_outline.specs.declared.outline.role.Role.TheVariants as role
 use Rattle.md_outline.proofs.ClosedTrees.{HaveWords, depth_of, shown, shown-then, words-then}
 use Rattle.md_outline.proofs.LinedLines.{end-taken, head-told, on-last}
 use Rattle.md_outline.proofs.OutlineAgrees.{Agrees, TextIs, text-lines}
-use Rattle.md_outline.proofs.SiteTexts.{Keeps, NoText}
+use Rattle.md_outline.proofs.SiteTexts.{IsOpen, Keeps, NoText}
 
 -- Such a leaf block, and its lines.
 
@@ -122,6 +122,16 @@ texted kind markers info meta lines closed fenced s r span spaces text is = reco
   all = is.all;
 }
 
+pub lining-open : (kind : LeafKind) (markers : List ℕ) (info meta : Option (List ℕ)) (lines : List Line) (closed : Bool)
+    (fenced : Bool) (s : OutlineState) (r : Reading) → Lining kind markers info meta lines closed fenced s r →
+    IsOpen s r
+lining-open kind markers info meta lines closed fenced s r is = record {
+  leaf = lined_leaf kind markers info meta lines closed;
+  lined = record { place = length (shown r.outer r.here); is_fenced = fenced; form = lined_form kind };
+  read = is.opened;
+  shows = is.lined;
+}
+
 -- a leaf block with fences has told its markers, if it is said to
 abbrev pub IsMarked : LeafKind → List ℕ → Bool → Type 0
 IsMarked OfFence markers fenced = (fenced ≡ true) × ((first_byte markers == 0) ≡ false)
@@ -147,6 +157,11 @@ again kind info meta lines closed s r span spaces text m = record {
   is = texted kind m.markers info meta lines closed m.fenced s r span spaces text m.is;
 }
 
+pub marked-open : (kind : LeafKind) (info meta : Option (List ℕ)) (lines : List Line) (closed : Bool) (s : OutlineState)
+    (r : Reading) → Marked kind info meta lines closed s r → IsOpen s r
+marked-open kind info meta lines closed s r m =
+    lining-open kind m.markers info meta lines closed m.fenced s r m.is
+
 -- with a line that is empty yet, or with any
 abbrev pub OnLine : LeafKind → OutlineState → Reading → Type 0
 OnLine kind s r =
@@ -162,6 +177,13 @@ InTextOf kind AsInfo s r = HasInfo kind × Marked kind None None [] false s r
 InTextOf kind AsMeta s r = HasMeta kind × ((info : Option (List ℕ)) × Marked kind info None [] false s r)
 InTextOf kind AsLine s r = OnLine kind s r
 InTextOf kind _ s r = ⊥
+
+pub text-open : (kind : LeafKind) (x : spelled.Purpose) (s : OutlineState) (r : Reading) → InTextOf kind x s r →
+    IsOpen s r
+text-open kind AsInfo s r is = marked-open kind None None [] false s r is.1
+text-open kind AsMeta s r is = marked-open kind is.1.0 None [] false s r is.1.1
+text-open kind AsLine s r is = marked-open kind is.0 is.1 (is.2 ++ empty_line ∷ []) false s r is.3
+text-open kind _ s r is = absurd is
 
 -- It begins.
 

@@ -8,13 +8,15 @@ use Rattle.md_engine.specs.declared.event.Point.{Point}
 use Rattle.md_meaning.specs.declared.outline.Word.{Word}
 use Rattle.md_meaning.specs.declared.outline.Word.TheVariants as word
 use Rattle.md_meaning.specs.Outline.{outline}
+use Rattle.md_meaning.specs.Texts.{first_byte}
 use Rattle.md_meaning.specs.Tree.{Line}
 use Rattle.md_seam.specs.Events.Spelled.{AsCell, AsDelimiter, AsDestination, AsHeading, AsInfo, AsLabel, AsLine}
 use Rattle.md_seam.specs.Events.Spelled.{AsMarkers, AsMeta, AsTitle, FootnoteShape, ContainerRole, IsCell, IsEnding, IsFence}
-use Rattle.md_seam.specs.Events.Spelled.{IsPrefix, IsQuiet, IsRow, IsTitle, LeafKind, OfCode, OfDefinition, OfFence}
+use Rattle.md_seam.specs.Events.Spelled.{IsPrefix, IsQuiet, IsQuoteMarker, IsRow, IsTitle, LeafKind, OfCode}
+use Rattle.md_seam.specs.Events.Spelled.{OfDefinition, OfFence}
 use Rattle.md_seam.specs.Events.Spelled.{OfFrontmatter, OfHeadingSetext, OfHtml, OfMath, OfTable, LeafRole, OrderedShape}
 use Rattle.md_seam.specs.Events.Spelled.{Reading, TextRole, UnorderedShape, begun, byte_at, columns_left, empty_line}
-use Rattle.md_seam.specs.Events.Spelled.{fresh, no_heading, read_by, read_enter, read_exit}
+use Rattle.md_seam.specs.Events.Spelled.{fresh, no_heading, read_by, read_enter, read_exit, underline_depth}
 use Rattle.md_seam.specs.Events.Spelled as spelled
 use Rattle.md_outline.specs.HeadingDepths.{are_shallow}
 use Rattle.md_outline.specs.LinedState.{begin_lines, form_of}
@@ -33,18 +35,21 @@ use Rattle.md_outline.specs.declared.outline.role.Purpose.TheVariants as purpose
 use Rattle.md_outline.specs.declared.outline.role.Role.TheVariants as role
 use Rattle.md_outline.proofs.DefinedLemmas as defined
 use Rattle.md_outline.proofs.ListLemmas.{AgreesAt, agrees-stage, lines-closed}
-use Rattle.md_outline.proofs.OutlineAgrees.{Agrees, agrees-begun, agrees-ending, agrees-title, apart}
+use Rattle.md_outline.proofs.OutlineAgrees.{Agrees, agrees-begun, agrees-ending, agrees-quote_marker, agrees-title}
+use Rattle.md_outline.proofs.OutlineAgrees.{apart}
 use Rattle.md_outline.proofs.RoleLemmas.{IsFresh}
-use Rattle.md_outline.proofs.SiteTexts.{NoText, TextFrom, begins-texts, from-here, no-span, prefix-enter, prefix-exit}
-use Rattle.md_outline.proofs.SiteTexts.{text-ending, text-ends}
+use Rattle.md_outline.proofs.SiteTexts.{NoText, TextFrom, begins-texts, from-here, marker-within, no-span}
+use Rattle.md_outline.proofs.SiteTexts.{prefix-enter, prefix-exit, span-quoted, text-ending, text-ends}
 use Rattle.md_outline.proofs.TabledLemmas as tabled
 use Rattle.md_outline.proofs.TitledLemmas as titled
-use Rattle.md_outline.proofs.TitledLemmas.{gap-line, heading-begins, heading-ends, title-begins, title-ends, title-line}
+use Rattle.md_outline.proofs.TitledLemmas.{gap-line, headed-open, heading-begins, heading-ends, some_lines}
+use Rattle.md_outline.proofs.TitledLemmas.{title-begins, title-ends, title-line, titled-open}
 use Rattle.md_outline.proofs.TitledLemmas.{title-on, title-prefix, underline-ends, unmarked-keeps}
 use Rattle.md_outline.proofs.LinedLemmas.{Ended, InTextOf, IsMarked, Lining, Marked, OnLine, again, ended-keeps}
 use Rattle.md_outline.proofs.LinedLemmas.{ending-agrees, fence-begins, fence-closes, info-told, leaf-ends, line-ended}
 use Rattle.md_outline.proofs.LinedLemmas.{line-keeps, line-opens, line-told, lined_entries, lined_form, lined_leaf}
-use Rattle.md_outline.proofs.LinedLemmas.{lining-begins, lining-ends, markers-stand, markers-told, meta-told}
+use Rattle.md_outline.proofs.LinedLemmas.{lining-begins, lining-ends, lining-open, marked-open, markers-stand}
+use Rattle.md_outline.proofs.LinedLemmas.{markers-told, meta-told, text-open}
 use Rattle.md_outline.proofs.LinedLemmas.{span-fenced, span-headed, span-line, texted}
 
 -- What is known at each site.
@@ -139,6 +144,9 @@ AgreesThere bytes site =
 at_markers-agrees : (bytes : List ℕ) (k : LeafKind) → AgreesThere bytes (AtMarkers k)
 at_markers-agrees bytes k Enter IsQuiet p s r parts may is = is
 at_markers-agrees bytes k Exit IsQuiet p s r parts may is = is
+at_markers-agrees bytes k Enter IsQuoteMarker p s r parts may is =
+    marker-within (AgreesIn (AtMarkers k)) bytes p s r (lining-open k [] None None [] false false s r is.1) is
+at_markers-agrees bytes k Exit IsQuoteMarker p s r parts may is = is
 at_markers-agrees bytes k Enter IsFence p s r parts may is =
     (is.0, fence-begins k s r is.1, (span-fenced s.lined s ∙ is.2.0, is.2.1))
 at_markers-agrees bytes k Enter (TextRole AsMarkers) p s r parts may is = (
@@ -153,6 +161,9 @@ at_markers-agrees bytes k _ _ p s r parts may is = absurd may
 in_markers-agrees : (bytes : List ℕ) (k : LeafKind) (q : Point) → AgreesThere bytes (InMarkers k q)
 in_markers-agrees bytes k q Enter IsQuiet p s r parts may is = is
 in_markers-agrees bytes k q Exit IsQuiet p s r parts may is = is
+in_markers-agrees bytes k q Enter IsQuoteMarker p s r parts may is =
+    marker-within (AgreesIn (InMarkers k q)) bytes p s r (lining-open k [] None None [] false false s r is.1) is
+in_markers-agrees bytes k q Exit IsQuoteMarker p s r parts may is = is
 in_markers-agrees bytes k q Exit (TextRole AsMarkers) p s r parts may is =
     let line : Line = record { spaces = columns_left q; text = slice_range bytes (byte_at q) p.index } in
     text-ends (AgreesIn (AtInfo k)) bytes q p AsMarkers purpose.Markers s r is.2 (
@@ -166,6 +177,9 @@ in_markers-agrees bytes k q _ _ p s r parts may is = absurd may
 at_info-agrees : (bytes : List ℕ) (k : LeafKind) → AgreesThere bytes (AtInfo k)
 at_info-agrees bytes k Enter IsQuiet p s r parts may is = is
 at_info-agrees bytes k Exit IsQuiet p s r parts may is = is
+at_info-agrees bytes k Enter IsQuoteMarker p s r parts may is =
+    marker-within (AgreesIn (AtInfo k)) bytes p s r (marked-open k None None [] false s r is.1) is
+at_info-agrees bytes k Exit IsQuoteMarker p s r parts may is = is
 at_info-agrees bytes k Enter (TextRole AsInfo) p s r parts may is = (
   (
     may,
@@ -192,6 +206,9 @@ at_info-agrees bytes k _ _ p s r parts may is = absurd may
 at_meta-agrees : (bytes : List ℕ) (k : LeafKind) → AgreesThere bytes (AtMeta k)
 at_meta-agrees bytes k Enter IsQuiet p s r parts may is = is
 at_meta-agrees bytes k Exit IsQuiet p s r parts may is = is
+at_meta-agrees bytes k Enter IsQuoteMarker p s r parts may is =
+    marker-within (AgreesIn (AtMeta k)) bytes p s r (marked-open k is.1.0 None [] false s r is.1.1) is
+at_meta-agrees bytes k Exit IsQuoteMarker p s r parts may is = is
 at_meta-agrees bytes k Enter (TextRole AsMeta) p s r parts may is = (
   (
     is.0,
@@ -210,6 +227,9 @@ at_meta-agrees bytes k _ _ p s r parts may is = absurd may
 in_text-agrees : (bytes : List ℕ) (k : LeafKind) (y : spelled.Purpose) → AgreesThere bytes (InText k y)
 in_text-agrees bytes k y Enter IsQuiet p s r parts may is = is
 in_text-agrees bytes k y Exit IsQuiet p s r parts may is = is
+in_text-agrees bytes k y Enter IsQuoteMarker p s r parts may is =
+    marker-within (AgreesIn (InText k y)) bytes p s r (text-open k y s r is.0) is
+in_text-agrees bytes k y Exit IsQuoteMarker p s r parts may is = is
 in_text-agrees bytes k y Enter IsEnding p s r parts may is = is
 in_text-agrees bytes k y Exit IsEnding p s r parts may is =
     text-ending (AgreesIn (InText k y)) bytes is.1.0 p s r is.1.1 is
@@ -220,6 +240,9 @@ in_text-agrees bytes k y _ _ p s r parts may is = absurd may
 at_ending-agrees : (bytes : List ℕ) (k : LeafKind) → AgreesThere bytes (AtEnding k)
 at_ending-agrees bytes k Enter IsQuiet p s r parts may is = is
 at_ending-agrees bytes k Exit IsQuiet p s r parts may is = is
+at_ending-agrees bytes k Enter IsQuoteMarker p s r parts may is =
+    marker-within (AgreesIn (AtEnding k)) bytes p s r (marked-open k is.0.0 is.0.1 is.0.2 false s r is.0.3) is
+at_ending-agrees bytes k Exit IsQuoteMarker p s r parts may is = is
 at_ending-agrees bytes k Enter IsPrefix p s r parts may is =
     prefix-enter (Ended k false) bytes p s r (ended-keeps k false) is
 at_ending-agrees bytes k Exit IsPrefix p s r parts may is =
@@ -237,6 +260,10 @@ at_ending-agrees bytes k _ _ p s r parts may is = absurd may
 at_line-agrees : (bytes : List ℕ) (k : LeafKind) → AgreesThere bytes (AtLine k)
 at_line-agrees bytes k Enter IsQuiet p s r parts may is = is
 at_line-agrees bytes k Exit IsQuiet p s r parts may is = is
+at_line-agrees bytes k Enter IsQuoteMarker p s r parts may is =
+    marker-within (AgreesIn (AtLine k)) bytes p s r
+    (marked-open k is.0.0 is.0.1 (is.0.2 ++ empty_line ∷ []) false s r is.0.3) is
+at_line-agrees bytes k Exit IsQuoteMarker p s r parts may is = is
 at_line-agrees bytes k Enter IsPrefix p s r parts may is = prefix-enter (OnLine k) bytes p s r (line-keeps k) is
 at_line-agrees bytes k Exit IsPrefix p s r parts may is = prefix-exit (OnLine k) bytes p s r (line-keeps k) is
 at_line-agrees bytes k Enter IsEnding p s r parts may is = is
@@ -260,6 +287,9 @@ at_line-agrees bytes k _ _ p s r parts may is = absurd may
 at_end-agrees : (bytes : List ℕ) (k : LeafKind) → AgreesThere bytes (AtEnd k)
 at_end-agrees bytes k Enter IsQuiet p s r parts may is = is
 at_end-agrees bytes k Exit IsQuiet p s r parts may is = is
+at_end-agrees bytes k Enter IsQuoteMarker p s r parts may is =
+    marker-within (AgreesIn (AtEnd k)) bytes p s r (marked-open k is.1.0 is.1.1 is.1.2 true s r is.1.3) is
+at_end-agrees bytes k Exit IsQuoteMarker p s r parts may is = is
 at_end-agrees bytes k Enter (TextRole AsMarkers) p s r parts may is = (
   is.0,
   ended-keeps k true s r (Some (record { from = byte_at p; is_parted = false })) (columns_left p) (Some (begun p)) is.1,
@@ -274,6 +304,9 @@ at_end-agrees bytes k _ _ p s r parts may is = absurd may
 in_end-agrees : (bytes : List ℕ) (k : LeafKind) → AgreesThere bytes (InEnd k)
 in_end-agrees bytes k Enter IsQuiet p s r parts may is = is
 in_end-agrees bytes k Exit IsQuiet p s r parts may is = is
+in_end-agrees bytes k Enter IsQuoteMarker p s r parts may is =
+    marker-within (AgreesIn (InEnd k)) bytes p s r (marked-open k is.1.0 is.1.1 is.1.2 true s r is.1.3) is
+in_end-agrees bytes k Exit IsQuoteMarker p s r parts may is = is
 in_end-agrees bytes k Exit (TextRole AsMarkers) p s r parts may is =
     let line : Line = record {
       spaces = columns_left is.2.0;
@@ -290,6 +323,9 @@ in_end-agrees bytes k _ _ p s r parts may is = absurd may
 at_title-agrees : (bytes : List ℕ) → AgreesThere bytes AtTitle
 at_title-agrees bytes Enter IsQuiet p s r parts may is = is
 at_title-agrees bytes Exit IsQuiet p s r parts may is = is
+at_title-agrees bytes Enter IsQuoteMarker p s r parts may is =
+    marker-within (AgreesIn AtTitle) bytes p s r (headed-open 0 no_heading false s r is.0) is
+at_title-agrees bytes Exit IsQuoteMarker p s r parts may is = is
 at_title-agrees bytes Enter (TextRole AsHeading) p s r parts may is = title-begins p s r is.0
 at_title-agrees bytes _ _ p s r parts may is = absurd may
 
@@ -297,6 +333,9 @@ at_title-agrees bytes _ _ p s r parts may is = absurd may
 in_title-agrees : (bytes : List ℕ) → AgreesThere bytes InTitle
 in_title-agrees bytes Enter IsQuiet p s r parts may is = is
 in_title-agrees bytes Exit IsQuiet p s r parts may is = is
+in_title-agrees bytes Enter IsQuoteMarker p s r parts may is =
+    marker-within (AgreesIn InTitle) bytes p s r (titled-open no_heading false s r is.0) is
+in_title-agrees bytes Exit IsQuoteMarker p s r parts may is = is
 in_title-agrees bytes Enter IsPrefix p s r parts may is = title-prefix bytes p s r parts is
 in_title-agrees bytes Exit IsPrefix p s r parts may is = title-on p s r is
 in_title-agrees bytes Enter IsEnding p s r parts may is = is
@@ -308,6 +347,9 @@ in_title-agrees bytes _ _ p s r parts may is = absurd may
 behind_title-agrees : (bytes : List ℕ) → AgreesThere bytes BehindTitle
 behind_title-agrees bytes Enter IsQuiet p s r parts may is = is
 behind_title-agrees bytes Exit IsQuiet p s r parts may is = is
+behind_title-agrees bytes Enter IsQuoteMarker p s r parts may is =
+    marker-within (AgreesIn BehindTitle) bytes p s r (headed-open 0 (some_lines is.0.0) false s r is.0.1) is
+behind_title-agrees bytes Exit IsQuoteMarker p s r parts may is = is
 behind_title-agrees bytes Enter IsPrefix p s r parts may is =
     prefix-enter titled.Unmarked bytes p s r unmarked-keeps is
 behind_title-agrees bytes Exit IsPrefix p s r parts may is =
@@ -324,6 +366,9 @@ behind_title-agrees bytes _ _ p s r parts may is = absurd may
 in_underline-agrees : (bytes : List ℕ) → AgreesThere bytes InUnderline
 in_underline-agrees bytes Enter IsQuiet p s r parts may is = is
 in_underline-agrees bytes Exit IsQuiet p s r parts may is = is
+in_underline-agrees bytes Enter IsQuoteMarker p s r parts may is =
+    marker-within (AgreesIn InUnderline) bytes p s r (headed-open 0 (some_lines is.0.0) false s r is.0.1) is
+in_underline-agrees bytes Exit IsQuoteMarker p s r parts may is = is
 in_underline-agrees bytes Exit (TextRole AsMarkers) p s r parts may is =
     underline-ends bytes is.1.0 p s r is.0 is.1.1
 in_underline-agrees bytes _ _ p s r parts may is = absurd may
@@ -332,6 +377,10 @@ in_underline-agrees bytes _ _ p s r parts may is = absurd may
 behind_underline-agrees : (bytes : List ℕ) → AgreesThere bytes BehindUnderline
 behind_underline-agrees bytes Enter IsQuiet p s r parts may is = is
 behind_underline-agrees bytes Exit IsQuiet p s r parts may is = is
+behind_underline-agrees bytes Enter IsQuoteMarker p s r parts may is =
+    marker-within (AgreesIn BehindUnderline) bytes p s r
+    (headed-open (underline_depth (first_byte is.0.0.markers)) is.0.0 true s r is.0.1) is
+behind_underline-agrees bytes Exit IsQuoteMarker p s r parts may is = is
 behind_underline-agrees bytes Exit (LeafRole OfHeadingSetext) p s r parts may is = heading-ends s r is.0 is.1
 behind_underline-agrees bytes _ _ p s r parts may is = absurd may
 
@@ -339,6 +388,9 @@ behind_underline-agrees bytes _ _ p s r parts may is = absurd may
 in_atx_text-agrees : (bytes : List ℕ) → AgreesThere bytes InAtxText
 in_atx_text-agrees bytes Enter IsQuiet p s r parts may is = is
 in_atx_text-agrees bytes Exit IsQuiet p s r parts may is = is
+in_atx_text-agrees bytes Enter IsQuoteMarker p s r parts may is =
+    (agrees-quote_marker bytes p s r is.0, ap is_unparted (span-quoted bytes p.index s.text s.leaf s.lined s) ∙ is.1)
+in_atx_text-agrees bytes Exit IsQuoteMarker p s r parts may is = is
 in_atx_text-agrees bytes Enter IsEnding p s r parts may is = is
 in_atx_text-agrees bytes Exit IsEnding p s r parts may is =
     (agrees-ending bytes p s r is.0, ap is_unparted (span-line bytes p.index s.lined s.text s) ∙ is.1)
@@ -350,6 +402,9 @@ in_atx_text-agrees bytes _ _ p s r parts may is = absurd may
 at_label-agrees : (bytes : List ℕ) → AgreesThere bytes AtLabel
 at_label-agrees bytes Enter IsQuiet p s r parts may is = is
 at_label-agrees bytes Exit IsQuiet p s r parts may is = is
+at_label-agrees bytes Enter IsQuoteMarker p s r parts may is =
+    marker-within (AgreesIn AtLabel) bytes p s r (defined.at_text-open LabelPart s r is.0) is
+at_label-agrees bytes Exit IsQuoteMarker p s r parts may is = is
 at_label-agrees bytes Enter (TextRole AsLabel) p s r parts may is = defined.part-begins LabelPart p s r is.0
 at_label-agrees bytes _ _ p s r parts may is = absurd may
 
@@ -357,6 +412,9 @@ at_label-agrees bytes _ _ p s r parts may is = absurd may
 in_part-agrees : (bytes : List ℕ) (part : Part) (q : Point) → AgreesThere bytes (InPart part q)
 in_part-agrees bytes part q Enter IsQuiet p s r parts may is = is
 in_part-agrees bytes part q Exit IsQuiet p s r parts may is = is
+in_part-agrees bytes part q Enter IsQuoteMarker p s r parts may is =
+    marker-within (AgreesIn (InPart part q)) bytes p s r (defined.at_text-open part s r is.0) is
+in_part-agrees bytes part q Exit IsQuoteMarker p s r parts may is = is
 in_part-agrees bytes part q Enter IsPrefix p s r parts may is =
     defined.part-parts bytes part q p s r may parts is
 in_part-agrees bytes part q Enter IsEnding p s r parts may is = is
@@ -369,6 +427,9 @@ in_part-agrees bytes part q _ _ p s r parts may is = absurd may
 in_parted-agrees : (bytes : List ℕ) (part : Part) → AgreesThere bytes (InParted part)
 in_parted-agrees bytes part Enter IsQuiet p s r parts may is = is
 in_parted-agrees bytes part Exit IsQuiet p s r parts may is = is
+in_parted-agrees bytes part Enter IsQuoteMarker p s r parts may is =
+    marker-within (AgreesIn (InParted part)) bytes p s r (defined.in_text-open part s r is) is
+in_parted-agrees bytes part Exit IsQuoteMarker p s r parts may is = is
 in_parted-agrees bytes part Enter IsPrefix p s r parts may is = defined.part-prefix bytes part p s r parts is
 in_parted-agrees bytes part Exit IsPrefix p s r parts may is = defined.part-on part p s r is
 in_parted-agrees bytes part Enter IsEnding p s r parts may is = is
@@ -381,6 +442,9 @@ in_parted-agrees bytes part _ _ p s r parts may is = absurd may
 behind_part-agrees : (bytes : List ℕ) (left : Left) → AgreesThere bytes (BehindPart left)
 behind_part-agrees bytes left Enter IsQuiet p s r parts may is = is
 behind_part-agrees bytes left Exit IsQuiet p s r parts may is = is
+behind_part-agrees bytes left Enter IsQuoteMarker p s r parts may is =
+    marker-within (AgreesIn (BehindPart left)) bytes p s r (defined.behind-open left s r is.0) is
+behind_part-agrees bytes left Exit IsQuoteMarker p s r parts may is = is
 behind_part-agrees bytes left Enter IsPrefix p s r parts may is =
     prefix-enter (defined.Behind left) bytes p s r (defined.behind-keeps left) is
 behind_part-agrees bytes left Exit IsPrefix p s r parts may is =
@@ -398,6 +462,9 @@ behind_part-agrees bytes left _ _ p s r parts may is = absurd may
 in_destination-agrees : (bytes : List ℕ) → AgreesThere bytes InDestination
 in_destination-agrees bytes Enter IsQuiet p s r parts may is = is
 in_destination-agrees bytes Exit IsQuiet p s r parts may is = is
+in_destination-agrees bytes Enter IsQuoteMarker p s r parts may is =
+    marker-within (AgreesIn InDestination) bytes p s r (defined.destination-open s r is.0) is
+in_destination-agrees bytes Exit IsQuoteMarker p s r parts may is = is
 in_destination-agrees bytes Enter IsEnding p s r parts may is = is
 in_destination-agrees bytes Exit IsEnding p s r parts may is =
     text-ending (AgreesIn InDestination) bytes is.1.0 p s r is.1.1 is
@@ -409,6 +476,9 @@ in_destination-agrees bytes _ _ p s r parts may is = absurd may
 at_title_text-agrees : (bytes : List ℕ) → AgreesThere bytes AtTitleText
 at_title_text-agrees bytes Enter IsQuiet p s r parts may is = is
 at_title_text-agrees bytes Exit IsQuiet p s r parts may is = is
+at_title_text-agrees bytes Enter IsQuoteMarker p s r parts may is =
+    marker-within (AgreesIn AtTitleText) bytes p s r (defined.at_text-open TitlePart s r is.0) is
+at_title_text-agrees bytes Exit IsQuoteMarker p s r parts may is = is
 at_title_text-agrees bytes Enter (TextRole AsTitle) p s r parts may is = defined.part-begins TitlePart p s r is.0
 at_title_text-agrees bytes Exit IsTitle p s r parts may is = defined.title-empty bytes p s r is
 at_title_text-agrees bytes _ _ p s r parts may is = absurd may
@@ -417,6 +487,9 @@ at_title_text-agrees bytes _ _ p s r parts may is = absurd may
 behind_title_text-agrees : (bytes : List ℕ) → AgreesThere bytes BehindTitleText
 behind_title_text-agrees bytes Enter IsQuiet p s r parts may is = is
 behind_title_text-agrees bytes Exit IsQuiet p s r parts may is = is
+behind_title_text-agrees bytes Enter IsQuoteMarker p s r parts may is =
+    marker-within (AgreesIn BehindTitleText) bytes p s r (defined.behind_text-open s r is.0) is
+behind_title_text-agrees bytes Exit IsQuoteMarker p s r parts may is = is
 behind_title_text-agrees bytes Exit IsTitle p s r parts may is = defined.title-full bytes p s r is
 behind_title_text-agrees bytes _ _ p s r parts may is = absurd may
 

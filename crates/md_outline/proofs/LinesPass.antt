@@ -12,9 +12,10 @@ use Rattle.md_engine.specs.declared.event.Name.TheVariants as n
 use Rattle.md_engine.specs.declared.event.Point.{Point}
 use Rattle.md_seam.specs.Events.Nested.{around, enter, exit, pair}
 use Rattle.md_seam.specs.Events.Spelled.{AsCell, AsDelimiter, AsDestination, AsHeading, AsInfo, AsLabel, AsLine}
-use Rattle.md_seam.specs.Events.Spelled.{AsMarkers, AsMeta, AsTitle, IsCell, IsEnding, IsFence, IsPrefix, IsQuiet, IsRow}
-use Rattle.md_seam.specs.Events.Spelled.{IsTitle, LeafKind, OfCode, OfDefinition, OfFence, OfFrontmatter}
-use Rattle.md_seam.specs.Events.Spelled.{OfHeadingSetext, OfHtml, OfMath, OfTable, LeafRole, Role, TextRole, role}
+use Rattle.md_seam.specs.Events.Spelled.{AsMarkers, AsMeta, AsTitle, IsCell, IsEnding, IsFence, IsPrefix, IsQuiet}
+use Rattle.md_seam.specs.Events.Spelled.{IsQuoteMarker, IsRow, IsTitle, LeafKind, OfCode, OfDefinition, OfFence}
+use Rattle.md_seam.specs.Events.Spelled.{OfFrontmatter, OfHeadingSetext, OfHtml, OfMath, OfTable, LeafRole, Role}
+use Rattle.md_seam.specs.Events.Spelled.{TextRole, role}
 use Rattle.md_seam.proofs.SpelledLemmas.{Between, Quiet, QuietOrEnding, QuietOrPrefix, Roles}
 use Rattle.md_outline.specs.LinesStand.{AtEnd, AtEnding, AtLine, AtTitle, BehindTitle, BehindUnderline, HasLines}
 use Rattle.md_outline.specs.LinesStand.{InAtxText, InTitle, InUnderline, LinesStand, MayStand, Outside, Site}
@@ -94,6 +95,13 @@ keeps-quiet bytes Outside Exit p = (tt, refl)
 keeps-quiet bytes _ Enter p = (tt, refl)
 keeps-quiet bytes _ Exit p = (tt, refl)
 
+-- So may a marker of a quote.
+pub keeps-quote_marker : (bytes : List ℕ) (site : Site) → Keeps bytes site IsQuoteMarker
+keeps-quote_marker bytes Outside Enter p = (tt, refl)
+keeps-quote_marker bytes Outside Exit p = (tt, refl)
+keeps-quote_marker bytes _ Enter p = (tt, refl)
+keeps-quote_marker bytes _ Exit p = (tt, refl)
+
 pub passes-quiet : (bytes : List ℕ) (site : Site) (es : List Event) → Roles Quiet es → Passes bytes site site es
 passes-quiet bytes site es h = passes-by bytes Quiet site es one h
   where
@@ -123,6 +131,7 @@ passes-prefixes bytes site es on h = passes-by bytes QuietOrPrefix site es one h
 
     one : (x : Role) → QuietOrPrefix x → Keeps bytes site x
     one IsQuiet h = keeps-quiet bytes site
+    one IsQuoteMarker h = keeps-quote_marker bytes site
     one IsPrefix h = prefix site on
     one _ h = absurd h
 
@@ -233,6 +242,7 @@ passes-lines bytes site es takes h = passes-by bytes Between site es one h
 
     one : (x : Role) → Between x → Keeps bytes site x
     one IsQuiet h = keeps-quiet bytes site
+    one IsQuoteMarker h = keeps-quote_marker bytes site
     one IsPrefix h = prefix site takes
     one IsEnding h = ending site takes
     one _ h = absurd h

@@ -14,7 +14,7 @@ use Rattle.md_meaning.specs.Outline.{Entry, block_entries, entry, entry_of, outl
 use Rattle.md_meaning.specs.Texts.{first_byte}
 use Rattle.md_meaning.specs.Tree.{Block, Blocks, End, Item, More}
 use Rattle.md_seam.specs.Events.Spelled.{OpenContainer, AsDigits, AsFootnoteLabel, AsItemMarker, FootnoteShape, ContainerRole}
-use Rattle.md_seam.specs.Events.Spelled.{IsEnding, IsPrefix, IsQuiet, ItemShape, OrderedShape}
+use Rattle.md_seam.specs.Events.Spelled.{IsEnding, IsPrefix, IsQuiet, IsQuoteMarker, ItemShape, OrderedShape}
 use Rattle.md_seam.specs.Events.Spelled.{Reading, Shape, TextRole, Text, UnorderedShape, begun, block_around, byte_at}
 use Rattle.md_seam.specs.Events.Spelled.{columns_left, first_told, read_by, read_enter, text_to}
 use Rattle.md_seam.specs.Events.Spelled as spelled
@@ -28,10 +28,10 @@ use Rattle.md_outline.specs.declared.outline.role.Purpose.TheVariants as purpose
 use Rattle.md_outline.specs.declared.outline.role.Role.TheVariants as role
 use Rattle.md_outline.specs.declared.outline.TextSpan.{TextSpan}
 use Rattle.md_outline.proofs.ClosedTrees.{HasWord, HaveWords, depth_of, shown, shown-then, words-then}
-use Rattle.md_outline.proofs.FootnoteLemmas.{AwaitsLabel, awaits-label, label-ends}
+use Rattle.md_outline.proofs.FootnoteLemmas.{AwaitsLabel, awaits-given, awaits-label, label-ends}
 use Rattle.md_outline.proofs.OutlineAgrees.{Agrees, KnowsOpen, TextIs, agrees-begun, agrees-left, agrees-step, apart}
 use Rattle.md_outline.proofs.OutlineAgrees.{text-lines, text-stays}
-use Rattle.md_outline.proofs.RoleLemmas.{IsFresh, by-ending}
+use Rattle.md_outline.proofs.RoleLemmas.{IsFresh, by-ending, by-marker}
 
 -- The line of a list.
 
@@ -392,6 +392,12 @@ agrees-stage bytes AtLabel Exit IsEnding p s r h fresh k d may is = (
   agrees-step bytes Exit IsEnding p s r refl tt k d tt is.0,
   by-ending (λ now. AwaitsLabel now.outer now.here) bytes p r.text r is.1 is.1,
 )
+agrees-stage bytes AtLabel Enter IsQuoteMarker p s r h fresh k d may is = (
+  agrees-step bytes Enter IsQuoteMarker p s r refl tt k d tt is.0,
+  by-marker (λ now. AwaitsLabel now.outer now.here) bytes p r is.1
+      (λ kind. awaits-given kind r.outer r.here is.1),
+)
+agrees-stage bytes AtLabel Exit IsQuoteMarker p s r h fresh k d may is = is
 agrees-stage bytes AtLabel Enter IsQuiet p s r h fresh k d may is = is
 agrees-stage bytes AtLabel Exit IsQuiet p s r h fresh k d may is = is
 agrees-stage bytes AtLabel Enter (TextRole AsFootnoteLabel) p s r h fresh k d may is =

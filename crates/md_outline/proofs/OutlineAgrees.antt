@@ -1,5 +1,5 @@
 -- What an outline has read of some events agrees with what was read of the tree that they spell out.
-use Rattle.std.proofs.Common.{◌≡◌, ℕ, ◌+◌, ◌-◌, true, false, ◌||◌, not, List, [], ◌∷◌, ◌++◌, append_assoc}
+use Rattle.std.proofs.Common.{◌≡◌, ℕ, ◌+◌, ◌-◌, true, false, cond, ◌||◌, not, List, [], ◌∷◌, ◌++◌, append_assoc}
 use Rattle.std.proofs.Common.{slice_range, refl, sym, ◌∙◌, ap, subst}
 use Rattle.std.proofs.Common.{arith}
 use Rattle.std.specs.Prelude.{Option, Some, None, option_map}
@@ -7,24 +7,26 @@ use Rattle.std.proofs.lemmas.Bool.{and_parts}
 use Rattle.md_engine.specs.declared.event.Kind.{Kind}
 use Rattle.md_engine.specs.declared.event.Kind.TheVariants.{Enter, Exit}
 use Rattle.md_engine.specs.declared.event.Point.{Point}
+use Rattle.md_meaning.specs.declared.alert.AlertKind.{AlertKind}
 use Rattle.md_meaning.specs.declared.outline.Word.{Word}
 use Rattle.md_meaning.specs.declared.outline.Word.TheVariants as word
 use Rattle.md_meaning.specs.Outline.{Entry, block_entries}
 use Rattle.md_seam.specs.Events.Places.{last_line}
 use Rattle.md_meaning.specs.Rest.{is_blank}
 use Rattle.md_seam.specs.Events.Spelled.{OpenContainer, AsDigits, AsFootnoteLabel, AsHeading, AsItemMarker, AsMarkers}
-use Rattle.md_seam.specs.Events.Spelled.{FootnoteShape, ContainerRole, IsPrefix}
+use Rattle.md_seam.specs.Events.Spelled.{FootnoteShape, ContainerRole, IsPrefix, IsQuoteMarker}
 use Rattle.md_seam.specs.Events.Spelled.{OpenLeaf, LeafRole, Reading}
 use Rattle.md_seam.specs.Events.Spelled.{Shape, TextRole, Text}
 use Rattle.md_seam.specs.Events.Spelled.{after_prefix, at_ending, before_prefix, begun, block_around, block_of, byte_at}
 use Rattle.md_seam.specs.Events.Spelled.{columns_left}
 use Rattle.md_seam.specs.Events.Spelled.{finished, left, next_line, on_leaf, read_by, read_enter, read_exit}
-use Rattle.md_seam.specs.Events.Spelled.{named, on_shape, text_to}
+use Rattle.md_seam.specs.Events.Spelled.{is_before_blocks, kind_at, named, on_shape, text_to, with_kind}
 use Rattle.md_seam.specs.Events.Spelled as spelled
 use Rattle.md_meaning.specs.State.{then_block}
 use Rattle.md_meaning.specs.Texts.{split_lines}
-use Rattle.md_meaning.specs.Tree.{Block, End, Line}
+use Rattle.md_meaning.specs.Tree.{Block, Blocks, End, Line, More}
 use Rattle.md_seam.proofs.ThroughoutLemmas.{all-then}
+use Rattle.md_outline.specs.AlertState.{kind_given}
 use Rattle.md_outline.specs.FootnoteState.{container_lines}
 use Rattle.md_outline.specs.HeadingDepths.{are_shallow, fits}
 use Rattle.md_outline.specs.ListsBegin.{AllTold, MayFollow}
@@ -32,7 +34,7 @@ use Rattle.md_outline.specs.Outlined.{begins_line, is_unparted, parts_by}
 use Rattle.md_outline.specs.OutlineSteps.{OutlineState, head_marked, is_titled, leaf_ended, line_ended, parted_at}
 use Rattle.md_outline.specs.OutlineSteps.{state_by, state_enter, state_exit, title_told, told_at, told_leaf}
 use Rattle.md_outline.specs.DefinitionState.{part_word}
-use Rattle.md_outline.specs.OutlineSteps.{marked_at, piece_shown}
+use Rattle.md_outline.specs.OutlineSteps.{marked_at, marker_begun, piece_shown}
 use Rattle.md_outline.specs.ParagraphState.{begin_entries}
 use Rattle.md_seam.specs.Events.Told.{block_told}
 use Rattle.md_outline.specs.Roles.{is_plain, leaf_entries, noted, shown_as, told_as}
@@ -44,9 +46,10 @@ use Rattle.md_outline.specs.declared.outline.role.Purpose.TheVariants as purpose
 use Rattle.md_outline.specs.declared.outline.role.Role.{Role}
 use Rattle.md_outline.specs.declared.outline.role.Role.TheVariants as role
 use Rattle.md_outline.specs.declared.outline.TextSpan.{TextSpan}
+use Rattle.md_outline.proofs.AlertLemmas.{given-shown, kept-shown, kind-words}
 use Rattle.md_outline.proofs.HeadingLemmas.{fitted-same}
-use Rattle.md_outline.proofs.ClosedTrees.{HaveWords, StaysShown, depth_of, digits-stay, marker-stays, shown}
-use Rattle.md_outline.proofs.ClosedTrees.{shown-then, words-then}
+use Rattle.md_outline.proofs.ClosedTrees.{HaveWords, StaysShown, depth-renamed, depth_of, digits-stay, marker-stays}
+use Rattle.md_outline.proofs.ClosedTrees.{shown, shown-then, words-then}
 use Rattle.md_outline.proofs.RoleLemmas.{ByRole, IsBlock, IsFresh, IsShownBy, Knows, by-ending, by-role, knows-line}
 use Rattle.md_outline.proofs.RoleLemmas.{knows-noted, note-told}
 use Rattle.md_outline.proofs.TextPieces.{Pieces, pieces-from, pieces-last, pieces-next, pieces-none}
@@ -379,6 +382,56 @@ agrees-ending bytes p s r is =
     subst (λ lined. Agrees (line_ended bytes p.index lined s.text s) (at_ending bytes p r.text r)) (sym is.lined)
     (by-ending (Agrees s) bytes p r.text r is (agrees-line s r is))
 
+-- a marker of a quote begins: where nothing in the innermost container is read yet, it may give a quote its kind
+agrees-given : (bytes : List ℕ) (p : Point) (s : OutlineState) (r : Reading) (span : Option TextSpan)
+    (text : Option Text) (leaf : Option OpenLeaf) (here : Blocks) → s.text ≡ span → r.text ≡ text → r.here ≡ here →
+    TextIs (shown r.outer r.here) s.depth s.lines span text → Agrees s r →
+    Agrees (marker_begun bytes p.index span leaf None s)
+    (cond (is_before_blocks text leaf here)
+    (record r { outer = on_shape (with_kind (kind_at bytes p.index)) r.outer }) r)
+agrees-given bytes p s r None None None End span text here h is =
+    let kind : Option AlertKind = kind_at bytes p.index in
+    let outer : List OpenContainer = on_shape (with_kind kind) r.outer in
+    let lines : kind_given kind s.depth s.lines ≡ shown outer r.here =
+    ap (kind_given kind s.depth) h
+    ∙ ap (λ d. kind_given kind d (shown r.outer r.here)) is.depth
+    ∙ ap (λ b. kind_given kind (depth_of r.outer) (shown r.outer b)) here
+    ∙ sym (given-shown kind r.outer)
+    ∙ ap (shown outer) (sym here) in
+    record {
+      depth = is.depth ∙ sym (depth-renamed (with_kind kind) r.outer);
+      words = kind-words kind r.outer r.here is.words;
+      untold = is.untold;
+      lined = is.lined;
+      leaf = is.leaf;
+      known = is.known;
+      text =
+          subst (λ x. TextIs (shown outer r.here) s.depth (kind_given kind s.depth s.lines) x r.text) (sym span)
+          (subst (λ x. TextIs (shown outer r.here) s.depth (kind_given kind s.depth s.lines) None x) (sym text) lines);
+    }
+agrees-given bytes p s r None None None (More b bs) span text here h is =
+    let kind : Option AlertKind = kind_at bytes p.index in
+    let same : s.lines ≡ shown r.outer (More b bs) = h ∙ ap (shown r.outer) here in
+    let lines : kind_given kind s.depth s.lines ≡ s.lines =
+    ap (kind_given kind s.depth) same
+    ∙ ap (λ d. kind_given kind d (shown r.outer (More b bs))) is.depth
+    ∙ kept-shown kind r.outer b bs
+    ∙ sym same in
+    subst (λ all. Agrees (record s { lines = all }) r) (sym lines) is
+agrees-given bytes p s r None None (Some leaf) here span text e h is = is
+agrees-given bytes p s r (Some x) (Some y) leaf here span text e h is = is
+agrees-given bytes p s r None (Some y) leaf here span text e h is = absurd h
+agrees-given bytes p s r (Some x) None leaf here span text e h is = absurd h
+
+pub agrees-quote_marker : (bytes : List ℕ) (p : Point) (s : OutlineState) (r : Reading) → Agrees s r →
+    Agrees (state_enter bytes role.QuoteMarker p s) (read_enter bytes IsQuoteMarker p r)
+agrees-quote_marker bytes p s r is =
+    subst (λ lined. Agrees (marker_begun bytes p.index s.text s.leaf lined s) (read_enter bytes IsQuoteMarker p r))
+    (sym is.lined)
+    (subst (λ leaf. Agrees (marker_begun bytes p.index s.text leaf None s) (read_enter bytes IsQuoteMarker p r))
+    (sym is.leaf)
+    (agrees-given bytes p s r s.text r.text r.leaf r.here refl refl refl is.text is))
+
 -- What stands in no text that is parted.
 pub apart : (bytes : List ℕ) (kind : Kind) (x : spelled.Role) (p : Point) (span : Option TextSpan) →
     ((t : TextSpan) → parts_by bytes kind x p (Some t) ≡ not t.is_parted) → parts_by bytes kind x p span ≡ true →
@@ -460,6 +513,7 @@ agrees-enter bytes p = record {
   marker = λ fresh s r k is. agrees-begun p s r (apart bytes Enter (TextRole AsItemMarker) p s.text (λ t. refl) k) is;
   label = λ fresh s r k is. agrees-begun p s r (apart bytes Enter (TextRole AsFootnoteLabel) p s.text (λ t. refl) k) is;
   ending = λ fresh s r k is. is;
+  quote_marker = λ fresh s r k is. agrees-quote_marker bytes p s r is;
   quiet = λ fresh s r k is. is;
 }
 
@@ -496,6 +550,7 @@ agrees-exit bytes p = record {
       agrees-marker bytes p s r s.text r.text is.text (apart bytes Exit (TextRole AsItemMarker) p s.text (λ t. refl) k) is;
   label = λ may. absurd may;
   ending = λ may s r k d is. agrees-ending bytes p s r is;
+  quote_marker = λ may s r k d is. is;
   quiet = λ may s r k d is. is;
 }
 

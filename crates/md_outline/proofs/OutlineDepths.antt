@@ -7,11 +7,12 @@ use Rattle.md_engine.specs.declared.event.Kind.TheVariants.{Enter, Exit}
 use Rattle.md_engine.specs.declared.event.Name.{Name}
 use Rattle.md_engine.specs.declared.event.Point.{Point}
 use Rattle.md_seam.specs.Events.Nested.{Balanced, Fits, Matches, open_after, open_behind}
-use Rattle.md_seam.specs.Events.Spelled.{OpenContainer, ContainerRole, IsEnding, OpenLeaf, LeafRole, Purpose, Reading, Role, Shape, TextRole}
-use Rattle.md_seam.specs.Events.Spelled.{Text, finished, left, on_shape, read, read_by, read_enter, read_exit, role}
-use Rattle.md_seam.specs.Events.Spelled.{told_at, unread}
-use Rattle.md_outline.proofs.ClosedTrees.{depth_of}
-use Rattle.md_outline.proofs.RoleLemmas.{by-ending, by-told_at}
+use Rattle.md_seam.specs.Events.Spelled.{OpenContainer, ContainerRole, IsEnding, IsQuoteMarker, OpenLeaf, LeafRole}
+use Rattle.md_seam.specs.Events.Spelled.{Purpose, Reading, Role, TextRole}
+use Rattle.md_seam.specs.Events.Spelled.{Text, finished, left, read, read_by, read_enter, read_exit, role}
+use Rattle.md_seam.specs.Events.Spelled.{told_at, unread, with_kind}
+use Rattle.md_outline.proofs.ClosedTrees.{depth_of, depth-renamed}
+use Rattle.md_outline.proofs.RoleLemmas.{by-ending, by-marker, by-told_at}
 
 -- The containers that are open are those whose names are.
 
@@ -34,6 +35,9 @@ shallower-deeper _ n = refl
 depth-enter : (bytes : List ℕ) (x : Role) (p : Point) (r : Reading) →
     depth_of (read_enter bytes x p r).outer ≡ deeper x (depth_of r.outer)
 depth-enter bytes (ContainerRole shape) p r = refl
+depth-enter bytes IsQuoteMarker p r =
+    by-marker (λ now. depth_of now.outer ≡ depth_of r.outer) bytes p r refl
+    (λ kind. depth-renamed (with_kind kind) r.outer)
 depth-enter bytes _ p r = refl
 
 depth-left : (outer : List OpenContainer) (r : Reading) → r.outer ≡ outer → depth_of (left outer r).outer ≡ depth_of outer - 1
@@ -44,15 +48,11 @@ depth-finished : (leaf : Option OpenLeaf) (r : Reading) → depth_of (finished l
 depth-finished None r = refl
 depth-finished (Some leaf) r = refl
 
-depth-shape : (f : Shape → Shape) (outer : List OpenContainer) → depth_of (on_shape f outer) ≡ depth_of outer
-depth-shape f [] = refl
-depth-shape f (around ∷ outer) = refl
-
 depth-told : (bytes : List ℕ) (x : Purpose) (p : Point) (text : Option Text) (r : Reading) →
     depth_of (told_at bytes x p text r).outer ≡ depth_of r.outer
 depth-told bytes x p text r =
     by-told_at (λ now. depth_of now.outer ≡ depth_of r.outer) bytes x p text r refl
-    (record { block = λ b. refl; named = λ f. depth-shape f r.outer; noted = λ f. refl })
+    (record { block = λ b. refl; named = λ f. depth-renamed f r.outer; noted = λ f. refl })
 
 depth-exit : (bytes : List ℕ) (x : Role) (p : Point) (r : Reading) →
     depth_of (read_exit bytes x p r).outer ≡ shallower x (depth_of r.outer)

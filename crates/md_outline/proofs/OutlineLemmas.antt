@@ -49,6 +49,7 @@ use Rattle.md_outline.proofs.LinedLemmas.{span-fenced, span-headed, span-line}
 use Rattle.md_outline.proofs.LinedSteps.{AgreesWithin, agrees-site, sites-closed}
 use Rattle.md_outline.proofs.OutlineDepths.{all-closed}
 use Rattle.md_outline.proofs.RoleLemmas.{ByRole, by-role, role-fresh}
+use Rattle.md_outline.proofs.SiteTexts.{span-quoted}
 use Rattle.md_outline.proofs.TabledLemmas.{span-cell}
 use Rattle.md_outline.proofs.TextCuts.{utf8-part}
 
@@ -107,6 +108,7 @@ span-enter bytes p s = record {
   marker = refl;
   label = refl;
   ending = refl;
+  quote_marker = span-quoted bytes p.index s.text s.leaf s.lined s;
   quiet = refl;
 }
 
@@ -122,6 +124,7 @@ span-exit bytes p s = record {
   marker = span-told bytes purpose.Marker p.index s.text s refl;
   label = span-told bytes purpose.FootnoteLabel p.index s.text s refl;
   ending = span-line bytes p.index s.lined s.text s;
+  quote_marker = refl;
   quiet = refl;
 }
 
@@ -373,6 +376,7 @@ begins-step bytes Exit _ p span t k h = h
 cut-by : (y : Role) (bytes : List ℕ) (text : Option TextSpan) (end : ℕ) → IsUtf8 bytes → BeginsBetween bytes text →
     (not (is_seen y) || is_between bytes end) ≡ true → IsCutBy y bytes text end
 cut-by role.Ending bytes text end u begins h = tt
+cut-by role.QuoteMarker bytes text end u begins h = tt
 cut-by role.Quiet bytes text end u begins h = tt
 cut-by _ bytes text end u begins h = record { utf8 = u; begins = begins; ends = h }
 

@@ -7,12 +7,14 @@ use Rattle.std.proofs.lemmas.Bool.{true≢false}
 use Rattle.md_engine.specs.declared.event.Point.{Point}
 use Rattle.md_engine.specs.declared.event.Name.{Name}
 use Rattle.md_engine.specs.declared.event.Name.TheVariants as n
+use Rattle.md_meaning.specs.declared.alert.AlertKind.{AlertKind}
 use Rattle.md_meaning.specs.declared.outline.Word.{Word}
 use Rattle.md_meaning.specs.declared.outline.Word.TheVariants as word
 use Rattle.md_meaning.specs.Outline.{block_entries}
 use Rattle.md_seam.specs.Events.Spelled.{AsDigits, AsFootnoteLabel, AsHeading, AsItemMarker, AsMarkers, CodeLeaf}
 use Rattle.md_seam.specs.Events.Spelled.{FootnoteShape, ContainerRole, IsEnding}
-use Rattle.md_seam.specs.Events.Spelled.{IsPrefix, IsQuiet, LeafKind, OfCode, OfHeadingSetext, OfHtml, OpenLeaf}
+use Rattle.md_seam.specs.Events.Spelled.{IsPrefix, IsQuiet, IsQuoteMarker, LeafKind, OfCode, OfHeadingSetext, OfHtml}
+use Rattle.md_seam.specs.Events.Spelled.{OpenLeaf, QuoteShape, is_before_blocks, kind_at, read_enter, with_kind}
 use Rattle.md_seam.specs.Events.Spelled.{LeafRole, OrderedShape, Reading}
 use Rattle.md_seam.specs.Events.Spelled.{Shape, TextRole, Text, UnorderedShape, add_block, at_ending, block_around, fresh}
 use Rattle.md_seam.specs.Events.Spelled.{named, next_line, on_leaf, on_shape, spelled, text_to}
@@ -81,6 +83,7 @@ pub record ByRole (P : spelled.Role → Role → Type 0) : Type 0 where
   pub marker : P (TextRole AsItemMarker) (role.Text purpose.Marker)
   pub label : P (TextRole AsFootnoteLabel) (role.Text purpose.FootnoteLabel)
   pub ending : P IsEnding role.Ending
+  pub quote_marker : P IsQuoteMarker role.QuoteMarker
   pub quiet : P IsQuiet role.Quiet
 
 -- so it is known of all that are shown
@@ -88,6 +91,8 @@ pub by-role : (P : spelled.Role → Role → Type 0) (x : spelled.Role) → ByRo
 by-role P (ContainerRole OrderedShape) by h = absurd (cc)
 by-role P (ContainerRole UnorderedShape) by h = absurd (cc)
 by-role P (ContainerRole (FootnoteShape label)) by h = by.footnote label
+by-role P (ContainerRole (QuoteShape None)) by h = search (by.container)
+by-role P (ContainerRole (QuoteShape (Some kind))) by h = search (by.container)
 by-role P (ContainerRole _) by h = first_of (cc, search (by.container))
 by-role P IsPrefix by h = by.prefix
 by-role P (LeafRole OfCode) by h = absurd (cc)
@@ -101,6 +106,7 @@ by-role P (TextRole AsItemMarker) by h = by.marker
 by-role P (TextRole AsFootnoteLabel) by h = by.label
 by-role P (TextRole _) by h = first_of (cc, search (by.block))
 by-role P IsEnding by h = by.ending
+by-role P IsQuoteMarker by h = by.quote_marker
 by-role P IsQuiet by h = by.quiet
 by-role P _ by h = absurd (true≢false (sym h))
 
@@ -142,6 +148,16 @@ pub by-told_at : (P : Reading → Type 0) (bytes : List ℕ) (x : spelled.Purpos
 by-told_at P bytes x p None r none by = none
 by-told_at P bytes x p (Some text) r none by =
     by-told P x (record { spaces = text.spaces; text = text_to bytes p.index text }) (record r { text = None }) by
+
+-- and behind a marker of a quote, which may give it a kind,
+pub by-marker : (P : Reading → Type 0) (bytes : List ℕ) (p : Point) (r : Reading) → P r →
+    ((kind : Option AlertKind) → P (record r { outer = on_shape (with_kind kind) r.outer })) →
+    P (read_enter bytes IsQuoteMarker p r)
+by-marker P bytes p r same given = go (is_before_blocks r.text r.leaf r.here)
+  where
+    go : (x : Bool) → P (cond x (record r { outer = on_shape (with_kind (kind_at bytes p.index)) r.outer }) r)
+    go true = given (kind_at bytes p.index)
+    go false = same
 
 -- and behind a line ending, which may open a line of the leaf block
 pub by-ending : (P : Reading → Type 0) (bytes : List ℕ) (p : Point) (text : Option Text) (r : Reading) → P r →

@@ -1,16 +1,19 @@
 -- The text that is read in a leaf block whose lines an outline shows as they come: none, or one that has begun there.
-use Rattle.std.proofs.Common.{◌≡◌, ℕ, Bool, true, false, not, ◌&&◌, List, slice_range, refl, sym, ◌∙◌, ap, subst}
+use Rattle.std.proofs.Common.{◌≡◌, ℕ, Bool, true, false, cond, not, ◌&&◌, List, slice_range, refl, sym, ◌∙◌, ap}
+use Rattle.std.proofs.Common.{subst}
 use Rattle.std.specs.Prelude.{Option, Some, None, option_map}
 use Rattle.std.proofs.lemmas.Bool.{true≢false}
 use Rattle.md_engine.specs.declared.event.Kind.TheVariants.{Enter}
 use Rattle.md_engine.specs.declared.event.Point.{Point}
 use Rattle.md_meaning.specs.Outline.{Entry}
-use Rattle.md_seam.specs.Events.Spelled.{IsPrefix, LeafKind, LeafRole, Reading, Text, after_prefix, at_ending}
+use Rattle.md_seam.specs.Events.Spelled.{IsPrefix, IsQuoteMarker, LeafKind, LeafRole, OpenLeaf, Reading, Text}
+use Rattle.md_seam.specs.Events.Spelled.{after_prefix, at_ending, is_before_blocks, kind_at, on_shape, with_kind}
 use Rattle.md_seam.specs.Events.Spelled.{before_prefix, begun}
 use Rattle.md_seam.specs.Events.Spelled.{byte_at, columns_left, read_enter, read_exit}
 use Rattle.md_seam.specs.Events.Spelled as spelled
 use Rattle.md_outline.specs.Outlined.{parts_by}
-use Rattle.md_outline.specs.OutlineSteps.{OutlineState, line_ended, parted_at, state_enter, state_exit, told, told_at}
+use Rattle.md_outline.specs.OutlineSteps.{OutlineState, line_ended, marker_begun, parted_at, state_enter, state_exit}
+use Rattle.md_outline.specs.OutlineSteps.{told, told_at}
 use Rattle.md_outline.specs.Roles.{has_lines}
 use Rattle.md_outline.specs.declared.outline.TextSpan.{TextSpan}
 use Rattle.md_outline.specs.declared.outline.lined.Lined.{Lined}
@@ -116,3 +119,47 @@ prefix-exit P bytes p s r keeps is = (
       (option_map (after_prefix p) r.text) is.0,
   (ap (option_map (λ (t : TextSpan). record t { from = byte_at p })) is.1.0, ap (option_map (after_prefix p)) is.1.1),
 )
+
+-- Markers of quotes.
+
+-- the text that is read stays
+pub span-quoted : (bytes : List ℕ) (i : ℕ) (span : Option TextSpan) (leaf : Option OpenLeaf) (lined : Option Lined)
+    (s : OutlineState) → (marker_begun bytes i span leaf lined s).text ≡ s.text
+span-quoted bytes i None None None s = refl
+span-quoted bytes i _ _ _ s = refl
+
+-- a leaf block of several lines is open
+pub record IsOpen (s : OutlineState) (r : Reading) : Type 0 where
+  pub leaf : OpenLeaf
+  pub lined : Lined
+  pub read : r.leaf ≡ Some leaf
+  pub shows : s.lined ≡ Some lined
+
+-- in one they change nothing
+lined-quoted : (bytes : List ℕ) (i : ℕ) (span : Option TextSpan) (leaf : Option OpenLeaf) (lined : Lined)
+    (s : OutlineState) → marker_begun bytes i span leaf (Some lined) s ≡ s
+lined-quoted bytes i None None lined s = refl
+lined-quoted bytes i _ _ lined s = refl
+
+leaf-quoted : (bytes : List ℕ) (i : ℕ) (text : Option Text) (leaf : OpenLeaf) (r : Reading) →
+    cond (is_before_blocks text (Some leaf) r.here)
+    (record r { outer = on_shape (with_kind (kind_at bytes i)) r.outer }) r
+    ≡ r
+leaf-quoted bytes i None leaf r = refl
+leaf-quoted bytes i (Some text) leaf r = refl
+
+pub marker-within : (P : OutlineState → Reading → Type 0) (bytes : List ℕ) (p : Point) (s : OutlineState)
+    (r : Reading) → IsOpen s r → P s r → P (state_enter bytes role.QuoteMarker p s) (read_enter bytes IsQuoteMarker p r)
+marker-within P bytes p s r inside h =
+    let same : marker_begun bytes p.index s.text s.leaf s.lined s ≡ s =
+    ap (λ (x : Option Lined). marker_begun bytes p.index s.text s.leaf x s) inside.shows
+    ∙ lined-quoted bytes p.index s.text s.leaf inside.lined s in
+    let tree : read_enter bytes IsQuoteMarker p r ≡ r =
+    ap
+    (λ (x : Option OpenLeaf).
+    cond (is_before_blocks r.text x r.here) (record r { outer = on_shape (with_kind (kind_at bytes p.index)) r.outer })
+    r)
+    inside.read
+    ∙ leaf-quoted bytes p.index r.text inside.leaf r in
+    subst (λ (x : OutlineState). P x (read_enter bytes IsQuoteMarker p r)) (sym same)
+    (subst (λ (y : Reading). P s y) (sym tree) h)

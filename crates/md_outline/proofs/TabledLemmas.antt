@@ -12,10 +12,10 @@ use Rattle.md_meaning.specs.Outline.{Entry, block_entries, entry, entry_with, ro
 use Rattle.md_meaning.specs.Rest.{trim}
 use Rattle.md_meaning.specs.State.{then_block}
 use Rattle.md_meaning.specs.Tree.{Block, Line, Table}
-use Rattle.md_seam.specs.Events.Spelled.{AsCell, AsDelimiter, IsCell, IsEnding, IsPrefix, IsQuiet, IsRow, OfTable}
-use Rattle.md_seam.specs.Events.Spelled.{OpenLeaf, LeafRole, Reading, TableLeaf, TableSoFar, TextRole, at_cell, at_ending}
-use Rattle.md_seam.specs.Events.Spelled.{at_row, begun, byte_at, columns_left, finished, first_told, next_line, on_last}
-use Rattle.md_seam.specs.Events.Spelled.{on_leaf, read_by, read_enter}
+use Rattle.md_seam.specs.Events.Spelled.{AsCell, AsDelimiter, IsCell, IsEnding, IsPrefix, IsQuiet, IsQuoteMarker, IsRow}
+use Rattle.md_seam.specs.Events.Spelled.{OfTable, OpenLeaf, LeafRole, Reading, TableLeaf, TableSoFar, TextRole, at_cell}
+use Rattle.md_seam.specs.Events.Spelled.{at_ending, at_row, begun, byte_at, columns_left, finished, first_told}
+use Rattle.md_seam.specs.Events.Spelled.{next_line, on_last, on_leaf, read_by, read_enter}
 use Rattle.md_seam.specs.Events.Spelled as spelled
 use Rattle.md_outline.specs.LinedState.{now_told, with_head, without_end}
 use Rattle.md_outline.specs.OutlineSteps.{OutlineState, cell_begun, counted_at, line_ended, state_by, state_enter}
@@ -33,7 +33,8 @@ use Rattle.md_outline.proofs.ClosedTrees.{HaveWords, depth_of, shown, shown-then
 use Rattle.md_outline.proofs.LinedLines.{end-taken, head-told, on-last}
 use Rattle.md_outline.proofs.OutlineAgrees.{Agrees, TextIs, text-lines}
 use Rattle.md_outline.proofs.RoleLemmas.{by-ending}
-use Rattle.md_outline.proofs.SiteTexts.{Keeps, NoText, TextFrom, begins-texts, from-here, prefix-enter, prefix-exit}
+use Rattle.md_outline.proofs.SiteTexts.{IsOpen, Keeps, NoText, TextFrom, begins-texts, from-here, marker-within}
+use Rattle.md_outline.proofs.SiteTexts.{prefix-enter, prefix-exit}
 use Rattle.md_outline.proofs.SiteTexts.{text-ending, text-ends}
 
 -- What is known of one that is open, which has told its delimiter row or not, and of what was shown of it.
@@ -46,6 +47,15 @@ pub record Tabled (table : TableSoFar) (is_told : Bool) (lines : ℕ → List En
   leaf : s.leaf ≡ None
   lined : s.lined ≡ Some (record { place = length (shown r.outer r.here); is_fenced = is_told; form = form.Table })
   all : s.lines ≡ shown r.outer r.here ++ lines s.depth
+
+tabled-open : (table : TableSoFar) (is_told : Bool) (lines : ℕ → List Entry) (s : OutlineState) (r : Reading) →
+    Tabled table is_told lines s r → IsOpen s r
+tabled-open table is_told lines s r is = record {
+  leaf = TableLeaf table;
+  lined = record { place = length (shown r.outer r.here); is_fenced = is_told; form = form.Table };
+  read = is.opened;
+  shows = is.lined;
+}
 
 -- whatever text is read
 tabled-keeps : (table : TableSoFar) (is_told : Bool) (lines : ℕ → List Entry) → Keeps (Tabled table is_told lines)
@@ -129,6 +139,24 @@ AgreesSpot (BehindCell row) s r = Filled row s r × NoText s r
 AgreesSpot BehindHead s r = Filled HeadRow s r × NoText s r
 AgreesSpot InDelimiter s r = Filled HeadRow s r × ((q : Point) × TextFrom q s r)
 AgreesSpot BehindRow s r = Rows s r × NoText s r
+
+-- at each the table is open
+row-open : (row : Row) (cells : List (List ℕ)) (s : OutlineState) (r : Reading) → OnRow row cells s r → IsOpen s r
+row-open HeadRow cells s r is =
+    tabled-open (grid [] (cells ∷ [])) false (head_lines (length cells) cells) s r is
+row-open BodyRow cells s r is =
+    tabled-open (grid is.0 (is.1 ∷ (is.2 ++ cells ∷ []))) true (all_lines is.0 (is.1 ∷ (is.2 ++ cells ∷ []))) s r is.3
+
+spot-open : (spot : TablePlace) (s : OutlineState) (r : Reading) → AgreesSpot spot s r → IsOpen s r
+spot-open AtHead s r is = tabled-open (grid [] []) false (λ depth. entry depth (word.Table 0) ∷ []) s r is.0
+spot-open (InRow row) s r is = row-open row is.0.0 s r is.0.1
+spot-open (AtCell row) s r is = row-open row (is.0.0 ++ [] ∷ []) s r is.0.1
+spot-open (InCell row) s r is = row-open row (is.0.0 ++ [] ∷ []) s r is.0.1
+spot-open (BehindCell row) s r is = row-open row is.0.0 s r is.0.1
+spot-open BehindHead s r is = row-open HeadRow is.0.0 s r is.0.1
+spot-open InDelimiter s r is = row-open HeadRow is.0.0 s r is.0.1
+spot-open BehindRow s r is =
+    tabled-open (grid is.0.0 (is.0.1 ∷ is.0.2)) true (all_lines is.0.0 (is.0.1 ∷ is.0.2)) s r is.0.3
 
 -- and behind an event there
 abbrev pub AgreesBehind : Option TablePlace → OutlineState → Reading → Type 0
@@ -533,4 +561,7 @@ agrees-spot bytes BehindRow Enter IsRow p s r may is = (([], further-begins s r 
 agrees-spot bytes BehindRow Exit (LeafRole OfTable) p s r may is = table-ends s r is.0 is.1
 agrees-spot bytes _ Enter IsQuiet p s r may is = is
 agrees-spot bytes _ Exit IsQuiet p s r may is = is
+agrees-spot bytes spot Enter IsQuoteMarker p s r may is =
+    marker-within (AgreesSpot spot) bytes p s r (spot-open spot s r is) is
+agrees-spot bytes _ Exit IsQuoteMarker p s r may is = is
 agrees-spot bytes _ _ _ p s r may is = absurd may

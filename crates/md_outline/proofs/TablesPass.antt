@@ -5,13 +5,14 @@ use Rattle.md_engine.specs.declared.event.Kind.TheVariants.{Enter, Exit}
 use Rattle.md_engine.specs.declared.event.Name.{Name}
 use Rattle.md_engine.specs.declared.event.Point.{Point}
 use Rattle.md_seam.specs.Events.Nested.{around}
-use Rattle.md_seam.specs.Events.Spelled.{AsCell, AsDelimiter, IsCell, IsEnding, IsPrefix, IsQuiet, IsRow, OfTable, LeafRole}
-use Rattle.md_seam.specs.Events.Spelled.{Role, TextRole, role}
+use Rattle.md_seam.specs.Events.Spelled.{AsCell, AsDelimiter, IsCell, IsEnding, IsPrefix, IsQuiet, IsQuoteMarker, IsRow}
+use Rattle.md_seam.specs.Events.Spelled.{OfTable, LeafRole, Role, TextRole, role}
 use Rattle.md_seam.proofs.SpelledLemmas.{Between, Quiet, Roles}
 use Rattle.md_outline.specs.LinesStand.{InTable, Outside}
 use Rattle.md_outline.specs.TablePlaces.{AtCell, AtHead, BehindCell, BehindHead, BehindRow, BodyRow, HeadRow, InCell}
 use Rattle.md_outline.specs.TablePlaces.{InDelimiter, InRow, Row, TablePlace}
-use Rattle.md_outline.proofs.LinesPass.{Keeps, Passes, keeps-quiet, passes-around, passes-by, passes-quiet}
+use Rattle.md_outline.proofs.LinesPass.{Keeps, Passes, keeps-quiet, keeps-quote_marker, passes-around, passes-by}
+use Rattle.md_outline.proofs.LinesPass.{passes-quiet}
 
 -- events that go from a spot to a spot
 abbrev pub PassesIn : List ℕ → TablePlace → TablePlace → List Event → Type 0
@@ -54,6 +55,7 @@ passes-between_rows bytes spot es between h = passes-by bytes Between (InTable s
 
     one : (x : Role) → Between x → Keeps bytes (InTable spot) x
     one IsQuiet h = keeps-quiet bytes (InTable spot)
+    one IsQuoteMarker h = keeps-quote_marker bytes (InTable spot)
     one IsPrefix h = prefix spot between
     one IsEnding h = ending spot between
     one _ h = absurd h

@@ -33,7 +33,7 @@ use Rattle.md_outline.proofs.ClosedTrees.{HaveWords, depth_of, shown, shown-then
 use Rattle.md_outline.proofs.LinedLines.{head-told}
 use Rattle.md_outline.proofs.OutlineAgrees.{Agrees, TextIs, text-lines}
 use Rattle.md_outline.proofs.RoleLemmas.{by-ending}
-use Rattle.md_outline.proofs.SiteTexts.{Keeps, NoText, TextFrom, begins-texts, text-ends}
+use Rattle.md_outline.proofs.SiteTexts.{IsOpen, Keeps, NoText, TextFrom, begins-texts, text-ends}
 use Rattle.md_outline.proofs.TextPieces.{Pieces, begun_by, pieces-last, pieces-next}
 
 -- What is known of one that is open, which has told its markers or not.
@@ -49,6 +49,19 @@ pub record Titled (heading : HeadingSoFar) (marked : Bool) (s : OutlineState) (r
 pub record Headed (level : ℕ) (heading : HeadingSoFar) (marked : Bool) (s : OutlineState) (r : Reading) : Type 0 where
   is : Titled heading marked s r
   all : s.lines ≡ shown r.outer r.here ++ block_entries s.depth (Heading level heading.text)
+
+pub titled-open : (heading : HeadingSoFar) (marked : Bool) (s : OutlineState) (r : Reading) →
+    Titled heading marked s r → IsOpen s r
+titled-open heading marked s r is = record {
+  leaf = HeadingSetextLeaf heading;
+  lined = record { place = length (shown r.outer r.here); is_fenced = marked; form = form.Heading };
+  read = is.opened;
+  shows = is.lined;
+}
+
+pub headed-open : (level : ℕ) (heading : HeadingSoFar) (marked : Bool) (s : OutlineState) (r : Reading) →
+    Headed level heading marked s r → IsOpen s r
+headed-open level heading marked s r h = titled-open heading marked s r h.is
 
 -- whatever text is read
 titled-keeps : (heading : HeadingSoFar) (marked : Bool) → Keeps (Titled heading marked)

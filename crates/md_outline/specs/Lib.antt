@@ -1,3 +1,4 @@
+pub mod AlertState
 pub mod Between
 pub mod DefinitionState
 pub mod FootnoteState

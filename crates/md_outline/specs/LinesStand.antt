@@ -2,7 +2,8 @@
 -- piece of text a line at the most. Frontmatter is such a leaf block, with the parts of fenced code but `info` and
 -- `meta`. So are setext headings and definitions, of whose texts each line is one piece, and tables (`TableSpots`);
 -- what is asked of an ATX heading is that container prefixes stand in front of its text or behind it. A line ending in a
--- text that an inline layer reads is a part of it, and may stand anywhere there.
+-- text that an inline layer reads is a part of it, and may stand anywhere there. A marker of a quote may be anywhere;
+-- in a leaf block it changes nothing.
 --
 -- A walk over the events by their roles, which knows where in such a leaf block it is.
 use Rattle.std.specs.Prelude.{◌≡◌, ◌==◌, ℕ, true, false, if◌then◌else◌, nat_lt, List, [], ◌∷◌, length, slice_range}
@@ -16,9 +17,9 @@ use Rattle.md_meaning.specs.Lines.{is_ending}
 use Rattle.md_meaning.specs.Texts.{first_byte}
 use Rattle.md_seam.specs.Events.Spelled.{AsCell, AsDelimiter, AsDestination, AsHeading, AsInfo, AsLabel, AsLine}
 use Rattle.md_seam.specs.Events.Spelled.{AsMarkers, AsMeta, AsTitle, IsCell, IsEnding, IsFence, IsPrefix, IsQuiet}
-use Rattle.md_seam.specs.Events.Spelled.{IsRow, IsTitle, LeafKind, OfCode, OfDefinition, OfFence, OfFrontmatter}
-use Rattle.md_seam.specs.Events.Spelled.{OfHeadingSetext, OfHtml, OfMath, OfTable, LeafRole, Purpose, Role, TextRole}
-use Rattle.md_seam.specs.Events.Spelled.{byte_at, role}
+use Rattle.md_seam.specs.Events.Spelled.{IsQuoteMarker, IsRow, IsTitle, LeafKind, OfCode, OfDefinition, OfFence}
+use Rattle.md_seam.specs.Events.Spelled.{OfFrontmatter, OfHeadingSetext, OfHtml, OfMath, OfTable, LeafRole, Purpose}
+use Rattle.md_seam.specs.Events.Spelled.{Role, TextRole, byte_at, role}
 use Rattle.md_outline.specs.TablePlaces.{AtHead, MayBe, TablePlace, spot_by}
 
 -- The parts of a definition that may have several lines.
@@ -218,6 +219,7 @@ MayStand bytes Outside kind (TextRole AsDelimiter) p = ⊥
 MayStand bytes Outside kind x p = Unit {0}
 MayStand bytes (InTable spot) kind x p = MayBe spot kind x
 MayStand bytes site kind IsQuiet p = Unit {0}
+MayStand bytes site kind IsQuoteMarker p = Unit {0}
 MayStand bytes (AtMarkers kind) Enter IsFence p = Unit {0}
 MayStand bytes (AtMarkers kind) Enter (TextRole AsMarkers) p = Unit {0}
 MayStand bytes (InMarkers kind q) Exit (TextRole AsMarkers) p =

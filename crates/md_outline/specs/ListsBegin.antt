@@ -12,7 +12,7 @@ use Rattle.md_engine.specs.declared.event.Point.{Point}
 use Rattle.md_meaning.specs.Containers.{is_bullet}
 use Rattle.md_meaning.specs.Texts.{first_byte}
 use Rattle.md_seam.specs.Events.Spelled.{AsDigits, AsFootnoteLabel, AsItemMarker, FootnoteShape, ContainerRole, IsEnding}
-use Rattle.md_seam.specs.Events.Spelled.{IsPrefix, IsQuiet, ItemShape, OrderedShape, Role, Shape}
+use Rattle.md_seam.specs.Events.Spelled.{IsPrefix, IsQuiet, IsQuoteMarker, ItemShape, OrderedShape, Role, Shape}
 use Rattle.md_seam.specs.Events.Spelled.{TextRole, UnorderedShape, byte_at, is_ordered, role}
 
 -- whether a byte is the marker of items of such a list (CommonMark 5.2)
@@ -51,6 +51,7 @@ MayFollow bytes (InMarker shape q) _ _ p = ⊥
 MayFollow bytes AtLabel kind IsPrefix p = Unit {0}
 MayFollow bytes AtLabel kind IsEnding p = Unit {0}
 MayFollow bytes AtLabel kind IsQuiet p = Unit {0}
+MayFollow bytes AtLabel kind IsQuoteMarker p = Unit {0}
 MayFollow bytes AtLabel kind (TextRole AsFootnoteLabel) p = Unit {0}
 MayFollow bytes AtLabel _ _ p = ⊥
 

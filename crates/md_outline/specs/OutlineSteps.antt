@@ -10,8 +10,9 @@ use Rattle.md_meaning.specs.Outline.{Entry, entries_of, entry, entry_with}
 use Rattle.md_meaning.specs.Texts.{first_byte}
 use Rattle.md_meaning.specs.declared.outline.Word.{Word}
 use Rattle.md_meaning.specs.declared.outline.Word.TheVariants as word
-use Rattle.md_seam.specs.Events.Spelled.{OpenLeaf}
+use Rattle.md_seam.specs.Events.Spelled.{OpenLeaf, kind_at}
 use Rattle.md_seam.specs.Events.Spelled as spelled
+use Rattle.md_outline.specs.AlertState.{kind_given}
 use Rattle.md_outline.specs.Between.{is_between}
 use Rattle.md_outline.specs.DefinitionState.{destination_told, part_ended, part_parted, part_word}
 use Rattle.md_outline.specs.FootnoteState.{container_lines, label_told}
@@ -179,6 +180,11 @@ parted_at bytes end (Some text) s = record s {
       (slice_range bytes text.from end) s.lines;
 }
 
+-- a marker of a quote begins: where no text is read and no leaf block is open, it may give the quote its kind
+abbrev pub marker_begun : List ℕ → ℕ → Option TextSpan → Option OpenLeaf → Option Lined → OutlineState → OutlineState
+marker_begun bytes index None None None s = record s { lines = kind_given (kind_at bytes index) s.depth s.lines }
+marker_begun bytes index text leaf lined s = s
+
 abbrev pub state_enter : List ℕ → Role → Point → OutlineState → OutlineState
 state_enter bytes (role.Container word) p s = record s {
   depth = s.depth + 1;
@@ -206,6 +212,7 @@ state_enter bytes (role.Text purpose) p s = record s {
   spaces = spelled.columns_left p;
 }
 state_enter bytes role.Ending p s = s
+state_enter bytes role.QuoteMarker p s = marker_begun bytes p.index s.text s.leaf s.lined s
 state_enter bytes role.Quiet p s = s
 
 abbrev pub state_exit : List ℕ → Role → Point → OutlineState → OutlineState
@@ -223,6 +230,7 @@ state_exit bytes role.Row p s = s
 state_exit bytes role.Cell p s = s
 state_exit bytes role.Ending p s = line_ended bytes p.index s.lined s.text s
 state_exit bytes (role.Text purpose) p s = told_at bytes purpose p.index s.text s
+state_exit bytes role.QuoteMarker p s = s
 state_exit bytes role.Quiet p s = s
 
 abbrev pub state_by : List ℕ → Kind → Role → Point → OutlineState → OutlineState
@@ -247,5 +255,6 @@ pub record IsCutAt (bytes : List ℕ) (text : Option TextSpan) (end : ℕ) : Typ
 -- where the tree reads the point of an event, it may
 abbrev pub IsCutBy : Role → List ℕ → Option TextSpan → ℕ → Type 0
 IsCutBy role.Ending bytes text end = Unit {0}
+IsCutBy role.QuoteMarker bytes text end = Unit {0}
 IsCutBy role.Quiet bytes text end = Unit {0}
 IsCutBy _ bytes text end = IsCutAt bytes text end

@@ -13,7 +13,8 @@ use Rattle.md_seam.specs.Events.Nested.{Balanced}
 use Rattle.md_meaning.specs.Outline.{entries_of, outline}
 use Rattle.md_seam.specs.Events.Places.{last_line}
 use Rattle.md_meaning.specs.Rest.{is_blank}
-use Rattle.md_seam.specs.Events.Spelled.{IsEnding, IsPrefix, IsQuiet, LeafRole, Role, TextRole, byte_at, role, spelled}
+use Rattle.md_seam.specs.Events.Spelled.{IsEnding, IsPrefix, IsQuiet, IsQuoteMarker, LeafRole, Role, TextRole, byte_at}
+use Rattle.md_seam.specs.Events.Spelled.{role, spelled}
 use Rattle.md_meaning.specs.Texts.{split_lines}
 use Rattle.md_outline.specs.Between.{is_between}
 use Rattle.md_outline.specs.HeadingDepths.{are_shallow}
@@ -83,6 +84,7 @@ abbrev pub parts_enter : List ℕ → Role → Point → TextSpan → Bool
 parts_enter bytes IsPrefix p text =
     begins_line text (piece_to bytes p text) && is_blank (last_line (split_lines (piece_to bytes p text)))
 parts_enter bytes IsEnding p text = true
+parts_enter bytes IsQuoteMarker p text = true
 parts_enter bytes IsQuiet p text = true
 parts_enter bytes (LeafRole kind) p text = not (has_lines kind) && not text.is_parted
 parts_enter bytes _ p text = not text.is_parted
@@ -91,6 +93,7 @@ abbrev pub parts_exit : List ℕ → Role → Point → TextSpan → Bool
 parts_exit bytes IsPrefix p text = is_between bytes (byte_at p)
 parts_exit bytes (TextRole x) p text = if may_part x then begins_line text (piece_to bytes p text) else not text.is_parted
 parts_exit bytes IsEnding p text = true
+parts_exit bytes IsQuoteMarker p text = true
 parts_exit bytes IsQuiet p text = true
 parts_exit bytes _ p text = not text.is_parted
 

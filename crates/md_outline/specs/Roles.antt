@@ -6,7 +6,8 @@
 -- - A container that is shown by a word: `is_plain` and `shown_as` here, `role_of` in code.
 --   A list is shown with the marker of its first item, which its line is told later: so it is `is_shown` alone, and has
 --   `mark` in code, and `ListsBegin` and `ListLemmas`. A footnote definition is shown with its label, whose line is
---   told its text later: so it has `FootnoteState`, a stage of `ListsBegin`, and `FootnoteLemmas`.
+--   told its text later: so it has `FootnoteState`, a stage of `ListsBegin`, and `FootnoteLemmas`. A quote is shown
+--   with its kind, which a marker in front of its blocks gives it: so it has `AlertState` and `AlertLemmas`.
 -- - A leaf block: the same, and what is known of it: `leaf_of` and `is_known` here, `Leaf` with `noted` and `push_leaf`
 --   in code.
 -- - A leaf block of several lines (`has_lines`): `is_unlisted` and `shown_as` here, `role_of` in code; its lines are
@@ -18,14 +19,14 @@
 -- - A text that tells a leaf block something: the same, and `told_as` here, `Note` in code.
 use Rattle.std.specs.Prelude.{ℕ, Bool, true, false, List, None}
 use Rattle.md_meaning.specs.declared.outline.Word.TheVariants as word
-use Rattle.md_meaning.specs.Outline.{Entry, block_entries}
+use Rattle.md_meaning.specs.Outline.{Entry, block_entries, quote_word}
 use Rattle.md_seam.specs.Events.Spelled.{AsCell, AsDelimiter, AsDestination, AsDigits, AsFootnoteLabel, AsHeading}
 use Rattle.md_seam.specs.Events.Spelled.{AsInfo, AsItemMarker}
 use Rattle.md_seam.specs.Events.Spelled.{AsLabel, AsLine, AsMarkers, AsMeta, AsParagraph, AsTitle, BreakLeaf}
 use Rattle.md_seam.specs.Events.Spelled.{FootnoteShape, HeadingAtxLeaf, ContainerRole, IsCell, IsEnding, IsFence, IsPrefix}
-use Rattle.md_seam.specs.Events.Spelled.{IsQuiet, IsRow, IsTitle, ItemShape, LeafKind, OfBreak, OfCode, OfDefinition}
-use Rattle.md_seam.specs.Events.Spelled.{OfFence, OfFrontmatter, OfHeadingAtx, OfHeadingSetext, OfHtml, OfMath, OfTable}
-use Rattle.md_seam.specs.Events.Spelled.{OpenLeaf, LeafRole, OrderedShape, QuoteShape}
+use Rattle.md_seam.specs.Events.Spelled.{IsQuiet, IsQuoteMarker, IsRow, IsTitle, ItemShape, LeafKind, OfBreak, OfCode}
+use Rattle.md_seam.specs.Events.Spelled.{OfDefinition, OfFence, OfFrontmatter, OfHeadingAtx, OfHeadingSetext, OfHtml}
+use Rattle.md_seam.specs.Events.Spelled.{OfMath, OfTable, OpenLeaf, LeafRole, OrderedShape, QuoteShape}
 use Rattle.md_seam.specs.Events.Spelled.{TextRole, UnorderedShape, block_of}
 use Rattle.md_seam.specs.Events.Spelled as spelled
 use Rattle.md_seam.specs.Events.Told.{OfItself, told_of}
@@ -43,7 +44,7 @@ use Rattle.md_outline.specs.declared.outline.role.Role.TheVariants as role
 -- the roles of breaks, ATX headings without their texts, paragraphs, block quotes, items and footnote definitions, and
 -- of what the tree does not show
 abbrev pub is_plain : spelled.Role → Bool
-is_plain (ContainerRole QuoteShape) = true
+is_plain (ContainerRole (QuoteShape kind)) = true
 is_plain (ContainerRole (ItemShape marker digits)) = true
 is_plain (ContainerRole (FootnoteShape label)) = true
 is_plain IsPrefix = true
@@ -55,6 +56,7 @@ is_plain (TextRole AsDigits) = true
 is_plain (TextRole AsItemMarker) = true
 is_plain (TextRole AsFootnoteLabel) = true
 is_plain IsEnding = true
+is_plain IsQuoteMarker = true
 is_plain IsQuiet = true
 is_plain _ = false
 
@@ -121,7 +123,7 @@ may_part purpose = is_block purpose
 
 -- what the events of a name mean to an outline
 abbrev pub shown_as : spelled.Role → Role
-shown_as (ContainerRole QuoteShape) = role.Container word.Quote
+shown_as (ContainerRole (QuoteShape kind)) = role.Container (quote_word kind)
 shown_as (ContainerRole OrderedShape) = role.List
 shown_as (ContainerRole UnorderedShape) = role.List
 shown_as (ContainerRole (ItemShape marker digits)) = role.Container word.Item
@@ -156,11 +158,14 @@ shown_as (TextRole AsTitle) = role.Text purpose.DefinitionTitle
 shown_as (TextRole AsCell) = role.Text purpose.Cell
 shown_as (TextRole AsDelimiter) = role.Text purpose.Delimiter
 shown_as IsEnding = role.Ending
+shown_as IsQuoteMarker = role.QuoteMarker
 shown_as _ = role.Quiet
 
--- whether the tree reads the point of such an event: not that of a line ending, nor of what it does not show
+-- whether the tree cuts a text at the point of such an event: not at that of a line ending or of a marker of a quote,
+-- nor of what it does not show
 abbrev pub is_seen : Role → Bool
 is_seen role.Ending = false
+is_seen role.QuoteMarker = false
 is_seen role.Quiet = false
 is_seen _ = true
 

@@ -6,8 +6,8 @@
 use Rattle.std.specs.Prelude.{Option, Some, None}
 use Rattle.md_engine.specs.declared.event.Kind.{Kind}
 use Rattle.md_engine.specs.declared.event.Kind.TheVariants.{Enter, Exit}
-use Rattle.md_seam.specs.Events.Spelled.{AsCell, AsDelimiter, ContainerRole, IsCell, IsEnding, IsPrefix, IsQuiet, IsRow}
-use Rattle.md_seam.specs.Events.Spelled.{OfTable, LeafRole, Role, TextRole}
+use Rattle.md_seam.specs.Events.Spelled.{AsCell, AsDelimiter, ContainerRole, IsCell, IsEnding, IsPrefix, IsQuiet}
+use Rattle.md_seam.specs.Events.Spelled.{IsQuoteMarker, IsRow, OfTable, LeafRole, Role, TextRole}
 
 -- The rows of a table that have cells.
 pub data Row : Type 0 where
@@ -37,6 +37,7 @@ behind_row BodyRow = BehindRow
 -- where one is behind an event, if still in the table
 abbrev pub spot_by : TablePlace → Kind → Role → Option TablePlace
 spot_by spot kind IsQuiet = Some spot
+spot_by spot kind IsQuoteMarker = Some spot
 spot_by AtHead Enter IsRow = Some (InRow HeadRow)
 spot_by (InRow row) Enter IsCell = Some (AtCell row)
 spot_by (InRow row) Exit IsRow = Some (behind_row row)
@@ -53,6 +54,7 @@ spot_by spot kind x = Some spot
 -- what may stand there; no container begins or ends in a table
 abbrev pub MayBe : TablePlace → Kind → Role → Type 0
 MayBe spot kind IsQuiet = Unit {0}
+MayBe spot kind IsQuoteMarker = Unit {0}
 MayBe spot kind (ContainerRole shape) = ⊥
 MayBe AtHead Enter IsRow = Unit {0}
 MayBe (InRow row) Enter IsCell = Unit {0}

@@ -8,12 +8,13 @@ ghost use Rattle.md_outline.specs.DefinitionState.{part_word};
 ghost use Rattle.md_outline.specs.LinedState.{shown_spaces};
 ghost use Rattle.md_outline.specs.OutlineSteps.{IsCutAt, IsCutBy, cell_begun, counted_at, delimiter_ended};
 ghost use Rattle.md_outline.specs.OutlineSteps.{fence_begun};
-ghost use Rattle.md_outline.specs.OutlineSteps.{head_marked, is_titled, label_ended, leaf_ended};
+ghost use Rattle.md_outline.specs.OutlineSteps.{head_marked, is_titled, label_ended, leaf_ended, marker_begun};
 ghost use Rattle.md_outline.specs.OutlineSteps.{line_ended, parted_at, state_by, state_enter, state_exit, state_of};
 ghost use Rattle.md_outline.specs.OutlineSteps.{title_told, told_at, told_leaf, told_marker};
 ghost use Rattle.md_outline.specs.Roles.{shown_as};
 ghost use Rattle.md_outline.specs.declared.outline.TextSpan.{TextSpan};
 
+mod alert;
 mod definition;
 mod footnote;
 mod heading;
@@ -23,6 +24,7 @@ mod paragraph;
 mod role;
 mod table;
 
+use crate::outline::alert::{give_kind, kind_at};
 use crate::outline::definition::{fill_destination, part_of, push_part_end, push_part_piece};
 use crate::outline::footnote::{fill_label, push_container};
 use crate::outline::lined::{
@@ -35,6 +37,7 @@ use crate::outline::table::{count_column, fill_cell, push_cell, push_delimiter, 
 use md_engine::event::{Event, Kind, Point};
 use md_engine::message::Message;
 use md_engine::parse_state::ParseState;
+pub use md_meaning::alert::AlertKind;
 pub use md_meaning::outline::{OutlineLine, Word};
 use std::alloc::Global;
 
@@ -341,6 +344,20 @@ impl<'a> Reading<'a> {
         }
     }
 
+    /// Reads the begin of a marker of a quote. It may give the quote its kind as long as nothing in the quote is shown:
+    /// then the line of the quote is the last.
+    fn begin_marker(&mut self, index: usize)
+        ensures bytes { self.new.bytes ≡ self.old.bytes }
+        ensures read { state_of self.new ≡ marker_begun self.old.bytes.now index
+            self.old.text (state_of self.old).leaf self.old.lined (state_of self.old) }
+    {
+        if let (None, None, None) = (self.text, self.leaf, self.lined) {
+            if let Some(kind) = kind_at(self.bytes, index) {
+                give_kind(&mut self.lines, self.depth, kind);
+            }
+        }
+    }
+
     /// Reads an event that begins a part.
     fn enter(&mut self, role: Role<'a>, point: Point) -> Result<(), Message>
         ensures bytes { self.new.bytes ≡ self.old.bytes }
@@ -379,6 +396,7 @@ impl<'a> Reading<'a> {
                     is_parted: false,
                 });
             }
+            Role::QuoteMarker => self.begin_marker(point.index),
             Role::Ending | Role::Quiet => {}
         }
         Ok(())
@@ -406,7 +424,8 @@ impl<'a> Reading<'a> {
             }
             Role::Ending => self.end_line(point.index),
             Role::Text(purpose) => self.end_text(purpose, point.index),
-            Role::Fence | Role::Title | Role::Row | Role::Cell | Role::Quiet => Ok(()),
+            Role::Fence | Role::Title | Role::Row | Role::Cell | Role::QuoteMarker | Role::Quiet =>
+                Ok(()),
         }
     }
 

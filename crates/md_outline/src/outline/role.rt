@@ -82,6 +82,8 @@ pub enum Role<'a> {
     Cell,
     /// A line ending, which may open a line of one.
     Ending,
+    /// A marker of a quote, which may give it a kind.
+    QuoteMarker,
     Text(Purpose),
     Quiet,
 }
@@ -93,6 +95,7 @@ pub fn role_of<'a>(name: Name) -> Role<'a>
 {
     match name {
         Name::BlockQuote => Role::Container(Word::Quote),
+        Name::BlockQuoteMarker => Role::QuoteMarker,
         Name::BlockQuotePrefix => Role::Prefix,
         Name::ListOrdered | Name::ListUnordered => Role::List,
         Name::ListItem => Role::Container(Word::Item),
