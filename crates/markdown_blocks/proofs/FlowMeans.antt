@@ -20,7 +20,6 @@ use Rattle.md_engine.specs.World.{Setting, World, closed, looks}
 use Rattle.md_engine.specs.Sees.{Sees, ahead}
 use Rattle.md_engine.proofs.StepOf.{outermost-frames, sees, steps-as}
 use Rattle.md_content.proofs.ContentMeaning.{chunk_means}
-use Rattle.md_leaves.specs.Blank as blank
 use Rattle.md_leaves.proofs.BlankMeaning.{blank_means}
 use Rattle.md_seam.specs.Transition.{Transition}
 use Rattle.md_seam.proofs.SpacesTermination.{does-stands}

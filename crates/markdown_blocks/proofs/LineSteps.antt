@@ -12,12 +12,10 @@ use Rattle.md_meaning.specs.Containers.{Taken, continues, opens}
 use Rattle.md_meaning.specs.Leaves.{LeafResult, LazyText, NoText, Opened, goes_on, starts, underline_depth, with_line}
 use Rattle.md_meaning.specs.Rest.{Rest, is_blank}
 use Rattle.md_meaning.specs.State.{At, Container, ParagraphLine, Leaf, NoLeaf, OpenParagraph, Path, Innermost, Within}
-use Rattle.md_meaning.specs.State.{at_spot}
-use Rattle.md_meaning.specs.State.{closed, container_block, kept, shut, spot, texts, then_block, then_leaf}
+use Rattle.md_meaning.specs.State.{at_spot, closed, container_block, kept, shut, spot, texts, then_block, then_leaf}
 use Rattle.md_meaning.specs.Step.{all_continued, all_continued_by, came, entered, fresh_by, fresh_line, is_concrete}
 use Rattle.md_meaning.specs.Step.{is_open_text, lazy_by, leaf_line, leaf_line_by, on_or_fresh, opened, spot_of, step}
-use Rattle.md_meaning.specs.Step.{stopped, stopped_by}
-use Rattle.md_meaning.specs.Step.{text_line, underline_or_text, with_lazy}
+use Rattle.md_meaning.specs.Step.{stopped, stopped_by, text_line, underline_or_text, with_lazy}
 use Rattle.md_meaning.specs.Tree.{Blocks, End}
 use Rattle.md_meaning.proofs.ColumnLemmas.{opened_by, step_by}
 use Rattle.md_meaning.proofs.ContainerLemmas.{opens-leaves}
@@ -30,8 +28,7 @@ use Rattle.md_frame.specs.LeafName.{LeafName}
 use Rattle.md_frame.specs.TextLines.{text_leaf}
 use Rattle.md_registry.specs.Registry.{leaf, bars_containers}
 use Rattle.md_frame.specs.Row.{BlankRow, LeafRow, RowKind, TextRow}
-use Rattle.md_rows.specs.Rows.{is_further, is_lazy, is_text, takes_head}
-use Rattle.md_rows.specs.Rows.{kind_of, line_kind}
+use Rattle.md_rows.specs.Rows.{is_further, is_lazy, is_text, takes_head, kind_of, line_kind}
 use Rattle.md_frame.specs.HeldLeaf.{kind_of_leaf, met_by}
 use Rattle.md_registry.specs.OpenSpan.{IsBuiltLeaf, IsOpenSpan}
 use Rattle.md_rows.specs.Stands.{IsPlain, containers_of, still_of}

@@ -237,6 +237,7 @@ module _ (options : ParseOptions) (bytes : List ℕ) (p : Path) (a : Point) (lin
       heads-read options bytes opened row (onto_groups row TextRow gs) last starts
       (subst (IsOfText options) (sym opened-none) (none-of_text options)) row.change.opens a is.front_read.is start
       (close_containers-between (length row.change.closes) (reading options p) refl refl).0
+      (close_containers-between (length row.change.closes) (reading options p) refl refl).1
       (read-open options p here row shapes-are is.change)
   text-means gs last (inl starts) =
       let start : Reading = close_containers (length row.change.closes) (reading options p) in
@@ -255,7 +256,7 @@ module _ (options : ParseOptions) (bytes : List ℕ) (p : Path) (a : Point) (lin
       ∙ append_assoc (front_done bytes row ++ whole) tail (groups_events options bytes starts.below))
       ∙ read-from bytes start new (front_done bytes row ++ whole) (tail ++ groups_events options bytes starts.below)
       (read-from bytes start begin (front_done bytes row) whole
-      (read-fronts bytes row.change.opens a row.first (front_done bytes row) start is.front_read.is text.0)
+      (read-fronts bytes row.change.opens a row.first (front_done bytes row) start is.front_read.is text.0 text.1)
       ∙ ap (λ (x : Reading). read bytes x whole) (read-open options p here row shapes-are is.change)
       ∙ text-whole options bytes opened row starts.rows starts.turn opened-none reads.are reads.turned reads.left)
       ∙ reads.behind
@@ -275,6 +276,7 @@ module _ (options : ParseOptions) (bytes : List ℕ) (p : Path) (a : Point) (lin
       (sym (ap (λ (k : RowKind). is_further k row.on) e) ∙ further-same ∙ begins) opened-none a is.front_read.is
       (close_containers (length row.change.closes) (reading options p))
       (close_containers-between (length row.change.closes) (reading options p) refl refl).0
+      (close_containers-between (length row.change.closes) (reading options p) refl refl).1
       (read-open options p here row shapes-are is.change)
       (span-rows options bytes (further_of l) l opened come row gs last (ap is_text e) refl (leaf-line l e ends)
       (subst (λ (x : Path). Follows options bytes x row gs last) on further))

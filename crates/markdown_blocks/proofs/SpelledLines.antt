@@ -20,7 +20,7 @@ use Rattle.md_seam.specs.Events.Nested.{enter, exit}
 use Rattle.md_meaning.specs.Rest.{Rest}
 use Rattle.md_seam.specs.Events.Spelled.{Reading, read, role}
 use Rattle.md_meaning.specs.State.{Container, NoLeaf, Path, shut}
-use Rattle.md_seam.proofs.SpelledLemmas.{Between, QuietOrPrefix, read-between, read-from, read-prefixes}
+use Rattle.md_seam.proofs.SpelledLemmas.{Between, QuietOrEnding, QuietOrPrefix, read-between, read-from, read-prefixes}
 use Rattle.md_frame.specs.ContainerNames.{container_name}
 use Rattle.md_frame.specs.Change.{Change, ends_of}
 use Rattle.md_frame.specs.Closed.{close_containers}
@@ -37,6 +37,7 @@ use Rattle.md_frame.proofs.LeafFacts.{shown}
 use Rattle.md_frame.proofs.LeafStands.{ending-roles}
 use Rattle.md_frame.proofs.PrefixFacts.{begins}
 use Rattle.md_frame.proofs.PrefixNames.{prefixes-roles}
+use Rattle.md_frame.proofs.Unmarked.{inline-between, inline-unmarked}
 use Rattle.md_frame.proofs.ContainerNames.{container-facts}
 use Rattle.markdown_blocks.proofs.SpelledPaths.{AreShapes, close_containers-between, close_containers-one, open_path}
 use Rattle.markdown_blocks.proofs.SpelledPaths.{reading-open}
@@ -53,7 +54,7 @@ read-ends bytes (c ∷ cs) p r =
     read-from bytes r inner (ends_of cs p) (exit (container_name c) p ∷ []) (read-ends bytes cs p r)
     ∙ (container-facts c).read_end bytes p inner ∙ sym (close_containers-one (length cs) r)
 
-pub read-tail : (bytes : List ℕ) (name : Name) (row : Row) (r : Reading) → Between (role name) → r.text ≡ None →
+pub read-tail : (bytes : List ℕ) (name : Name) (row : Row) (r : Reading) → QuietOrEnding (role name) → r.text ≡ None →
     r.leaf ≡ None → read bytes r (tail_events name row) ≡ close_containers (length row.closed_after) r
 read-tail bytes name row r h t l =
     let size : ℕ = length row.closed_after in
@@ -61,18 +62,20 @@ read-tail bytes name row r h t l =
     read-from bytes r (close_containers size r) (ends_of row.closed_after row.end) (ending_events name row)
     (read-ends bytes row.closed_after row.end r)
     ∙ read-between bytes (close_containers size r) (ending_events name row) next.0 next.1
-    (ending-roles Between name row h)
+    (ending-roles Between name row (inline-between (role name) h))
+    (inline-unmarked bytes (ending_events name row) (ending-roles QuietOrEnding name row h))
 
 -- of the events before a line only those of the containers that begin there are read
 pub read-fronts : (bytes : List ℕ) (opens : List Container) (p q : Point) (es : List Event) (r : Reading) →
-    LinePrefix bytes opens p q es → r.text ≡ None → read bytes r es ≡ enters opens r
-read-fronts bytes opens p q es r (Behind a) t = refl
-read-fronts bytes opens p q es r (Goes many a b d xs ys further more) t =
-    read-from bytes r r xs ys (read-prefixes bytes r xs t (prefixes-roles QuietOrPrefix xs tt tt further.names))
-    ∙ read-fronts bytes many b d ys r more t
-read-fronts bytes opens p q es r (Begins c many a b d xs ys opening more) t =
-    read-from bytes r (begins c r) (enter (container_name c) a ∷ xs) ys (opening.read r t)
-    ∙ read-fronts bytes many b d ys (begins c r) more t
+    LinePrefix bytes opens p q es → r.text ≡ None → r.leaf ≡ None → read bytes r es ≡ enters opens r
+read-fronts bytes opens p q es r (Behind a) t l = refl
+read-fronts bytes opens p q es r (Goes many a b d xs ys further more) t l =
+    read-from bytes r r xs ys
+    (read-prefixes bytes r xs t (prefixes-roles QuietOrPrefix xs tt tt tt further.names) further.unmarked)
+    ∙ read-fronts bytes many b d ys r more t l
+read-fronts bytes opens p q es r (Begins c many a b d xs ys opening more) t l =
+    read-from bytes r (begins c r) (enter (container_name c) a ∷ xs) ys (opening.read r t l)
+    ∙ read-fronts bytes many b d ys (begins c r) more t l
 
 -- the parts of the events of a line, and what follows
 pub read-parts : (bytes : List ℕ) (r a b c d : Reading) (xs ys zs more : List Event) → read bytes r xs ≡ a →
@@ -96,7 +99,7 @@ pub single-reads : (options : ParseOptions) (bytes : List ℕ) (p : Path) (c : C
     AreShapes c.change.stays c.change.closes p →
     row.change ≡ c.change → (a : Point) → LinePrefix bytes row.change.opens a row.first (front_done bytes row) →
     ((e : Reading) → e ≡ reading options (open_path options p c) → read bytes e leaf ≡ reading options new) →
-    Between (role name) → Reads options bytes new row.closed_after gs last →
+    QuietOrEnding (role name) → Reads options bytes new row.closed_after gs last →
     read bytes (close_containers (length row.change.closes) (reading options p))
     ((front_done bytes row ++ leaf ++ tail_events name row) ++ groups_events options bytes gs) ≡
     last
@@ -107,7 +110,7 @@ single-reads options bytes p c row gs last new name leaf shapes change a fronts 
     read-parts bytes start begin (reading options new)
     (close_containers (length row.closed_after) (reading options new)) last (front_done bytes row) leaf (tail_events name row)
     (groups_events options bytes gs)
-    (read-fronts bytes row.change.opens a row.first (front_done bytes row) start fronts text.0)
+    (read-fronts bytes row.change.opens a row.first (front_done bytes row) start fronts text.0 text.1)
     (found begin (read-open options p c row shapes change))
     (read-tail bytes name row (reading options new) between refl refl) reads
 
@@ -152,7 +155,7 @@ still-line options bytes a p line row built plain is =
     ∙ sym (line-behind options bytes (containers_of a) (still_of a) p line row is)
 
 -- the ending of a line opens no line of a leaf
-pub ending-role : (blank : Bool) → Between (role (ending_name blank))
+pub ending-role : (blank : Bool) → QuietOrEnding (role (ending_name blank))
 ending-role true = tt
 ending-role false = tt
 

@@ -217,10 +217,10 @@ pub starts-read : (options : ParseOptions) (bytes : List ℕ) (l : LeafName) (o 
     (last : Reading) →
     (leaf l).ends ≡ false → (is : IsLineOf options bytes (leaf l) row) → (leaf l).further row.on ≡ false →
     (spot o).leaf ≡ NoLeaf → (a : Point) → LinePrefix bytes row.change.opens a row.first (front_done bytes row) →
-    (start : Reading) → start.text ≡ None → enters row.change.opens start ≡ reading options o →
+    (start : Reading) → start.text ≡ None → start.leaf ≡ None → enters row.change.opens start ≡ reading options o →
     ReadsSpan options bytes (further_of l) o ((leaf l).comes options NoLeaf is.rest) row gs last →
     read bytes start (groups_events options bytes gs) ≡ last
-starts-read options bytes l o row gs last ends is begins none a front start text same spans =
+starts-read options bytes l o row gs last ends is begins none a front start text shut same spans =
     let whole : List Event = span_done bytes row spans.rows in
     let tail : List Event = span_tail row spans.rows in
     ap (λ (gs : List Group). read bytes start (groups_events options bytes gs)) spans.groups_are
@@ -229,5 +229,5 @@ starts-read options bytes l o row gs last ends is begins none a front start text
     ∙ append_assoc (front_done bytes row) whole (tail ++ groups_events options bytes spans.below))
     ∙ read-from bytes start (enters row.change.opens start) (front_done bytes row)
     (whole ++ (tail ++ groups_events options bytes spans.below))
-    (read-fronts bytes row.change.opens a row.first (front_done bytes row) start front text)
+    (read-fronts bytes row.change.opens a row.first (front_done bytes row) start front text shut)
     ∙ begun-reads options bytes l o row gs last ends is begins none (enters row.change.opens start) same spans

@@ -258,9 +258,9 @@ apart-head options bytes p row next gs last starts =
 pub heads-read : (options : ParseOptions) (bytes : List ℕ) (o : Path) (row : Row) (gs : List Group) (last : Reading) →
     StartsHead options bytes o row gs last → IsOfText options (spot o).leaf →
     (opens : List Container) (a : Point) → LinePrefix bytes opens a row.first (front_done bytes row) →
-    (start : Reading) → start.text ≡ None → enters opens start ≡ reading options o →
+    (start : Reading) → start.text ≡ None → start.leaf ≡ None → enters opens start ≡ reading options o →
     read bytes start (groups_events options bytes gs) ≡ last
-heads-read options bytes o row gs last starts of_text opens a front start text same =
+heads-read options bytes o row gs last starts of_text opens a front start text shut same =
     let whole : List Event = headed_done bytes row starts.next starts.rows in
     let tail : List Event = span_tail starts.next starts.rows in
     let more : List Event = groups_events options bytes starts.below in
@@ -270,7 +270,7 @@ heads-read options bytes o row gs last starts of_text opens a front start text s
     ∙ ap (read bytes start)
     (append_assoc (front_done bytes row ++ whole) tail more ∙ append_assoc (front_done bytes row) whole (tail ++ more))
     ∙ read-from bytes start (enters opens start) (front_done bytes row) (whole ++ (tail ++ more))
-    (read-fronts bytes opens a row.first (front_done bytes row) start front text)
+    (read-fronts bytes opens a row.first (front_done bytes row) start front text shut)
     ∙ ap (λ (r : Reading). read bytes r (whole ++ (tail ++ more))) same
     ∙ read-from bytes (reading options o) new whole (tail ++ more)
     (head-read options bytes starts.line o row starts.next starts.rows starts.at starts.is starts.text starts.are
@@ -322,7 +322,7 @@ starts-lines options bytes line p row gs last is text (inr (inr (inr joins))) = 
         ∙ heads-read options bytes q joins.next gs last joins.starts
         (subst (IsOfText options) (sym (longer-spot p (kept is.rest ∷ [])))
         (text-of_text options (held_of (spot p).leaf ++ kept is.rest ∷ []))) [] joins.after
-        (fronts-done bytes joins.after joins.next.first joins.next.front joins.fronts) s refl refl;
+        (fronts-done bytes joins.after joins.next.first joins.next.front joins.fronts) s refl refl refl;
   };
 })
 starts-lines options bytes line p row gs last is text (inr (inl joins)) =

@@ -1,4 +1,5 @@
 -- Block quotes.
+pub mod Alert
 pub mod Cells
 pub mod Collected
 pub mod Facts
@@ -7,6 +8,7 @@ pub mod Grammar
 pub mod Laws
 pub mod Parted
 pub mod Pieces
+pub mod Prefix
 pub mod Registers
 pub mod Tree
 pub mod Trial

@@ -16,7 +16,7 @@ when-container false u t e = cc
 pub continues-shape : (options : ParseOptions) (c : Container) (r : Rest) (t : Taken) →
     continues options c r ≡ Some t → shape_of t.container ≡ shape_of c
 unfolding quote_taken item_continues footnote_continues
-continues-shape options InQuote r t e = ap shape_of (when-container _ _ t e)
+continues-shape options (InQuote alert) r t e = ap shape_of (when-container _ _ t e)
 continues-shape options (InItem digits marker width starts_blank) r t e = ap shape_of (when-container _ _ t e)
 continues-shape options (InFootnote label) r t e = ap shape_of (when-container _ _ t e)
 
@@ -24,6 +24,6 @@ continues-shape options (InFootnote label) r t e = ap shape_of (when-container _
 pub continues-kind : (options : ParseOptions) (c : Container) (r : Rest) (t : Taken) →
     continues options c r ≡ Some t → container_kind t.container ≡ container_kind c
 unfolding quote_taken item_continues footnote_continues
-continues-kind options InQuote r t e = ap container_kind (when-container _ _ t e)
+continues-kind options (InQuote alert) r t e = ap container_kind (when-container _ _ t e)
 continues-kind options (InItem digits marker width starts_blank) r t e = ap container_kind (when-container _ _ t e)
 continues-kind options (InFootnote label) r t e = ap container_kind (when-container _ _ t e)

@@ -32,7 +32,7 @@ front-shallow b bs h i = and_from (is_shallow b) (are_shallow bs) h i
 
 mutual
   block-shallow : (b : Block) → is_shallow b ≡ true → is_shallow (grouped_block b) ≡ true
-  block-shallow (Quote bs) h = grouped-shallow bs h
+  block-shallow (Quote alert bs) h = grouped-shallow bs h
   block-shallow (Item m d bs) h = grouped-shallow bs h
   block-shallow (Footnote label bs) h = grouped-shallow bs h
   block-shallow b h = h

@@ -15,7 +15,7 @@ use Rattle.md_meaning.specs.Texts.{first_byte}
 use Rattle.md_meaning.specs.Containers.{is_bullet}
 use Rattle.md_seam.specs.Events.Nested.{Nested, enter, exit}
 use Rattle.md_seam.specs.Events.Spelled.{AsDigits, AsFootnoteLabel, AsItemMarker, FootnoteShape, ContainerRole, IsEnding}
-use Rattle.md_seam.specs.Events.Spelled.{IsPrefix, IsQuiet, ItemShape, OrderedShape, Role, Shape}
+use Rattle.md_seam.specs.Events.Spelled.{IsPrefix, IsQuiet, IsQuoteMarker, ItemShape, OrderedShape, Role, Shape}
 use Rattle.md_seam.specs.Events.Spelled.{TextRole, UnorderedShape, byte_at, is_ordered, role, spelled}
 use Rattle.md_containers.specs.ItemsHeld.{ItemsHeld}
 use Rattle.md_containers.specs.ItemsStand as stand
@@ -332,6 +332,8 @@ at-passed bytes AllTold held inner kind x p behind may passes at =
     told-passed bytes held inner kind x p (marker_by kind x (get_or bytes p.index 0) behind) behind may at
 at-passed bytes AtLabel held InLabel Enter IsPrefix p behind may passes at = (tt, tt)
 at-passed bytes AtLabel held InLabel Exit IsPrefix p behind may passes at = (tt, tt)
+at-passed bytes AtLabel held InLabel Enter IsQuoteMarker p behind may passes at = (tt, tt)
+at-passed bytes AtLabel held InLabel Exit IsQuoteMarker p behind may passes at = (tt, tt)
 at-passed bytes AtLabel held InLabel Enter IsEnding p behind may passes at = (tt, tt)
 at-passed bytes AtLabel held InLabel Exit IsEnding p behind may passes at = (tt, tt)
 at-passed bytes AtLabel held InLabel Enter IsQuiet p behind may passes at = (tt, tt)

@@ -58,7 +58,7 @@ pub record ContainerFacts (c : Container) : Type 0 where
   pub held : (k : ContainerKind) → IsOf k c → name_of k ≡ container_name c
 
 pub container-facts : (c : Container) → ContainerFacts c
-container-facts InQuote = record {
+container-facts (InQuote alert) = record {
   front = refl;
   no_prefix = refl;
   begin_stops = λ p ys. refl;
@@ -75,7 +75,7 @@ container-facts InQuote = record {
   held = held-is;
 }
   where
-    held-is : (k : ContainerKind) → IsOf k InQuote → name_of k ≡ n.BlockQuote
+    held-is : (k : ContainerKind) → IsOf k (InQuote alert) → name_of k ≡ n.BlockQuote
     held-is kind.BlockQuote e = refl
     held-is kind.ListItem e = cc
     held-is kind.GfmFootnoteDefinition e = cc

@@ -14,7 +14,7 @@ use Rattle.md_seam.specs.Events.Spelled.{IsEnding as EndingRole, IsQuiet, Role}
 use Rattle.md_seam.proofs.EndingsLemmas as ending
 use Rattle.md_seam.proofs.GrammarLemmas as grammar
 use Rattle.md_seam.proofs.NestedLemmas.{balanced-none}
-use Rattle.md_seam.proofs.SpelledLemmas.{Between, Roles}
+use Rattle.md_seam.proofs.SpelledLemmas.{Between, QuietOrEnding, Roles, Unmarked}
 use Rattle.md_frame.specs.EndingName.{ending_name}
 use Rattle.md_frame.proofs.ChunkFacts.{ending-order, ending-stands, line-ending}
 use Rattle.md_frame.proofs.GrammarFronts.{blocks_behind}
@@ -24,6 +24,7 @@ use Rattle.md_frame.proofs.PartFacts.{NoLinks, NoParts}
 use Rattle.md_frame.proofs.PieceFacts.{PiecesValid, stood-pair}
 use Rattle.md_seam.proofs.FeedLines.{IsEnding}
 use Rattle.md_frame.proofs.SpanLemmas.{Nested_in, around-nested}
+use Rattle.md_frame.proofs.Unmarked.{inline-unmarked}
 
 -- what holds of both names
 pub ending-each : (P : Name → Type 0) → P n.BlankLineEnding → P n.LineEnding → (blank : Bool) → P (ending_name blank)
@@ -35,6 +36,11 @@ pub ended-roles : (P : Role → Type 0) (blank : Bool) (p q : Point) → P IsQui
     Roles P (pair (ending_name blank) p q)
 ended-roles P blank p q quiet ending =
     ending-each (λ (name : Name). Roles P (pair name p q)) (quiet, (quiet, tt)) (ending, (ending, tt)) blank
+
+-- it gives no quote a kind
+pub ended-unmarked : (bytes : List ℕ) (blank : Bool) (p q : Point) → Unmarked bytes (pair (ending_name blank) p q)
+ended-unmarked bytes blank p q =
+    inline-unmarked bytes (pair (ending_name blank) p q) (ended-roles QuietOrEnding blank p q tt tt)
 
 -- nothing of it is read later, and it is no text part
 pub ending-unlinked : (blank : Bool) (p q : Point) → NoLinks (pair (ending_name blank) p q)

@@ -9,6 +9,7 @@ use Rattle.md_seam.specs.Events.Nested.{exit, is_enter}
 use Rattle.md_meaning.specs.State.{Container}
 use Rattle.md_seam.specs.Events.Prefix.{is_prefix}
 use Rattle.md_seam.specs.Events.Tiles.{plain_read}
+use Rattle.md_seam.proofs.SpelledLemmas.{Unmarked, unmarked-append}
 use Rattle.md_frame.proofs.EachEvent.{each-append}
 use Rattle.md_frame.proofs.FillFacts.{fill-same, filled-read}
 use Rattle.md_frame.specs.Change.{ends_of, is_none}
@@ -36,6 +37,17 @@ fronts-prefixes bytes opens p q es none (Behind r) = tt
 fronts-prefixes bytes opens p q es none (Goes same first mid last xs ys is more) =
     each-append (IsNamed is_prefix) xs ys is.names (fronts-prefixes bytes same mid last ys none more)
 fronts-prefixes bytes opens p q es none (Begins c below first mid last xs ys is more) = cc
+
+-- and none of them gives a quote a kind
+fronts-unmarked_in : (bytes : List ℕ) (opens : List Container) (p q : Point) (es : List Event) → opens ≡ [] →
+    LinePrefix bytes opens p q es → Unmarked bytes es
+fronts-unmarked_in bytes opens p q es none (Behind r) = tt
+fronts-unmarked_in bytes opens p q es none (Goes same first mid last xs ys is more) =
+    unmarked-append bytes xs ys is.unmarked (fronts-unmarked_in bytes same mid last ys none more)
+fronts-unmarked_in bytes opens p q es none (Begins c below first mid last xs ys is more) = cc
+
+pub fronts-unmarked : (bytes : List ℕ) (p q : Point) (es : List Event) → LinePrefix bytes [] p q es → Unmarked bytes es
+fronts-unmarked bytes p q es is = fronts-unmarked_in bytes [] p q es refl is
 
 pub fronts-are : (bytes : List ℕ) (opens : List Container) (p q : Point) (es : List Event) →
     LinePrefix bytes opens p q es → AreFront es

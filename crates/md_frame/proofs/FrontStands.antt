@@ -102,7 +102,8 @@ pub plain-front : (bytes : List ℕ) (opens : List Container) (p q : Point) (fro
     LinePrefix bytes opens p q front → ArePlain bytes front
 plain-front bytes _ p _ _ (Behind _) = plain-nil bytes
 plain-front bytes opens p r _ (Goes _ _ q _ es fs is more) =
-    plain-append bytes es fs (plain-untold bytes es (prefixes-roles Untold es (refl, refl) (refl, refl) is.names))
+    plain-append bytes es fs
+    (plain-untold bytes es (prefixes-roles Untold es (refl, refl) (refl, refl) (refl, refl) is.names))
     (plain-front bytes opens q r fs more)
 plain-front bytes _ p r _ (Begins c opens _ q _ es fs is more) =
     let facts : Opens bytes c p q es = is in
@@ -141,7 +142,7 @@ pub fronts-sit : (bytes : List ℕ) (opens : List Container) (p q : Point) (fron
     LinePrefix bytes opens p q front → PrefixesAtLineStart bytes front
 fronts-sit bytes _ p _ _ (Behind _) = sits-still bytes [] tt
 fronts-sit bytes opens p r _ (Goes _ _ q _ es fs is more) =
-    sits-append bytes es fs (sits-still bytes es (prefixes-roles Still es tt tt is.names))
+    sits-append bytes es fs (sits-still bytes es (prefixes-roles Still es tt tt tt is.names))
     (fronts-sit bytes opens q r fs more)
 fronts-sit bytes _ p r _ (Begins c opens _ q _ es fs is more) =
     sits-append bytes (enter (container_name c) p ∷ []) (es ++ fs)

@@ -45,7 +45,7 @@ pub front-leads : (text : Expression) (bytes : List ℕ) (opens : List Container
 front-leads text bytes _ p _ _ takes (Behind _) = λ outer. refl
 front-leads text bytes opens p r _ takes (Goes _ _ q _ es fs is more) =
     unlists-append text (blocks ∷ []) (blocks ∷ []) (blocks ∷ behinds (open_names opens)) es fs
-    (unlists-same text (blocks ∷ []) (blocks ∷ []) es (parts-unlisted es (prefixes-roles IsPart es tt tt is.names))
+    (unlists-same text (blocks ∷ []) (blocks ∷ []) es (parts-unlisted es (prefixes-roles IsPart es tt tt tt is.names))
     (is.stays text blocks (refl, refl))) (front-leads text bytes opens q r fs takes more)
 front-leads text bytes _ p r _ takes (Begins c opens _ q _ es fs is more) =
     let further : Unlists text (blocks ∷ behind_block ∷ [])

@@ -12,7 +12,8 @@ use Rattle.md_containers.specs.ItemsStand.{InLeaf, Inner, IsPart, MayStand, Site
 use Rattle.md_containers.specs.Unlisted.{in_place}
 use Rattle.md_containers.proofs.UnlistedLemmas.{NoListing, StandsTo, among, stands-append}
 use Rattle.md_seam.specs.Events.Nested.{around, enter, exit}
-use Rattle.md_seam.specs.Events.Spelled.{ContainerRole, IsEnding, IsPrefix, IsQuiet, LeafKind, LeafRole, Role, TextRole}
+use Rattle.md_seam.specs.Events.Spelled.{ContainerRole, IsEnding, IsPrefix, IsQuiet, IsQuoteMarker, LeafKind}
+use Rattle.md_seam.specs.Events.Spelled.{LeafRole, Role, TextRole}
 use Rattle.md_seam.specs.Events.Spelled.{role}
 use Rattle.md_seam.proofs.SpelledLemmas.{Between, Quiet, Roles}
 use Rattle.md_frame.specs.EndingName.{ending_name}
@@ -51,6 +52,8 @@ between-stays bytes held Enter IsQuiet p h = record { may = tt; behind = refl }
 between-stays bytes held Exit IsQuiet p h = record { may = tt; behind = refl }
 between-stays bytes held Enter IsPrefix p h = record { may = tt; behind = refl }
 between-stays bytes held Exit IsPrefix p h = record { may = tt; behind = refl }
+between-stays bytes held Enter IsQuoteMarker p h = record { may = tt; behind = refl }
+between-stays bytes held Exit IsQuoteMarker p h = record { may = tt; behind = refl }
 between-stays bytes held Enter IsEnding p h = record { may = tt; behind = refl }
 between-stays bytes held Exit IsEnding p h = record { may = tt; behind = refl }
 between-stays bytes held kind _ p h = absurd h
@@ -110,6 +113,7 @@ parts-unlisted (e ∷ es) h = (part-unlisted e.name h.0, parts-unlisted es h.1)
 between-part : (x : Role) → Between x → IsPart x
 between-part IsQuiet h = tt
 between-part IsPrefix h = tt
+between-part IsQuoteMarker h = tt
 between-part IsEnding h = tt
 between-part _ h = absurd h
 

@@ -66,5 +66,6 @@ pub mod SpannedFacts
 pub mod SubstitutedLemmas
 pub mod TextBehind
 pub mod TextLaws
+pub mod Unmarked
 pub mod UnturnedFacts
 pub mod WhiteQuiet

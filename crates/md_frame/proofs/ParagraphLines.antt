@@ -24,7 +24,7 @@ pub fronts-between : (bytes : List ℕ) (opens : List Container) (p q : Point) (
     LinePrefix bytes opens p q es → opens ≡ [] → Roles Between es
 fronts-between bytes opens p q es (Behind r) none = tt
 fronts-between bytes opens p q es (Goes many a b d xs ys further more) none =
-    roles-append Between xs ys (prefixes-roles Between xs tt tt further.names)
+    roles-append Between xs ys (prefixes-roles Between xs tt tt tt further.names)
     (fronts-between bytes many b d ys more none)
 fronts-between bytes opens p q es (Begins c many a b d xs ys opening more) none = cc
 

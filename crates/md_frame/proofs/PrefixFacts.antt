@@ -16,6 +16,7 @@ use Rattle.md_frame.specs.Around.{around_of}
 use Rattle.md_frame.proofs.CollectFacts.{Collects}
 use Rattle.md_seam.proofs.EndingsLemmas.{AreOthers}
 use Rattle.md_seam.proofs.GrammarLemmas as grammar
+use Rattle.md_seam.proofs.SpelledLemmas.{Unmarked}
 use Rattle.md_outline.specs.Between.{is_between}
 use Rattle.md_frame.specs.ContainerNames.{container_name, is_listed, shape_of}
 use Rattle.md_frame.proofs.BetweenFacts.{AreBetween}
@@ -64,8 +65,9 @@ pub record Continues (bytes : List ℕ) (p q : Point) (es : List Event) : Type 0
   -- they take columns, if there are any
   pub onward : p.column ≤ q.column
   pub bare : is_bare es ≡ (q.column == p.column)
-  -- they have names of prefixes
+  -- they have names of prefixes, and none of them gives a quote a kind
   pub names : ArePrefixes es
+  pub unmarked : Unmarked bytes es
   -- they keep the grammar, in front of blocks and of a further line of a leaf
   pub stays : (text x : Expression) → TakesPrefixes x → grammar.Leads text (x ∷ []) (x ∷ []) es
   -- a text goes on behind them
@@ -91,8 +93,9 @@ pub record Opens (bytes : List ℕ) (c : Container) (p q : Point) (es : List Eve
       StandsTo bytes (among held) (among (is_listed c ∷ held)) (enter (container_name c) p ∷ es)
   -- nothing is put around any of them
   pub unlisted : NoListing es
-  -- the container is read, and they are not
-  pub read : (r : Reading) → r.text ≡ None → read bytes r (enter (container_name c) p ∷ es) ≡ begins c r
+  -- in front of its blocks the container is read, and they tell its kind alone
+  pub read : (r : Reading) → r.text ≡ None → r.leaf ≡ None →
+      read bytes r (enter (container_name c) p ∷ es) ≡ begins c r
   -- an outline shows the container
   pub shown : is_plain (ContainerRole (shape_of c)) ≡ true
   -- there are some

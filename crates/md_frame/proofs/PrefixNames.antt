@@ -8,7 +8,7 @@ use Rattle.md_engine.specs.declared.event.Link.{Link}
 use Rattle.md_engine.specs.declared.event.Name.{Name}
 use Rattle.md_engine.specs.declared.event.Name.TheVariants as n
 use Rattle.md_seam.specs.Events.Spelled as spelled
-use Rattle.md_seam.specs.Events.Spelled.{IsQuiet, Role, role}
+use Rattle.md_seam.specs.Events.Spelled.{IsQuiet, IsQuoteMarker, Role, role}
 use Rattle.md_seam.specs.Events.Tiles.{part_kind}
 use Rattle.md_seam.specs.Events.Prefix.{is_prefix}
 use Rattle.md_seam.proofs.SpelledLemmas.{Roles}
@@ -58,12 +58,13 @@ no_part-name _ h = cc
 pub names-no_parts : (es : List Event) → ArePrefixes es → NoParts es
 names-no_parts es h = each-as (IsNamed is_prefix) IsNoPart (λ e is. no_part-name e.name is.0) es h
 
--- What is read of prefixes is quiet, or a prefix.
+-- What is read of prefixes is quiet, a prefix, or a marker of a quote.
 
 -- whether a role is one of these
 abbrev is_quiet_or_prefix : Role → Bool
 is_quiet_or_prefix IsQuiet = true
 is_quiet_or_prefix spelled.IsPrefix = true
+is_quiet_or_prefix IsQuoteMarker = true
 is_quiet_or_prefix _ = false
 
 -- that of a prefix is: each name is tested
@@ -71,14 +72,18 @@ prefix-is : (name : Name) → is_prefix name ≡ true → is_quiet_or_prefix (ro
 prefix-is n.Data h = refl
 prefix-is _ h = cc
 
--- and what holds of both holds of it
-prefix-role : (P : Role → Type 0) (x : Role) → P IsQuiet → P spelled.IsPrefix → is_quiet_or_prefix x ≡ true → P x
-prefix-role P IsQuiet quiet prefix h = quiet
-prefix-role P spelled.IsPrefix quiet prefix h = prefix
-prefix-role P _ quiet prefix h = cc
+-- and what holds of all three holds of it
+prefix-role : (P : Role → Type 0) (x : Role) → P IsQuiet → P spelled.IsPrefix → P IsQuoteMarker →
+    is_quiet_or_prefix x ≡ true → P x
+prefix-role P IsQuiet quiet prefix marker h = quiet
+prefix-role P spelled.IsPrefix quiet prefix marker h = prefix
+prefix-role P IsQuoteMarker quiet prefix marker h = marker
+prefix-role P _ quiet prefix marker h = cc
 
-pub prefixes-roles : (P : Role → Type 0) (es : List Event) → P IsQuiet → P spelled.IsPrefix → ArePrefixes es →
-    Roles P es
-prefixes-roles P [] quiet prefix h = tt
-prefixes-roles P (e ∷ es) quiet prefix h =
-    (prefix-role P (role e.name) quiet prefix (prefix-is e.name h.0.0), prefixes-roles P es quiet prefix h.1)
+pub prefixes-roles : (P : Role → Type 0) (es : List Event) → P IsQuiet → P spelled.IsPrefix → P IsQuoteMarker →
+    ArePrefixes es → Roles P es
+prefixes-roles P [] quiet prefix marker h = tt
+prefixes-roles P (e ∷ es) quiet prefix marker h = (
+  prefix-role P (role e.name) quiet prefix marker (prefix-is e.name h.0.0),
+  prefixes-roles P es quiet prefix marker h.1,
+)

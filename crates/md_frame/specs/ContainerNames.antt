@@ -11,13 +11,13 @@ use Rattle.md_meaning.specs.State.{Container, InFootnote, InItem, InQuote}
 
 -- the width of an item, and whether it started blank, they do not tell
 abbrev pub shape_of : Container → Shape
-shape_of InQuote = QuoteShape
+shape_of (InQuote alert) = QuoteShape alert
 shape_of (InItem digits marker width starts_blank) = ItemShape marker digits
 shape_of (InFootnote label) = FootnoteShape label
 
 -- the name of the events of what has this shape
 abbrev pub shape_name : Shape → Name
-shape_name QuoteShape = n.BlockQuote
+shape_name (QuoteShape alert) = n.BlockQuote
 shape_name OrderedShape = n.ListOrdered
 shape_name UnorderedShape = n.ListUnordered
 shape_name (ItemShape marker digits) = n.ListItem
@@ -36,7 +36,7 @@ kind_of_item zero = None
 kind_of_item (suc more) = Some kind.ListItem
 
 abbrev pub container_kind : Container → Option ContainerKind
-container_kind InQuote = Some kind.BlockQuote
+container_kind (InQuote alert) = Some kind.BlockQuote
 container_kind (InItem digits marker width starts_blank) = kind_of_item width
 container_kind (InFootnote label) = Some kind.GfmFootnoteDefinition
 

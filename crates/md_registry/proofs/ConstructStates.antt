@@ -240,7 +240,7 @@ html_fits : HtmlFits flow_table_scheme
 html_fits = record { each = λ state. fits flow_owner (n.HtmlFlow state) }
 
 quote_fits : QuoteFits flow_table_scheme
-quote_fits = record { white = white_fits; each = λ state. fits flow_owner (n.BlockQuote state) }
+quote_fits = record { white = white_fits; blank = blank_fits; each = λ state. fits flow_owner (n.BlockQuote state) }
 
 item_fits : ItemFits flow_table_scheme
 item_fits = record {
@@ -283,7 +283,11 @@ pub construct-steps : (feed : Feed) (next : Rule) (name : StateName)
     (construct_transition name w).world
 construct-steps feed next (n.BlockQuote state) w s c at =
     quote_means _ feed state w
-    (record { white = white_has w.setting.bytes w.setting.options next; each = λ _ _ _. refl }) s
+    (record {
+      white = white_has w.setting.bytes w.setting.options next;
+      blank = record { white = white_has w.setting.bytes w.setting.options next; each = λ _ _ _. refl };
+      each = λ _ _ _. refl;
+    }) s
 construct-steps feed next (n.CodeIndented state) w s c at =
     code_means _ feed state w
     (record { white = white_has w.setting.bytes w.setting.options next; each = λ _ _ _. refl }) s at.0

@@ -111,7 +111,7 @@ fronts-held : (bytes : List ℕ) (opens : List Container) (names : List Name) (p
 fronts-held bytes _ names p _ _ blocks (Behind _) = tt
 fronts-held bytes opens names p r _ blocks (Goes _ _ q _ es fs is more) =
     held-through names names es fs
-    (unlisted-held names es (between-unlisted es (prefixes-roles Between es tt tt is.names)))
+    (unlisted-held names es (between-unlisted es (prefixes-roles Between es tt tt tt is.names)))
     (balanced-open names es is.common.nested.0) (fronts-held bytes opens names q r fs blocks more)
 fronts-held bytes _ names p r _ blocks (Begins c opens _ q _ es fs is more) =
     let name : Name = container_name c in (

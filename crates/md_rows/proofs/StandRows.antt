@@ -52,7 +52,7 @@ fronts-stand : (bytes : List ℕ) (opens : List Container) (names : List Name) (
 fronts-stand bytes _ names p _ _ (Behind _) = record { stand = tt; behind = refl }
 fronts-stand bytes opens names p r _ (Goes _ _ q _ es fs is more) =
     stands-append bytes (under names) (under names) (under (open_names opens ++ names)) es fs
-    (between-stand bytes (items_of names) es (prefixes-roles Between es tt tt is.names))
+    (between-stand bytes (items_of names) es (prefixes-roles Between es tt tt tt is.names))
     (fronts-stand bytes opens names q r fs more)
 fronts-stand bytes _ names p r _ (Begins c opens _ q _ es fs is more) =
     let name : Name = container_name c in

@@ -17,7 +17,7 @@ use Rattle.md_link_definitions.specs.DefinitionRule.{DefinitionParts}
 use Rattle.md_seam.specs.Events.Nested.{exit, pair}
 use Rattle.md_seam.specs.Events.Spelled.{OpenContainer, Reading, add_block, read, role, spelled, unread}
 use Rattle.md_seam.proofs.PlacesLemmas.{all-append}
-use Rattle.md_seam.proofs.SpelledLemmas.{Between, read-between, read-from, roles-append}
+use Rattle.md_seam.proofs.SpelledLemmas.{Between, QuietOrEnding, read-between, read-from, roles-append, unmarked-append}
 use Rattle.md_rows.specs.BlockList.{lines_unread, text_unread, turned_unread}
 use Rattle.md_frame.specs.Closed.{close_containers}
 use Rattle.md_frame.specs.EndingName.{ending_name}
@@ -43,7 +43,7 @@ use Rattle.md_content_rooms.proofs.Defined.Facts.{defined-facts}
 use Rattle.md_content_rooms.proofs.Defined.Form.{form_block, form_done}
 use Rattle.md_content_rooms.proofs.Defined.Is.{IsDefined}
 use Rattle.md_frame.proofs.FrontFacts.{LinePrefix}
-use Rattle.md_frame.proofs.FrontNames.{HasFront}
+use Rattle.md_frame.proofs.FrontNames.{HasFront, fronts-unmarked}
 use Rattle.md_rows.proofs.GroupFacts.{span-block}
 use Rattle.md_rows.proofs.GroupLines.{AreGroups, AreLines}
 use Rattle.md_rows.proofs.GroupLemmas.{headed-quiet, spans-quiet, under-quiet}
@@ -166,7 +166,7 @@ enters-between (c ∷ cs) r text shut = enters-between cs _ text shut
 front-quiet : (bytes : List ℕ) (row : Row) → HasFront bytes row → Quiet bytes (front_done bytes row)
 front-quiet bytes row front = λ r text shut.
     let is : read bytes r (front_done bytes row) ≡ enters row.change.opens r =
-    read-fronts bytes row.change.opens front.0 row.first (front_done bytes row) r front.2.is text in
+    read-fronts bytes row.change.opens front.0 row.first (front_done bytes row) r front.2.is text shut in
     let kept = enters-between row.change.opens r text shut in (
       ap read_labels is ∙ labels-enters row.change.opens r,
       ap (λ (x : Reading). x.text) is ∙ kept.0,
@@ -189,7 +189,7 @@ tail-quiet bytes blank row = λ r text shut.
       ap (λ (x : Reading). x.leaf) is ∙ kept.1,
     )
   where
-    role-between : (blank : Bool) → Between (role (ending_name blank))
+    role-between : (blank : Bool) → QuietOrEnding (role (ending_name blank))
     role-between true = tt
     role-between false = tt
 
@@ -211,7 +211,8 @@ between-labelled bytes p q r front is =
     (λ r text shut.
     let same : read bytes r (between p q front) ≡ r =
     read-between bytes r (between p q front) text shut
-    (roles-append Between (pair n.LineEnding p q) front (tt, (tt, tt)) (fronts-between bytes [] q _ front is refl)) in (
+    (roles-append Between (pair n.LineEnding p q) front (tt, (tt, tt)) (fronts-between bytes [] q _ front is refl))
+    (unmarked-append bytes (pair n.LineEnding p q) front (tt, (tt, tt)) (fronts-unmarked bytes q _ front is)) in (
       ap read_labels same,
       ap (λ (x : Reading). x.text) same ∙ text,
       ap (λ (x : Reading). x.leaf) same ∙ shut,

@@ -24,7 +24,7 @@ slice-one bytes i b e = ap (λ (k : ℕ). take k (drop i bytes)) one ∙ go byte
     go (c ∷ bytes) (suc i) e = go bytes i e
 
 -- the marker of a quote
-marker-stands : (bytes : List ℕ) (p q : Point) (es : List Event) → (is : IsPrefix bytes p q es) →
+pub marker-stands : (bytes : List ℕ) (p q : Point) (es : List Event) → (is : IsPrefix bytes p q es) →
     piece_stands bytes (span n.BlockQuoteMarker is.marker is.behind) ≡ true
 marker-stands bytes p q es is =
     let past : is.behind.index ≡ suc is.marker.index = is.past in
@@ -37,7 +37,7 @@ marker-stands bytes p q es is =
     (begins-whole n.BlockQuoteMarker is.marker is.marker_whole) refl
 
 -- whitespace that may be cut from a tab at both ends
-white-stands : (bytes : List ℕ) (p q : Point) → same_place p q ≡ false →
+pub white-stands : (bytes : List ℕ) (p q : Point) → same_place p q ≡ false →
     stands_over n.SpaceOrTab (slice_range bytes p.index q.index) ≡ true →
     piece_stands bytes (span n.SpaceOrTab p q) ≡ true
 white-stands bytes p q apart blank =

@@ -1,6 +1,6 @@
 -- What is tried for a block quote: its prefix is taken where its cells say so, and takes a cell at least.
-use Rattle.std.proofs.Common.{◌≡◌, ℕ, Bool, true, false, cond, ◌&&◌, ◌⊎◌, inl, inr, List, [], ◌∷◌, ◌++◌, Some, None, refl, ◌∙◌}
-use Rattle.std.proofs.Common.{sym, subst, ap, arith}
+use Rattle.std.proofs.Common.{◌≡◌, ℕ, zero, suc, Bool, true, false, cond, ◌&&◌, ◌⊎◌, inl, inr, List, [], ◌∷◌, ◌++◌}
+use Rattle.std.proofs.Common.{Some, None, refl, ◌∙◌, sym, subst, ap, arith}
 use Rattle.std.proofs.lemmas.Bool.{and_parts, eqb-true}
 use Rattle.std.specs.Prelude.{Option}
 use Rattle.std.proofs.lemmas.Bool.Decides.{nat_tests}
@@ -12,16 +12,19 @@ use Rattle.md_engine.specs.Meaning.{Accepts, Cell, Here, Outcome, Refuses}
 use Rattle.md_engine.specs.World.{container_of}
 use Rattle.md_containers.specs.Quote.{may_begin}
 use Rattle.md_containers.specs.QuoteRule.{has_marker, prefix_at, quote_at, takes_prefix}
+use Rattle.md_meaning.specs.declared.alert.AlertKind.{AlertKind}
 use Rattle.md_meaning.specs.Rest.{is_white}
+use Rattle.md_meaning.specs.State.{Container, InFootnote, InItem, InQuote}
 use Rattle.md_seam.specs.Ahead.{white_rest}
 use Rattle.md_seam.specs.Look.{first_seen, seen_behind}
 use Rattle.md_seam.specs.Spaces.{IsRest, ends_line, small_indent}
 use Rattle.md_seam.proofs.LookLemmas.{rest-begins}
-use Rattle.md_container_rooms.specs.Containers.BlockQuote.{quote_new, quote_on, quote_rules}
+use Rattle.md_container_rooms.specs.Containers.BlockQuote.{quote_goes, quote_new, quote_on, quote_rules}
+use Rattle.md_frame.specs.ContainerNames.{IsOf}
 use Rattle.md_frame.specs.Passed.{Passed, passed_by}
-use Rattle.md_container_rooms.proofs.BlockQuote.Cells.{quote-front}
+use Rattle.md_container_rooms.proofs.BlockQuote.Cells.{opening-front, prefix-front}
 use Rattle.md_frame.proofs.ContainerLaws.{IsPassed}
-use Rattle.md_containers.proofs.QuoteCells.{prefix-is, prefix-shorter, quote-is}
+use Rattle.md_containers.proofs.QuoteCells.{opening-shorter, prefix-is, prefix-shorter, quote-is}
 
 -- behind the prefix of one that is asked already
 abbrev taken_by : Passed → Here → Outcome
@@ -46,13 +49,23 @@ taken-if : (x : Bool) (u t : Passed) → cond x (Some u) None ≡ Some t → (x 
 taken-if true u t e = let same : u ≡ t = cc in (refl, same)
 taken-if false u t e = cc
 
+-- what holds of quotes of all kinds holds of each container of this kind
+pub each-quote : (P : Container → Type 0) → ((alert : Option AlertKind) → P (InQuote alert)) → (c : Container) →
+    IsOf kind.BlockQuote c → P c
+each-quote P h (InQuote alert) is = h alert
+each-quote P h (InItem digits marker zero starts_blank) is = cc
+each-quote P h (InItem digits marker (suc more) starts_blank) is = cc
+each-quote P h (InFootnote label) is = cc
+
 -- on a further line,
-pub prefix-tried : (options : ParseOptions) (cells : List Cell) (h : Here) → IsRest h.scratch →
-    h.flags.asked ≡ container_of kind.BlockQuote →
-    prefix_at options cells h ≡
-    passed_by (cond (takes_prefix options cells) (Some (quote_on options cells h.point)) None) h
-prefix-tried options cells h is asked =
-    prefix-is options cells h is ∙ tried-if (takes_prefix options cells) (quote_on options cells h.point) h asked
+pub prefix-tried : (options : ParseOptions) (c : Container) (cells : List Cell) (h : Here) → IsRest h.scratch →
+    h.flags.asked ≡ container_of kind.BlockQuote → IsOf kind.BlockQuote c →
+    prefix_at options cells h ≡ passed_by (quote_goes options c cells h.point) h
+prefix-tried options c cells h is asked of =
+    each-quote (λ d. prefix_at options cells h ≡ passed_by (quote_goes options d cells h.point) h)
+    (λ alert.
+    prefix-is options cells h is
+    ∙ tried-if (takes_prefix options cells) (quote_on options alert cells h.point) h asked) c of
 
 -- not where another byte than `>` stands first behind whitespace,
 no_prefix : (options : ParseOptions) (cells : List Cell) (b : ℕ) → seen_behind cells ≡ Some b →
@@ -76,30 +89,46 @@ ended_prefix options [] ends = refl
 ended_prefix options (c ∷ cs) ends =
     let ten : c.byte ≡ 10 = eqb-true c.byte 10 ends in no_prefix options (c ∷ cs) 10 (rw ten refl) refl
 
-pub prefix-ended : (options : ParseOptions) (cells : List Cell) (p : Point) → ends_line (first_seen cells) ≡ true →
-    cond (takes_prefix options cells) (Some (quote_on options cells p)) None ≡ None
-prefix-ended options cells p ends =
-    ap (λ (x : Bool). cond x (Some (quote_on options cells p)) None) (ended_prefix options cells ends)
+pub prefix-ended : (options : ParseOptions) (c : Container) (cells : List Cell) (p : Point) →
+    IsOf kind.BlockQuote c → ends_line (first_seen cells) ≡ true → quote_goes options c cells p ≡ None
+prefix-ended options c cells p of ends =
+    each-quote (λ d. quote_goes options d cells p ≡ None)
+    (λ alert.
+    ap (λ (x : Bool). cond x (Some (quote_on options alert cells p)) None) (ended_prefix options cells ends)) c of
 
 pub prefix-looked : (options : ParseOptions) (cells : List Cell) (h : Here) (b : ℕ) → IsRest h.scratch →
     seen_behind cells ≡ Some b → may_begin b ≡ false → prefix_at options cells h ≡ Refuses h.scratch h.flags
 prefix-looked options cells h b is seen e =
     prefix-is options cells h is
-    ∙ ap (λ (x : Bool). cond x (taken_by (quote_on options cells h.point) h) (Refuses h.scratch h.flags))
+    ∙ ap (λ (x : Bool). cond x (taken_by (quote_on options None cells h.point) h) (Refuses h.scratch h.flags))
     (no_prefix options cells b seen e)
 
-pub prefix-passed : (options : ParseOptions) (cells : List Cell) (p : Point) (t : Passed) →
-    cond (takes_prefix options cells) (Some (quote_on options cells p)) None ≡ Some t → IsPassed kind.BlockQuote cells t
-prefix-passed options cells p t e =
-    let is = taken-if (takes_prefix options cells) (quote_on options cells p) t e in
-    subst (IsPassed kind.BlockQuote cells) is.1
-    (record { one = refl; kind = refl; shorter = λ ends. prefix-shorter options cells is.0; within = let lt = prefix-shorter options cells is.0 in omega (arith, lt); front = quote-front options cells p })
+-- one that is taken is a quote that goes on
+goes-on : (options : ParseOptions) (c : Container) (cells : List Cell) (p : Point) (t : Passed) →
+    quote_goes options c cells p ≡ Some t →
+    (alert : Option AlertKind) × (takes_prefix options cells ≡ true) × (quote_on options alert cells p ≡ t)
+goes-on options (InQuote alert) cells p t e =
+    let is = taken-if (takes_prefix options cells) (quote_on options alert cells p) t e in (alert, is.0, is.1)
+goes-on options (InItem digits marker width starts_blank) cells p t e = cc
+goes-on options (InFootnote label) cells p t e = cc
 
-pub prefix-held : (options : ParseOptions) (cells : List Cell) (p : Point) (t : Passed) →
-    cond (takes_prefix options cells) (Some (quote_on options cells p)) None ≡ Some t →
-    t.held ≡ container_of kind.BlockQuote
-prefix-held options cells p t e =
-    sym (ap (λ (u : Passed). u.held) (taken-if (takes_prefix options cells) (quote_on options cells p) t e).1)
+pub prefix-passed : (options : ParseOptions) (c : Container) (cells : List Cell) (p : Point) (t : Passed) →
+    quote_goes options c cells p ≡ Some t → IsPassed kind.BlockQuote cells t
+prefix-passed options c cells p t e =
+    let is = goes-on options c cells p t e in
+    let lt = prefix-shorter options cells is.1 in
+    subst (IsPassed kind.BlockQuote cells) is.2
+    (record {
+      one = refl;
+      kind = refl;
+      shorter = λ ends. lt;
+      within = omega (arith, lt);
+      front = prefix-front options cells p;
+    })
+
+pub prefix-held : (options : ParseOptions) (c : Container) (cells : List Cell) (p : Point) (t : Passed) →
+    quote_goes options c cells p ≡ Some t → t.held ≡ container_of kind.BlockQuote
+prefix-held options c cells p t e = sym (ap (λ (u : Passed). u.held) (goes-on options c cells p t e).2)
 
 -- and where one opens
 pub quote-tried : (options : ParseOptions) (interrupting : Bool) (cells : List Cell) (h : Here) → IsRest h.scratch →
@@ -132,9 +161,9 @@ quote-passed options interrupting cells p t e =
     (record {
       one = refl;
       kind = refl;
-      shorter = λ ends. prefix-shorter options cells takes;
-      within = let lt = prefix-shorter options cells takes in omega (arith, lt);
-      front = ((refl, refl), quote-front options cells p);
+      shorter = λ ends. opening-shorter options cells takes;
+      within = let lt = opening-shorter options cells takes in omega (arith, lt);
+      front = ((refl, refl), opening-front options cells p);
     })
 
 pub quote-ended : (options : ParseOptions) (interrupting : Bool) (cells : List Cell) (p : Point) →

@@ -44,7 +44,7 @@ footnote-opens bytes label link p q es is stands alone = record {
   leads = λ text takes. front-leads bytes label link p q es is text takes;
   stands = λ held. front-stands bytes label link p q es held is;
   unlisted = front-unlisted bytes label link p q es is;
-  read = λ r none. front-read bytes label link p q es r is none;
+  read = λ r none shut. front-read bytes label link p q es r is none;
   shown = refl;
   some = front-some bytes label link p q es is;
 }

@@ -36,14 +36,14 @@ pub each-footnote : (P : Container → Type 0) → ((label : List ℕ) → P (In
 each-footnote P h (InFootnote label) is = h label
 each-footnote P h (InItem digits marker zero blank) is = cc
 each-footnote P h (InItem digits marker (suc w) blank) is = cc
-each-footnote P h InQuote is = cc
+each-footnote P h (InQuote alert) is = cc
 
 -- and of each that is held
 each-held : (held : Held) (P : Container → Type 0) →
     ((label : List ℕ) → held.width ≡ footnote_width → held.starts_blank ≡ false → P (InFootnote label)) →
     (c : Container) → footnote_holds held c → P c
 each-held held P h (InFootnote label) holds = h label holds.0 holds.1
-each-held held P h InQuote holds = absurd holds
+each-held held P h (InQuote alert) holds = absurd holds
 each-held held P h (InItem digits marker width blank) holds = absurd holds
 
 -- What is held of one tells no more of it than its kind does.

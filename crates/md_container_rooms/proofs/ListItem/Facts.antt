@@ -8,7 +8,8 @@ use Rattle.md_seam.specs.Events.Inline.{pair_unless_empty}
 use Rattle.md_seam.specs.Events.Nested.{pair}
 use Rattle.md_seam.specs.Events.Places.{same_place}
 use Rattle.md_seam.proofs.GrammarLemmas.{Leads}
-use Rattle.md_container_rooms.proofs.BlockQuote.Facts.{pair-prefixes}
+use Rattle.md_seam.proofs.SpelledLemmas.{Unmarked}
+use Rattle.md_container_rooms.proofs.BlockQuote.Prefix.{pair-prefixes, white-unmarked}
 use Rattle.md_container_rooms.proofs.ListItem.Collected.{indent-collects, white-inside}
 use Rattle.md_container_rooms.proofs.ListItem.Grammar.{front-leads, front-others, front-stands, front-unlisted, white-others}
 use Rattle.md_container_rooms.proofs.ListItem.Grammar.{white-stays}
@@ -51,6 +52,7 @@ item-continues bytes p q es is = record {
   onward = is.columns.onward;
   bare = ap is_bare is.events ∙ indent-bare p q ∙ is.columns.same;
   names = subst ArePrefixes (sym is.events) (pair-prefixes p q);
+  unmarked = subst (Unmarked bytes) (sym is.events) (white-unmarked bytes p q);
   stays = λ text x takes. subst (Leads text (x ∷ []) (x ∷ [])) (sym is.events) (white-stays p q text x takes);
   parted = white-parted bytes p q es is.events is.white;
   inside = λ kind. subst (Inside bytes kind []) (sym is.events) (white-inside bytes kind p q is.white);
@@ -82,7 +84,7 @@ item-opens bytes digits byte width blank p q es is =
       leads = λ text takes. front-leads bytes digits byte p q es is text;
       stands = λ held. front-stands bytes digits byte p q es held is;
       unlisted = front-unlisted bytes digits byte p q es is;
-      read = λ r none. front-read bytes digits byte width blank p q es r is none;
+      read = λ r none shut. front-read bytes digits byte width blank p q es r is none;
       shown = refl;
       some = front-some bytes digits byte p q es is;
     }

@@ -24,7 +24,7 @@ use Rattle.md_outline.specs.Roles.{is_plain, is_told}
 use Rattle.md_frame.proofs.BetweenFacts.{AreBetween, around-between, between-append, between-before}
 use Rattle.md_frame.proofs.BetweenFacts.{between-behind}
 use Rattle.md_frame.proofs.BetweenFacts.{between-pair, between-unless, is_low, white-between}
-use Rattle.md_container_rooms.proofs.BlockQuote.Facts.{pair-prefixes}
+use Rattle.md_container_rooms.proofs.BlockQuote.Prefix.{pair-prefixes}
 use Rattle.md_frame.proofs.EventNames.{is_front}
 use Rattle.md_frame.proofs.EachEvent.{each-append}
 use Rattle.md_container_rooms.proofs.ListItem.Pieces.{is-marker}

@@ -21,13 +21,15 @@ use Rattle.md_outline.specs.Outlined.{OpenTextSpan, are_parted, parts_by, span_b
 use Rattle.md_seam.specs.Events.Nested.{Fits, Matches, is_enter, is_exit, open_behind}
 use Rattle.md_seam.specs.Events.Spelled.{AsDigits, AsFootnoteLabel, AsItemMarker, AsParagraph, OpenContainer, FootnoteShape}
 use Rattle.md_seam.specs.Events.Spelled.{ContainerRole}
-use Rattle.md_seam.specs.Events.Spelled.{IsEnding, IsPrefix, IsQuiet, ItemShape, OpenLeaf}
+use Rattle.md_seam.specs.Events.Spelled.{IsEnding, IsPrefix, IsQuiet, IsQuoteMarker, ItemShape, OpenLeaf}
 use Rattle.md_seam.specs.Events.Spelled.{LeafRole, OrderedShape, Purpose, QuoteShape, Reading, Role, Shape, TextRole, Text}
 use Rattle.md_seam.specs.Events.Spelled.{UnorderedShape, at_ending, block_around, block_of, byte_at, finished}
 use Rattle.md_seam.specs.Events.Spelled.{left, named, on_leaf, on_shape, read, read_by, role, spelled, text_to, told_at}
 use Rattle.md_seam.specs.Events.Spelled.{BreakLeaf, CodeLeaf, DefinitionLeaf, FenceLeaf, FrontmatterLeaf}
 use Rattle.md_seam.specs.Events.Spelled.{HeadingAtxLeaf}
-use Rattle.md_seam.specs.Events.Spelled.{HeadingSetextLeaf, HtmlLeaf, MathLeaf, TableLeaf, next_line, unread}
+use Rattle.md_seam.specs.Events.Spelled.{HeadingSetextLeaf, HtmlLeaf, MathLeaf, TableLeaf, is_before_blocks, kind_at}
+use Rattle.md_seam.specs.Events.Spelled.{next_line, unread, with_kind}
+use Rattle.md_meaning.specs.declared.alert.AlertKind.{AlertKind}
 use Rattle.md_content_rooms.proofs.Labels.Trees.{noted-then, noted_by, noted_in}
 
 -- The labels of what was read so far, from the outermost container in; that of the innermost is in front of its blocks.
@@ -116,6 +118,7 @@ abbrev Pure : Role → Type 0 → Type 0
 Pure (TextRole purpose) T = Unit {0}
 Pure IsEnding T = T
 Pure IsQuiet T = T
+Pure IsQuoteMarker T = T
 Pure _ T = ⊥
 
 abbrev Unparted : List Name → Type 0
@@ -205,6 +208,56 @@ marker-told bytes p (Some text) r =
     ∙ ap (λ (l : List (List ℕ)). l ++ noted_in r.here)
     (sym (item-notes AsItemMarker (text_to bytes p.index text) r.outer (λ e. cc)))
 
+-- a marker gives a quote its kind
+kind-notes : (kind : Option AlertKind) (shape : Shape) → shape_notes (with_kind kind shape) ≡ shape_notes shape
+kind-notes None shape = refl
+kind-notes (Some kind) (QuoteShape None) = refl
+kind-notes (Some kind) (QuoteShape (Some k)) = refl
+kind-notes (Some kind) _ = refl
+
+outer-kind : (kind : Option AlertKind) (outer : List OpenContainer) →
+    outer_notes (on_shape (with_kind kind) outer) ≡ outer_notes outer
+outer-kind kind [] = refl
+outer-kind kind (a ∷ outer) =
+    ap (λ (l : List (List ℕ)). (outer_notes outer ++ noted_in a.before) ++ l) (kind-notes kind a.shape)
+
+abbrev marked : List ℕ → Point → Bool → Reading → Reading
+marked bytes p x r = cond x (record r { outer = on_shape (with_kind (kind_at bytes p.index)) r.outer }) r
+
+quote-told : (bytes : List ℕ) (p : Point) (r : Reading) →
+    read_notes r ++ [] ≡ read_notes (read_by bytes Enter IsQuoteMarker p r)
+quote-told bytes p r = append-nil (read_notes r) ∙ sym (go (is_before_blocks r.text r.leaf r.here))
+  where
+    go : (x : Bool) → read_notes (marked bytes p x r) ≡ read_notes r
+    go true = ap (λ (l : List (List ℕ)). l ++ noted_in r.here) (outer-kind (kind_at bytes p.index) r.outer)
+    go false = refl
+
+-- and none to a footnote definition
+footnote-kind : (kind : Option AlertKind) (a : OpenContainer) (label : List ℕ) (outer : List OpenContainer) →
+    a.shape ≡ FootnoteShape label → on_shape (with_kind kind) (a ∷ outer) ≡ a ∷ outer
+footnote-kind kind a label outer is =
+    ap (λ (shape : Shape). record a { shape = shape } ∷ outer) (ap (with_kind kind) is ∙ go kind ∙ sym is)
+  where
+    go : (kind : Option AlertKind) → with_kind kind (FootnoteShape label) ≡ FootnoteShape label
+    go None = refl
+    go (Some k) = refl
+
+quote-same : (bytes : List ℕ) (p : Point) (r : Reading) (label : List ℕ) (before : Blocks)
+    (outer : List OpenContainer) →
+    r.outer ≡ record { shape = FootnoteShape label; before = before } ∷ outer →
+    read_by bytes Enter IsQuoteMarker p r ≡ r
+quote-same bytes p r label before outer is = go (is_before_blocks r.text r.leaf r.here)
+  where
+    kind : Option AlertKind
+    kind = kind_at bytes p.index
+
+    go : (x : Bool) → marked bytes p x r ≡ r
+    go true =
+        ap (λ (l : List OpenContainer). record r { outer = l })
+        (ap (on_shape (with_kind kind)) is
+        ∙ footnote-kind kind (record { shape = FootnoteShape label; before = before }) label outer refl ∙ sym is)
+    go false = refl
+
 -- a paragraph ends
 paragraph-told : (bytes : List ℕ) (p : Point) (text : Option Text) (r : Reading) →
     read_notes r ++ [] ≡ read_notes (told_at bytes AsParagraph p text r)
@@ -237,7 +290,7 @@ leaf-finished (Some leaf) r =
 
 -- a container ends
 around-notes : (shape : Shape) (bs : Blocks) → noted_by (block_around shape bs) ≡ shape_notes shape ++ noted_in bs
-around-notes QuoteShape bs = refl
+around-notes (QuoteShape alert) bs = refl
 around-notes OrderedShape bs = refl
 around-notes UnorderedShape bs = refl
 around-notes (ItemShape marker digits) bs = refl
@@ -258,7 +311,7 @@ container-left (a ∷ outer) r e =
 among-begins : (bytes : List ℕ) (name : Name) (x : Role) (p : Point) (names : List Name) (span : Option OpenTextSpan)
     (from : ℕ) (r : Reading) → role name ≡ x → MayBegin bytes p AmongBlocks x →
     Stepped bytes Enter name x p AmongBlocks (inner_in p AmongBlocks x) names span from r
-among-begins bytes name (ContainerRole QuoteShape) p names span from r e may =
+among-begins bytes name (ContainerRole (QuoteShape alert)) p names span from r e may =
     (append-nil (read_notes r) ∙ sym (append-nil (read_notes r)) ∙ sym (append-nil (read_notes r ++ [])), tt)
 among-begins bytes name (ContainerRole OrderedShape) p names span from r e may = absurd may
 among-begins bytes name (ContainerRole UnorderedShape) p names span from r e may = absurd may
@@ -278,6 +331,7 @@ among-begins bytes name (LeafRole kind) p names span from r e may = (append-nil 
 among-begins bytes name (TextRole AsParagraph) p names span from r e may = (append-nil (read_notes r), tt)
 among-begins bytes name (TextRole purpose) p names span from r e may = absurd may
 among-begins bytes name IsPrefix p names span from r e may = (append-nil (read_notes r), tt)
+among-begins bytes name IsQuoteMarker p names span from r e may = (quote-told bytes p r, tt)
 among-begins bytes name IsEnding p names span from r e may = (append-nil (read_notes r), tt)
 among-begins bytes name IsQuiet p names span from r e may = (append-nil (read_notes r), tt)
 among-begins bytes name _ p names span from r e may = absurd may
@@ -287,6 +341,7 @@ among-ends : (bytes : List ℕ) (held : List Bool) (name : Name) (x : Role) (p :
     Stepped bytes Exit name x p AmongBlocks AmongBlocks names span from r
 among-ends bytes held name (ContainerRole shape) p names span from r may = (container-left r.outer r refl, tt)
 among-ends bytes held name IsPrefix p names span from r may = (append-nil (read_notes r), tt)
+among-ends bytes held name IsQuoteMarker p names span from r may = (append-nil (read_notes r), tt)
 among-ends bytes held name IsEnding p names span from r may =
     let same = ending-outer bytes p r.text r in (still bytes r (at_ending bytes p r.text r) same.0 same.1, tt)
 among-ends bytes held name IsQuiet p names span from r may = (append-nil (read_notes r), tt)
@@ -319,6 +374,7 @@ leaf-begins : (bytes : List ℕ) (name : Name) (x : Role) (p : Point) (names : L
 leaf-begins bytes name (ContainerRole shape) p names span from r may = absurd may
 leaf-begins bytes name (LeafRole kind) p names span from r may = absurd may
 leaf-begins bytes name (TextRole purpose) p names span from r may = (append-nil (read_notes r), tt)
+leaf-begins bytes name IsQuoteMarker p names span from r may = (quote-told bytes p r, tt)
 leaf-begins bytes name _ p names span from r may = (append-nil (read_notes r), tt)
 
 leaf-ends : (bytes : List ℕ) (held : List Bool) (name : Name) (x : Role) (p : Point) (names : List Name)
@@ -338,6 +394,7 @@ text-begins : (bytes : List ℕ) (name : Name) (x : Role) (p : Point) (names : L
     (from : ℕ) (r : Reading) → MayBegin bytes p InText x →
     Stepped bytes Enter name x p InText (inner_in p InText x) names span from r
 text-begins bytes name IsPrefix p names span from r may = (append-nil (read_notes r), tt)
+text-begins bytes name IsQuoteMarker p names span from r may = (quote-told bytes p r, tt)
 text-begins bytes name IsEnding p names span from r may = (append-nil (read_notes r), tt)
 text-begins bytes name IsQuiet p names span from r may = (append-nil (read_notes r), tt)
 text-begins bytes name _ p names span from r may = absurd may
@@ -348,6 +405,7 @@ text-ends : (bytes : List ℕ) (held : List Bool) (name : Name) (x : Role) (p : 
 text-ends bytes held name (TextRole AsParagraph) p names span from r may = (paragraph-told bytes p r.text r, tt)
 text-ends bytes held name (TextRole purpose) p names span from r may = absurd may
 text-ends bytes held name IsPrefix p names span from r may = (append-nil (read_notes r), tt)
+text-ends bytes held name IsQuoteMarker p names span from r may = (append-nil (read_notes r), tt)
 text-ends bytes held name IsEnding p names span from r may =
     let same = ending-outer bytes p r.text r in (still bytes r (at_ending bytes p r.text r) same.0 same.1, tt)
 text-ends bytes held name IsQuiet p names span from r may = (append-nil (read_notes r), tt)
@@ -359,6 +417,7 @@ text-ends bytes held name _ p names span from r may = absurd may
 above-begins : (name : Name) (x : Role) (names : List Name) → role name ≡ x → IsBetween x → Unbegun names →
     Unbegun (name ∷ names)
 above-begins name IsPrefix names e may h = subst (λ (y : Role). Above y (Unbegun names)) (sym e) h
+above-begins name IsQuoteMarker names e may h = subst (λ (y : Role). Above y (Unbegun names)) (sym e) h
 above-begins name IsEnding names e may h = subst (λ (y : Role). Above y (Unbegun names)) (sym e) h
 above-begins name IsQuiet names e may h = subst (λ (y : Role). Above y (Unbegun names)) (sym e) h
 above-begins name _ names e may h = absurd may
@@ -373,6 +432,7 @@ above-ends name x (innermost ∷ names) e may fits h = go x may (subst (λ (y : 
 
     go : (x : Role) → IsBetween x → Above x (Unbegun names) → Unbegun names
     go IsPrefix may h = h
+    go IsQuoteMarker may h = h
     go IsEnding may h = h
     go IsQuiet may h = h
     go _ may h = absurd may
@@ -420,12 +480,12 @@ prefix-open name (innermost ∷ names) e fits h =
 
 begun-between : (bytes : List ℕ) (kind : Kind) (name : Name) (x : Role) (p : Point) (names : List Name)
     (span : Option OpenTextSpan) (from : ℕ) (r : Reading) → role name ≡ x → IsBetween x → Fits names kind name →
-    IsBegun names span from r.text →
+    (read_by bytes Enter IsQuoteMarker p r ≡ r) → IsBegun names span from r.text →
     IsBegun (open_behind names kind name) (span_by kind x p span) (from_by kind x p from)
     (read_by bytes kind x p r).text
-begun-between bytes Enter name IsPrefix p names span from r e may fits h =
+begun-between bytes Enter name IsPrefix p names span from r e may fits same h =
     (record h.0 { is_parted = true }, ap (λ (o : Option OpenTextSpan). span_by Enter IsPrefix p o) h.1, inl refl)
-begun-between bytes Exit name IsPrefix p names span from r e may fits h =
+begun-between bytes Exit name IsPrefix p names span from r e may fits same h =
     (record h.0 { from = byte_at p }, ap (λ (o : Option OpenTextSpan). span_by Exit IsPrefix p o) h.1, go h.2)
   where
     go : (h.0.is_parted ≡ true) ⊎ BeginsAt names from r.text →
@@ -433,37 +493,48 @@ begun-between bytes Exit name IsPrefix p names span from r e may fits h =
         ⊎ BeginsAt (open_behind names Exit name) from (read_by bytes Exit IsPrefix p r).text
     go (inl is) = inl is
     go (inr is) = absurd (prefix-open name names e fits is.0)
-begun-between bytes Enter name IsEnding p names span from r e may fits h =
+begun-between bytes Enter name IsQuoteMarker p names span from r e may fits same h =
+    begun-by names (name ∷ names) span span from r.text _ refl (ap (λ (s : Reading). s.text) same)
+    (pure-begins name IsQuoteMarker names e (λ T t. t)) h
+begun-between bytes Exit name IsQuoteMarker p names span from r e may fits same h =
+    begun-by names (open_behind names Exit name) span span from r.text r.text refl refl
+    (pure-ends name IsQuoteMarker names e fits (λ T t. t)) h
+begun-between bytes Enter name IsEnding p names span from r e may fits same h =
     begun-by names (name ∷ names) span span from r.text r.text refl refl
     (pure-begins name IsEnding names e (λ T t. t)) h
-begun-between bytes Exit name IsEnding p names span from r e may fits h =
+begun-between bytes Exit name IsEnding p names span from r e may fits same h =
     begun-by names (open_behind names Exit name) span span from r.text _ refl (ending-text bytes p r.text r)
     (pure-ends name IsEnding names e fits (λ T t. t)) h
-begun-between bytes Enter name IsQuiet p names span from r e may fits h =
+begun-between bytes Enter name IsQuiet p names span from r e may fits same h =
     begun-by names (name ∷ names) span span from r.text r.text refl refl
     (pure-begins name IsQuiet names e (λ T t. t)) h
-begun-between bytes Exit name IsQuiet p names span from r e may fits h =
+begun-between bytes Exit name IsQuiet p names span from r e may fits same h =
     begun-by names (open_behind names Exit name) span span from r.text r.text refl refl
     (pure-ends name IsQuiet names e fits (λ T t. t)) h
-begun-between bytes kind name _ p names span from r e may fits h = absurd may
+begun-between bytes kind name _ p names span from r e may fits same h = absurd may
 
 -- so the place is the same
 label-same : (bytes : List ℕ) (kind : Kind) (x : Role) (p : Point) (r : Reading) → IsBetween x →
+    read_by bytes Enter IsQuoteMarker p r ≡ r →
     (outer : (read_by bytes kind x p r).outer ≡ r.outer) × ((read_by bytes kind x p r).here ≡ r.here)
     × (own_by bytes kind x p 0 ≡ [])
-label-same bytes Enter IsPrefix p r may = (refl, refl, refl)
-label-same bytes Exit IsPrefix p r may = (refl, refl, refl)
-label-same bytes Enter IsEnding p r may = (refl, refl, refl)
-label-same bytes Exit IsEnding p r may =
+label-same bytes Enter IsPrefix p r may same = (refl, refl, refl)
+label-same bytes Exit IsPrefix p r may same = (refl, refl, refl)
+label-same bytes Enter IsQuoteMarker p r may same =
+    (ap (λ (s : Reading). s.outer) same, ap (λ (s : Reading). s.here) same, refl)
+label-same bytes Exit IsQuoteMarker p r may same = (refl, refl, refl)
+label-same bytes Enter IsEnding p r may same = (refl, refl, refl)
+label-same bytes Exit IsEnding p r may none =
     let same = ending-outer bytes p r.text r in (same.0, same.1, refl)
-label-same bytes Enter IsQuiet p r may = (refl, refl, refl)
-label-same bytes Exit IsQuiet p r may = (refl, refl, refl)
-label-same bytes kind _ p r may = absurd may
+label-same bytes Enter IsQuiet p r may same = (refl, refl, refl)
+label-same bytes Exit IsQuiet p r may same = (refl, refl, refl)
+label-same bytes kind _ p r may same = absurd may
 
 own-none : (bytes : List ℕ) (kind : Kind) (x : Role) (p : Point) (from : ℕ) → IsBetween x →
     own_by bytes kind x p from ≡ []
 own-none bytes Enter x p from may = refl
 own-none bytes Exit IsPrefix p from may = refl
+own-none bytes Exit IsQuoteMarker p from may = refl
 own-none bytes Exit IsEnding p from may = refl
 own-none bytes Exit IsQuiet p from may = refl
 own-none bytes Exit _ p from may = absurd may
@@ -477,18 +548,21 @@ label-between : (bytes : List ℕ) (kind : Kind) (name : Name) (x : Role) (p : P
     (span : Option OpenTextSpan) (from : ℕ) (r : Reading) → role name ≡ x → IsBetween x → Fits names kind name →
     IsAt InLabel names span from r → Stepped bytes kind name x p InLabel InLabel names span from r
 label-between bytes kind name x p names span from r e may fits at =
-    let same = label-same bytes kind x p r may in (
+    let same = label-same bytes kind x p r may unchanged in (
       ap (λ (l : List (List ℕ)). before_notes r.outer ++ l) (own-none bytes kind x p from may)
           ∙ append-nil (before_notes r.outer) ∙ ap before_notes (sym same.0),
       (at.0, at.1, same.0 ∙ at.2, same.1 ∙ at.3, go at.4),
     )
   where
+    unchanged : read_by bytes Enter IsQuoteMarker p r ≡ r
+    unchanged = quote-same bytes p r [] at.0 at.1 at.2
+
     go : Unbegun names ⊎ IsBegun names span from r.text →
         Unbegun (open_behind names kind name)
         ⊎ IsBegun (open_behind names kind name) (span_by kind x p span) (from_by kind x p from)
         (read_by bytes kind x p r).text
     go (inl h) = inl (above-between kind name x names e may fits h)
-    go (inr h) = inr (begun-between bytes kind name x p names span from r e may fits h)
+    go (inr h) = inr (begun-between bytes kind name x p names span from r e may fits unchanged h)
 
 label-begins : (bytes : List ℕ) (name : Name) (x : Role) (p : Point) (names : List Name) (span : Option OpenTextSpan)
     (from : ℕ) (r : Reading) → role name ≡ x → MayBegin bytes p InLabel x → IsAt InLabel names span from r →
@@ -509,6 +583,8 @@ label-begins bytes name (TextRole AsFootnoteLabel) p names span from r e may at 
 )
 label-begins bytes name IsPrefix p names span from r e may at =
     label-between bytes Enter name IsPrefix p names span from r e tt tt at
+label-begins bytes name IsQuoteMarker p names span from r e may at =
+    label-between bytes Enter name IsQuoteMarker p names span from r e tt tt at
 label-begins bytes name IsEnding p names span from r e may at =
     label-between bytes Enter name IsEnding p names span from r e tt tt at
 label-begins bytes name IsQuiet p names span from r e may at =
@@ -557,6 +633,8 @@ label-ends bytes held name (TextRole AsFootnoteLabel) p names span from r e may 
         by (inr is) = label-told bytes p from r at.0 at.1 is.1 at.2 at.3 is.2 is.3 is.4
 label-ends bytes held name IsPrefix p names span from r e may fits parts at =
     label-between bytes Exit name IsPrefix p names span from r e tt fits at
+label-ends bytes held name IsQuoteMarker p names span from r e may fits parts at =
+    label-between bytes Exit name IsQuoteMarker p names span from r e tt fits at
 label-ends bytes held name IsEnding p names span from r e may fits parts at =
     label-between bytes Exit name IsEnding p names span from r e tt fits at
 label-ends bytes held name IsQuiet p names span from r e may fits parts at =

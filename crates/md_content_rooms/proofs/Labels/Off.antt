@@ -9,7 +9,7 @@ use Rattle.md_content_rooms.proofs.Labels.Trees.{noted_by, noted_in}
 mutual
   off-by : (options : ParseOptions) (b : Block) → options.constructs.gfm_footnote_definition ≡ false →
       is_on options b ≡ true → noted_by b ≡ []
-  off-by options (Quote bs) off on = off-in options bs off (and_parts _ _ on).1
+  off-by options (Quote alert bs) off on = off-in options bs off (and_parts _ _ on).1
   off-by options (ListOf marker items) off on = off-in options items off (and_parts _ _ on).1
   off-by options (Item marker digits bs) off on = off-in options bs off (and_parts _ _ on).1
   off-by options (Footnote label bs) off on =

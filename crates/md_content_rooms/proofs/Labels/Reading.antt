@@ -40,7 +40,7 @@ labels-enters (c ∷ cs) r = labels-enters cs (begins c r) ∙ append-nil (read_
 
 -- and one that ends has those of its blocks
 around-labels : (shape : Shape) (bs : Blocks) → defined_by (block_around shape bs) ≡ defined_in bs
-around-labels QuoteShape bs = refl
+around-labels (QuoteShape alert) bs = refl
 around-labels OrderedShape bs = refl
 around-labels UnorderedShape bs = refl
 around-labels (ItemShape marker digits) bs = refl

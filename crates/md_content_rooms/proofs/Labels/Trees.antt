@@ -64,7 +64,7 @@ labels-front b bs = refl
 
 mutual
   block-grouped : (b : Block) → block_labels (grouped_block b) ≡ block_labels b
-  block-grouped (Quote bs) = grouped-labels bs
+  block-grouped (Quote alert bs) = grouped-labels bs
   block-grouped (Item m d bs) = grouped-labels bs
   block-grouped (Footnote label bs) =
       ap

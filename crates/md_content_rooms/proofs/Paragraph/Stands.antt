@@ -8,7 +8,7 @@ use Rattle.md_engine.specs.declared.event.Point.{Point}
 use Rattle.md_containers.specs.ItemsStand.{InText}
 use Rattle.md_containers.proofs.UnlistedLemmas.{StandsTo, among}
 use Rattle.md_seam.specs.Events.Nested.{around}
-use Rattle.md_seam.specs.Events.Spelled.{AsParagraph, IsEnding, IsPrefix, IsQuiet, Role, TextRole, role}
+use Rattle.md_seam.specs.Events.Spelled.{AsParagraph, IsEnding, IsPrefix, IsQuiet, IsQuoteMarker, Role, TextRole, role}
 use Rattle.md_seam.proofs.SpelledLemmas.{Between, Roles}
 use Rattle.md_frame.proofs.LeafStands.{Encloses, Moves, around-stands, roles-stand, site_of}
 
@@ -19,6 +19,8 @@ text-stays bytes held Enter IsQuiet p h = record { may = tt; behind = refl }
 text-stays bytes held Exit IsQuiet p h = record { may = tt; behind = refl }
 text-stays bytes held Enter IsPrefix p h = record { may = tt; behind = refl }
 text-stays bytes held Exit IsPrefix p h = record { may = tt; behind = refl }
+text-stays bytes held Enter IsQuoteMarker p h = record { may = tt; behind = refl }
+text-stays bytes held Exit IsQuoteMarker p h = record { may = tt; behind = refl }
 text-stays bytes held Enter IsEnding p h = record { may = tt; behind = refl }
 text-stays bytes held Exit IsEnding p h = record { may = tt; behind = refl }
 text-stays bytes held kind _ p h = absurd h

@@ -14,21 +14,22 @@ use Rattle.md_outline.specs.Between.{is_between}
 use Rattle.md_seam.specs.Events.Endings.{line_start}
 use Rattle.md_seam.specs.Events.Grammar.{Expression, blocks, plain_text, unread_text}
 use Rattle.md_seam.specs.Events.Nested.{pair}
-use Rattle.md_seam.specs.Events.Spelled.{IsEnding as EndingRole, IsPrefix, IsQuiet, Reading, Role}
+use Rattle.md_seam.specs.Events.Spelled.{IsEnding as EndingRole, IsPrefix, IsQuiet, IsQuoteMarker, Reading, Role}
 use Rattle.md_seam.proofs.EndingsLemmas as ending
 use Rattle.md_seam.proofs.EndingsLemmas.{others-lead}
 use Rattle.md_seam.proofs.GrammarLemmas as grammar
-use Rattle.md_seam.proofs.SpelledLemmas.{Between, Roles, read-between, read-from, roles-append}
+use Rattle.md_seam.proofs.SpelledLemmas.{Between, Roles, Unmarked, read-between, read-from, roles-append}
+use Rattle.md_seam.proofs.SpelledLemmas.{unmarked-append}
 use Rattle.md_frame.specs.EndingName.{ending_name}
 use Rattle.md_frame.specs.Row.{Row, is_blank_row, last_row, span_behind}
 use Rattle.md_frame.proofs.BetweenFacts.{AreBetween, between-append, between-pair, ending-before, ending-behind}
 use Rattle.md_frame.proofs.EachEvent.{each-append}
-use Rattle.md_frame.proofs.EndingFacts.{ended-roles, ending-leads, ending-nested, ending-no_parts, ending-stood}
-use Rattle.md_frame.proofs.EndingFacts.{ending-unlinked, ending-word}
+use Rattle.md_frame.proofs.EndingFacts.{ended-roles, ended-unmarked, ending-leads, ending-nested, ending-no_parts}
+use Rattle.md_frame.proofs.EndingFacts.{ending-stood, ending-unlinked, ending-word}
 use Rattle.md_frame.proofs.FillFacts.{fill-append, fill-same}
 use Rattle.md_frame.proofs.FrontFacts.{LinePrefix}
 use Rattle.md_frame.proofs.FrontLemmas.{fronts-balanced, fronts-spans}
-use Rattle.md_frame.proofs.FrontNames.{fronts-no_parts, fronts-prefixes, fronts-unlinked}
+use Rattle.md_frame.proofs.FrontNames.{fronts-no_parts, fronts-prefixes, fronts-unlinked, fronts-unmarked}
 use Rattle.md_frame.proofs.FrontStands.{fronts-between, fronts-others, fronts-stood, fronts-tiled}
 use Rattle.md_frame.proofs.GrammarFronts.{blocks_behind, front-stays}
 use Rattle.md_frame.proofs.LeafFacts.{LeafFacts, StandFacts, leaf-of, shown, spot_behind, stand-of}
@@ -54,8 +55,9 @@ pub record GapFacts (bytes : List ℕ) (blank : Bool) (p q : Point) (gap : List 
   -- behind it blocks may stand, and a line begins
   pub word : (text : Expression) (block : Bool) → grammar.Leads text (blocks_behind block ∷ []) (blocks ∷ []) gap
   pub ending : ending.Leads (spot_behind (not blank)) line_start gap
-  -- it stands between blocks, and is no text
+  -- it stands between blocks, gives no quote a kind, and is no text
   pub roles : Roles Between gap
+  pub unmarked : Unmarked bytes gap
   pub still : Roles Still gap
   pub untold : Roles Untold gap
   pub no_parts : NoParts gap
@@ -84,9 +86,11 @@ gap-facts bytes blank p at q front whole is fronts = record {
   ending =
       ending.leads-append (spot_behind (not blank)) line_start line_start ended front (ending-leads blank p at)
       (others-lead line_start front refl (fronts-others bytes [] at q front fronts));
-  roles = both Between tt tt tt;
-  still = both Still tt tt tt;
-  untold = both Untold (refl, refl) (refl, refl) (refl, refl);
+  roles = both Between tt tt tt tt;
+  unmarked =
+      unmarked-append bytes ended front (ended-unmarked bytes blank p at) (fronts-unmarked bytes at q front fronts);
+  still = both Still tt tt tt tt;
+  untold = both Untold (refl, refl) (refl, refl) (refl, refl) (refl, refl);
   no_parts =
       each-append IsNoPart ended front (ending-no_parts blank p at) (fronts-no_parts bytes at q front fronts);
   unlinked =
@@ -104,11 +108,11 @@ gap-facts bytes blank p at q front whole is fronts = record {
     line : AreBetween bytes front × (is_between bytes q.index ≡ true)
     line = fronts-between bytes [] at q front (ending-behind bytes p at is) fronts
 
-    both : (P : Role → Type 0) → P EndingRole → P IsQuiet → P IsPrefix →
+    both : (P : Role → Type 0) → P EndingRole → P IsQuiet → P IsPrefix → P IsQuoteMarker →
         Roles P (pair (ending_name blank) p at ++ front)
-    both P end quiet prefix =
+    both P end quiet prefix marker =
         roles-append P ended front (ended-roles P blank p at quiet end)
-        (prefixes-roles P front quiet prefix (fronts-prefixes bytes [] at q front refl fronts))
+        (prefixes-roles P front quiet prefix marker (fronts-prefixes bytes [] at q front refl fronts))
 
 -- Events with others behind them, and what stands between two lines between them: all of them stand from the begin of
 -- the first to the end of the last. No tab of a character is cut where the others begin.
@@ -187,7 +191,7 @@ facts-behind bytes block blank full p e at q us ds gap vs ws h g whole k =
     let s = shown block r in
     let same = still block r in
     read-from bytes r s ds (gap ++ ws) (h.reads r text shut)
-    ∙ read-from bytes s s gap ws (read-between bytes s gap (same.0 ∙ text) (same.1 ∙ shut) g.roles)
+    ∙ read-from bytes s s gap ws (read-between bytes s gap (same.0 ∙ text) (same.1 ∙ shut) g.roles g.unmarked)
     ∙ k.reads s (same.0 ∙ text) (same.1 ∙ shut))
   where
     -- a block more leaves what is open as it is

@@ -15,7 +15,7 @@ use Rattle.md_seam.proofs.EndingsLemmas.{Stays, stays-append, stays-others}
 use Rattle.md_seam.proofs.GrammarLemmas as grammar
 use Rattle.md_seam.proofs.InlineLemmas.{same-refl}
 use Rattle.md_seam.proofs.NestedLemmas.{at_or_before-refl, balanced-none}
-use Rattle.md_seam.proofs.SpelledLemmas.{QuietOrPrefix, Roles, read-from, read-prefixes, roles-append}
+use Rattle.md_seam.proofs.SpelledLemmas.{QuietOrPrefix, Roles, read-from, read-within, roles-append}
 use Rattle.md_outline.specs.Between.{is_between}
 use Rattle.md_outline.specs.LinesStand.{Site}
 use Rattle.md_outline.proofs.LinesPass.{IsOnLine, ended_site, passes-ending, passes-prefixes}
@@ -204,18 +204,18 @@ front-inside bytes p q x leaf site front takes on is = record {
   word = front-stays plain_text x bytes [] p q front takes is refl;
   unread_stays = stays-others front (fronts-others bytes [] p q front is);
   stays = stays-others front (fronts-others bytes [] p q front is);
-  unread_roles = prefixes-roles IsPart front tt tt names;
-  roles = prefixes-roles IsPart front tt tt names;
+  unread_roles = prefixes-roles IsPart front tt tt tt names;
+  roles = prefixes-roles IsPart front tt tt tt names;
   parts = stands-outside bytes front outside unlinked;
   filled = fill-same bytes front unlinked outside;
   between = λ first last. (fronts-between bytes [] p q front first is).0;
   parted = fronts-sit bytes [] p q front is;
   plain = λ first. record {
     known = (plain-front bytes [] p q front is).known;
-    lines = passes-prefixes bytes site front on (prefixes-roles QuietOrPrefix front tt tt names);
+    lines = passes-prefixes bytes site front on (prefixes-roles QuietOrPrefix front tt tt tt names);
   };
   reads =
-      λ s text is_open. read-prefixes bytes s front text (prefixes-roles QuietOrPrefix front tt tt names)
+      λ s text is_open. read-within bytes s leaf front text is_open (prefixes-roles QuietOrPrefix front tt tt tt names)
       ∙ ap (λ (o : Option OpenLeaf). record s { leaf = o }) is_open;
 }
   where

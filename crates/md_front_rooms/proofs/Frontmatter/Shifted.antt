@@ -12,7 +12,7 @@ use Rattle.md_seam.specs.Events.Spelled.{IsEnding}
 use Rattle.md_seam.specs.Events.Spelled.{IsFence, IsPrefix, IsQuiet, IsRow, IsTitle, OpenLeaf, LeafRole, Purpose, Reading}
 use Rattle.md_seam.specs.Events.Spelled.{Role, Shape}
 use Rattle.md_seam.specs.Events.Spelled.{TextRole, Text, add_block, at_ending, finished, left, named, next_line, on_leaf}
-use Rattle.md_seam.specs.Events.Spelled.{on_shape}
+use Rattle.md_seam.specs.Events.Spelled.{IsQuoteMarker, is_before_blocks, kind_at, on_shape, with_kind}
 use Rattle.md_seam.specs.Events.Spelled.{read, read_by, role, told, told_at, unread}
 
 -- Behind a block.
@@ -79,6 +79,35 @@ names b f r =
     let x : Reading = record r { outer = shift_outer b (on_shape f r.outer); here = bs } in x)
     (names-here b f r.outer r.here)
 
+-- a marker may give a quote its kind: where no container is open it gives none, and in one the blocks are the same
+marks : (b : Block) (f : Shape → Shape) (outer : List OpenContainer) (here : Blocks) (leaf : Option OpenLeaf)
+    (text : Option Text) →
+    let r : Reading = record { outer = outer; here = here; leaf = leaf; text = text } in
+    cond (is_before_blocks text leaf (shift_here b outer here))
+    (record (shift b r) { outer = on_shape f (shift_outer b outer) }) (shift b r) ≡
+    shift b (cond (is_before_blocks text leaf here) (record r { outer = on_shape f outer }) r)
+marks b f [] here leaf text =
+    same (is_before_blocks text leaf (More b here)) (is_before_blocks text leaf here)
+  where
+    r : Reading
+    r = record { outer = []; here = here; leaf = leaf; text = text }
+
+    same : (x y : Bool) → cond x (shift b r) (shift b r) ≡ shift b (cond y r r)
+    same true true = refl
+    same true false = refl
+    same false true = refl
+    same false false = refl
+marks b f (a ∷ outer) here leaf text = go (is_before_blocks text leaf here)
+  where
+    r : Reading
+    r = record { outer = a ∷ outer; here = here; leaf = leaf; text = text }
+
+    go : (x : Bool) →
+        cond x (record (shift b r) { outer = on_shape f (shift_outer b (a ∷ outer)) }) (shift b r) ≡
+        shift b (cond x (record r { outer = on_shape f (a ∷ outer) }) r)
+    go true = names b f r
+    go false = refl
+
 -- a text ends
 tells : (b : Block) (purpose : Purpose) (line : Line) (r : Reading) →
     told purpose line (shift b r) ≡ shift b (told purpose line r)
@@ -121,6 +150,7 @@ one b bytes Enter IsRow p r = refl
 one b bytes Enter IsCell p r = refl
 one b bytes Enter IsPrefix p r = refl
 one b bytes Enter IsEnding p r = refl
+one b bytes Enter IsQuoteMarker p r = marks b (with_kind (kind_at bytes p.index)) r.outer r.here r.leaf r.text
 one b bytes Enter IsQuiet p r = refl
 one b bytes Exit (ContainerRole shape) p r = leaves b r.outer r.here r.leaf r.text
 one b bytes Exit (LeafRole kind) p r = finishes b r.leaf r
@@ -129,6 +159,7 @@ one b bytes Exit IsTitle p r = refl
 one b bytes Exit IsPrefix p r = refl
 one b bytes Exit IsEnding p r = ends-line b bytes p r.text r
 one b bytes Exit IsFence p r = refl
+one b bytes Exit IsQuoteMarker p r = refl
 one b bytes Exit IsRow p r = refl
 one b bytes Exit IsCell p r = refl
 one b bytes Exit IsQuiet p r = refl

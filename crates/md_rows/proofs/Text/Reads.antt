@@ -29,7 +29,7 @@ use Rattle.md_seam.specs.Events.Tiles.{plain_read}
 use Rattle.md_seam.specs.Spaces.{any_size}
 use Rattle.md_seam.proofs.FeedLines.{cell, past_text-whole}
 use Rattle.md_seam.proofs.RestCells.{Cut, past_cut, past_rest, rest-end, rest_cells}
-use Rattle.md_seam.proofs.SpelledLemmas.{Between, read-between, read-from, roles-append}
+use Rattle.md_seam.proofs.SpelledLemmas.{Between, QuietOrEnding, read-between, read-from, roles-append, unmarked-append}
 use Rattle.md_frame.specs.Row.{Row, ending_events}
 use Rattle.md_rows.specs.Rows.{behind_cut, cut_at_most, cut_by, defined_done, further_lines}
 use Rattle.md_frame.specs.Row.{last_row}
@@ -42,7 +42,9 @@ use Rattle.md_content_rooms.proofs.Defined.Is.{IsDefined}
 use Rattle.md_frame.proofs.FrontFacts.{LinePrefix}
 use Rattle.md_rows.proofs.GroupLines.{AreLines}
 use Rattle.md_frame.proofs.LeafStands.{ending-roles}
+use Rattle.md_frame.proofs.FrontNames.{fronts-unmarked}
 use Rattle.md_frame.proofs.ParagraphLines.{fronts-between}
+use Rattle.md_frame.proofs.Unmarked.{inline-unmarked}
 use Rattle.md_rows.proofs.SpelledParagraphs.{read-lines, text-filled}
 use Rattle.md_rows.proofs.GroupLines.{kept-of}
 use Rattle.md_rows.proofs.Text.Facts.{lines-read}
@@ -215,6 +217,9 @@ read-gap options bytes last next left r more none shut =
     read-between bytes r (ending_events n.LineEnding last ++ next.front) none shut
     (roles-append Between (ending_events n.LineEnding last) next.front (ending-roles Between n.LineEnding last tt)
     (fronts-between bytes [] more.0 next.first next.front more.1 refl))
+    (unmarked-append bytes (ending_events n.LineEnding last) next.front
+    (inline-unmarked bytes (ending_events n.LineEnding last) (ending-roles QuietOrEnding n.LineEnding last tt))
+    (fronts-unmarked bytes more.0 next.first next.front more.1))
 
 -- At most so many definitions, and what remains.
 

@@ -32,7 +32,7 @@ use Rattle.md_rows.proofs.Turned.Events.{gap_events, line_left, so_far, under_le
 pub front-quiet : (bytes : List ℕ) (p q : Point) (front : List Event) → LinePrefix bytes [] p q front →
     Roles QuietOrPrefix front
 front-quiet bytes p q front is =
-    prefixes-roles QuietOrPrefix front tt tt (fronts-prefixes bytes [] p q front refl is)
+    prefixes-roles QuietOrPrefix front tt tt tt (fronts-prefixes bytes [] p q front refl is)
 
 pub gap-inside : (bytes : List ℕ) (p at q : Point) (front : List Event) (markers : List ℕ) (text : List (List ℕ)) →
     p.vs ≡ 0 → IsEnding bytes p at → LinePrefix bytes [] at q front →

@@ -131,7 +131,7 @@ gap-between : (bytes : List ℕ) (row next : Row) → IsGap bytes row next → R
 gap-between bytes row next gap =
     roles-append Between (ending_events n.LineEnding row) next.front
     (subst (Roles Between) (sym (ending-is n.LineEnding row gap.behind gap.after)) (tt, (tt, tt)))
-    (prefixes-roles Between next.front tt tt
+    (prefixes-roles Between next.front tt tt tt
     (fronts-prefixes bytes [] gap.behind next.first next.front refl gap.front))
 
 -- as between the lines of any leaf

@@ -61,7 +61,7 @@ further-between : (bytes : List ℕ) (e b r q : Point) (front : List Event) (s :
     AreLines bytes r q s → Roles Between (front ++ strand_done bytes s)
 further-between bytes e b r q front s break more =
     roles-append Between front (strand_done bytes s)
-    (prefixes-roles Between front tt tt (fronts-prefixes bytes [] b r front refl break.front_is))
+    (prefixes-roles Between front tt tt tt (fronts-prefixes bytes [] b r front refl break.front_is))
     (done-texts bytes r q s more)
 
 pub strand-passes : (bytes : List ℕ) (part : Part) (name : Name) (p q : Point) (s : Strand) →

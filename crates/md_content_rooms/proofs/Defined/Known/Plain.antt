@@ -13,7 +13,7 @@ use Rattle.md_outline.proofs.DefinedPass.{passes-untitled}
 use Rattle.md_seam.specs.Events.Inline.{pair_unless_empty, plain_chunk}
 use Rattle.md_seam.specs.Events.Nested.{around, enter, exit, pair}
 use Rattle.md_seam.specs.Events.Places.{same_place}
-use Rattle.md_seam.specs.Events.Spelled.{IsEnding, IsPrefix, IsQuiet, Role, role}
+use Rattle.md_seam.specs.Events.Spelled.{IsEnding, IsPrefix, IsQuiet, IsQuoteMarker, Role, role}
 use Rattle.md_seam.proofs.SpelledLemmas.{Between, Quiet, Roles, roles-append}
 use Rattle.md_content_rooms.proofs.Defined.Form.{Form, Gap, IsForm, IsGap, IsRun, IsTarget, IsText, IsTitle}
 use Rattle.md_content_rooms.proofs.Defined.Form.{Literal, OnLine, OverLine, Raw, Strand, Target, Titled, form_done}
@@ -62,15 +62,15 @@ white-roles P p q quiet = go (same_place p q)
     go false = (quiet, (quiet, tt))
 
 gap-roles : (P : Role → Type 0) (bytes : List ℕ) (p q : Point) (g : Gap) → P IsQuiet → P IsEnding → P IsPrefix →
-    IsGap bytes p q g → Roles P (gap_events g)
-gap-roles P bytes p q (OnLine a b) quiet ending prefix is = white-roles P a b quiet
-gap-roles P bytes p q (OverLine a e b r s front) quiet ending prefix is =
+    P IsQuoteMarker → IsGap bytes p q g → Roles P (gap_events g)
+gap-roles P bytes p q (OnLine a b) quiet ending prefix marker is = white-roles P a b quiet
+gap-roles P bytes p q (OverLine a e b r s front) quiet ending prefix marker is =
     roles-append P (pair_unless_empty n.SpaceOrTab a e ++ pair n.LineEnding e b ++ front)
     (pair_unless_empty n.SpaceOrTab r s)
     (roles-append P (pair_unless_empty n.SpaceOrTab a e ++ pair n.LineEnding e b) front
     (roles-append P (pair_unless_empty n.SpaceOrTab a e) (pair n.LineEnding e b) (white-roles P a e quiet)
     (ending, (ending, tt)))
-    (prefixes-roles P front quiet prefix (fronts-prefixes bytes [] b r front refl is.2.front_is)))
+    (prefixes-roles P front quiet prefix marker (fronts-prefixes bytes [] b r front refl is.2.front_is)))
     (white-roles P r s quiet)
 
 -- a gap between two parts
@@ -79,8 +79,8 @@ gap-plain : (bytes : List ℕ) (p q : Point) (left : Left) (g : Gap) → IsGap b
 gap-plain bytes p q left g is = record {
   known =
       (plain-untold bytes (gap_events g)
-      (gap-roles Untold bytes p q g (refl, refl) (refl, refl) (refl, refl) is)).known;
-  lines = passes-between bytes left (gap_events g) (gap-roles Between bytes p q g tt tt tt is);
+      (gap-roles Untold bytes p q g (refl, refl) (refl, refl) (refl, refl) (refl, refl) is)).known;
+  lines = passes-between bytes left (gap_events g) (gap-roles Between bytes p q g tt tt tt tt is);
 }
 
 -- Its parts.
