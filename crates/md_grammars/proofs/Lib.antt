@@ -1,3 +1,4 @@
+pub mod AlertLemmas
 pub mod DefinitionLemmas
 pub mod PieceLemmas
 pub mod RestLemmas

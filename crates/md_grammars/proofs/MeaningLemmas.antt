@@ -1,6 +1,7 @@
 -- What each block means.
 use Rattle.std.proofs.Common.{◌≡◌, ℕ, Bool, List, map, Option, Bor, Vec, Global, sym, ◌∙◌, ap}
 use Rattle.std.specs.Option.{option_copied, option_map}
+use Rattle.md_meaning.specs.declared.alert.AlertKind.{AlertKind}
 use Rattle.md_meaning.specs.Tree as t
 use Rattle.md_grammars.specs.declared.tree.Line.{Line}
 use Rattle.md_grammars.specs.declared.tree.Block.{Block}
@@ -14,8 +15,10 @@ pub meaning-Frontmatter : (m : ℕ) (ls : Vec (Bor (List ℕ)) Global) →
 meaning-Frontmatter m ls =
     ap meaning (sym (b.rolls-Frontmatter m ls)) ∙ fold-roll-Block t.Block block_step (layer.Frontmatter m ls)
 
-pub meaning-Quote : (bs : Vec Block Global) → meaning (b.Quote bs) ≡ t.Quote (meanings bs.items)
-meaning-Quote bs = ap meaning (sym (b.rolls-Quote bs)) ∙ fold-roll-Block t.Block block_step (layer.Quote bs)
+pub meaning-Quote : (kind : Option AlertKind) (bs : Vec Block Global) →
+    meaning (b.Quote kind bs) ≡ t.Quote kind (meanings bs.items)
+meaning-Quote kind bs =
+    ap meaning (sym (b.rolls-Quote kind bs)) ∙ fold-roll-Block t.Block block_step (layer.Quote kind bs)
 
 pub meaning-ListOf : (m : ℕ) (bs : Vec Block Global) → meaning (b.ListOf m bs) ≡ t.ListOf m (meanings bs.items)
 meaning-ListOf m bs = ap meaning (sym (b.rolls-ListOf m bs)) ∙ fold-roll-Block t.Block block_step (layer.ListOf m bs)

@@ -1,3 +1,4 @@
+pub mod Alerts
 pub mod Trees
 pub mod Rests
 pub mod Pieces

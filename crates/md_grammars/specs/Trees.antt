@@ -25,7 +25,7 @@ blocks_of (b ∷ bs) = t.More b (blocks_of bs)
 -- One block, with the meaning of each inner block in its place.
 abbrev pub block_step : Block-F t.Block → t.Block
 block_step (layer.Frontmatter marker lines) = t.Frontmatter marker (map (λ l. l.now) lines.items)
-block_step (layer.Quote inner) = t.Quote (blocks_of inner.items)
+block_step (layer.Quote kind inner) = t.Quote kind (blocks_of inner.items)
 block_step (layer.ListOf marker inner) = t.ListOf marker (blocks_of inner.items)
 block_step (layer.Item marker digits inner) = t.Item marker digits.now (blocks_of inner.items)
 block_step (layer.Footnote label inner) = t.Footnote label.now (blocks_of inner.items)

@@ -106,7 +106,7 @@ fn push_block(alloc: Global, labels: &mut Labels, block: &Block) -> Result<(), M
         (labels_meaning labels.new ≡ label.both (labels_meaning labels.old) (label.block_labels (meaning block.now))) }
 {
     match block {
-        Block::Quote(blocks) | Block::ListOf(_, blocks) | Block::Item(_, _, blocks) => {
+        Block::Quote(_, blocks) | Block::ListOf(_, blocks) | Block::Item(_, _, blocks) => {
             push_blocks(alloc, labels, blocks)
         }
         Block::Footnote(name, blocks) => {

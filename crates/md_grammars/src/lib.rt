@@ -1,8 +1,9 @@
-// The grammars of the line definition as plain functions: bytes, columns, lines, frontmatter, HTML, definitions, labels
-// and tables. `reference_tree` makes trees of them.
+// The grammars of the line definition as plain functions: bytes, columns, lines, frontmatter, HTML, definitions,
+// labels, tables and alerts. `reference_tree` makes trees of them.
 #![tactic(auto)]
 
 pub mod ahead;
+pub mod alert;
 pub mod blocks;
 pub mod bytes;
 pub mod columns;

@@ -1,5 +1,7 @@
 // The block tree: what a text means, with slices of it.
 
+use md_meaning::alert::AlertKind;
+
 /// A line of code, HTML or math: columns left of a cut tab, and then bytes.
 #[derive(Clone, Copy)]
 pub struct Line<'a> {
@@ -12,7 +14,8 @@ pub struct Line<'a> {
 pub enum Block<'a> {
     /// The byte of the fences, and the lines.
     Frontmatter(u8, Vec<&'a [u8]>),
-    Quote(Vec<Block<'a>>),
+    /// The kind, if it is an alert, and the blocks.
+    Quote(Option<AlertKind>, Vec<Block<'a>>),
     /// The byte of the markers, and the items.
     ListOf(u8, Vec<Block<'a>>),
     /// The marker byte, the digits before it (none for a bullet), and the blocks.

@@ -4,9 +4,11 @@ use Rattle.std.specs.List.{flat_map, repeat}
 use Rattle.std.specs.Fmt.{decimal}
 use Rattle.md_engine.specs.declared.configuration.ParseOptions.{ParseOptions}
 use Rattle.md_meaning.specs.Outline.{Entry}
+use Rattle.md_meaning.specs.declared.alert.AlertKind.{AlertKind}
+use Rattle.md_meaning.specs.declared.alert.AlertKind.TheVariants.{Note, Tip, Important, Warning, Caution}
 use Rattle.md_meaning.specs.declared.outline.Word.{Word}
 use Rattle.md_meaning.specs.declared.outline.Word.TheVariants.{Frontmatter, Heading, Break, Code, Fence, Math, Html}
-use Rattle.md_meaning.specs.declared.outline.Word.TheVariants.{Definition, Paragraph, Table, Row, Quote}
+use Rattle.md_meaning.specs.declared.outline.Word.TheVariants.{Definition, Paragraph, Table, Row, Quote, Alert}
 use Rattle.md_meaning.specs.declared.outline.Word.TheVariants.{List as ListOf, Item, Footnote, Line, Info, Meta}
 use Rattle.md_meaning.specs.declared.outline.Word.TheVariants.{Label, Destination, Title, Delimiter, Cell}
 use Rattle.md_program.specs.Listing.{Listing}
@@ -19,6 +21,14 @@ line_end = 10 ∷ []
 abbrev pub open_mark : Bool → List ℕ
 open_mark true = []
 open_mark false = codes " open"
+
+-- the word of an alert, by its kind
+abbrev pub alert_head : AlertKind → List ℕ
+alert_head Note = codes "alert note"
+alert_head Tip = codes "alert tip"
+alert_head Important = codes "alert important"
+alert_head Warning = codes "alert warning"
+alert_head Caution = codes "alert caution"
 
 -- what stands for a word, up to its text
 abbrev pub head : Word → List ℕ
@@ -34,6 +44,7 @@ head Paragraph = codes "paragraph"
 head (Table columns) = codes "table " ++ decimal columns
 head Row = codes "row"
 head Quote = codes "quote"
+head (Alert kind) = alert_head kind
 head (ListOf marker) = codes "list " ++ encode_utf8 marker
 head Item = codes "item"
 head Footnote = codes "footnote"

@@ -4,7 +4,7 @@ use Rattle.std.specs.Str.{bytes_eq}
 use Rattle.md_engine.specs.declared.configuration.ParseOptions.{ParseOptions}
 use Rattle.md_engine.specs.declared.configuration.TheConstants.Constructs.{COMMONMARK}
 use Rattle.md_program.specs.declared.set.Set.{Set}
-use Rattle.md_program.specs.declared.set.Set.TheVariants.{CommonMark, Gfm, All}
+use Rattle.md_program.specs.declared.set.Set.TheVariants.{CommonMark, Gfm, All, Alerts}
 
 -- the five flags of MDX are off
 pub record IsWithoutMdx (o : ParseOptions) : Type 0 where
@@ -19,7 +19,8 @@ abbrev pub set_named : List ℕ → Option Set
 set_named name =
     if bytes_eq name (codes "commonmark") then Some CommonMark
     else (if bytes_eq name (codes "gfm") then Some Gfm
-    else (if bytes_eq name (codes "all") then Some All else None))
+    else (if bytes_eq name (codes "all") then Some All
+    else (if bytes_eq name (codes "alerts") then Some Alerts else None)))
 
 -- the set that the arguments ask for: without one, CommonMark
 abbrev pub set_asked_for : List (List ℕ) → Option Set
@@ -34,6 +35,16 @@ options_of Gfm = record { constructs = record COMMONMARK { gfm_footnote_definiti
 options_of All =
     record {
       constructs = record COMMONMARK {
+        gfm_footnote_definition = true;
+        gfm_table = true;
+        frontmatter = true;
+        math_flow = true;
+      };
+    }
+options_of Alerts =
+    record {
+      constructs = record COMMONMARK {
+        alerts = true;
         gfm_footnote_definition = true;
         gfm_table = true;
         frontmatter = true;

@@ -3,11 +3,12 @@ ghost use Rattle.std.specs.Prelude.{◌≡◌, ◌++◌, OnOk, IfOk, List, map, 
 ghost use Rattle.std.specs.List.{flat_map, repeat};
 ghost use Rattle.md_program.specs.Listing.{listing_of};
 ghost use Rattle.md_meaning.specs.Outline.{entry_of};
-ghost use Rattle.md_program.specs.Printed.{head, open_mark, printed, printed_labels, printed_line};
+ghost use Rattle.md_program.specs.Printed.{alert_head, head, open_mark, printed, printed_labels, printed_line};
 
 use crate::body::Outlined;
 use crate::streams::ROOM;
 use md_engine::message::Message;
+use md_meaning::alert::AlertKind;
 use md_meaning::outline::{OutlineLine, Word};
 use std::alloc::{AllocError, Global};
 
@@ -115,6 +116,7 @@ fn push_head(text: &mut String, word: Word) -> Result<(), AllocError>
         Word::Table(columns) => push_counted(text, "table ", columns),
         Word::Row => text.push_str("row"),
         Word::Quote => text.push_str("quote"),
+        Word::Alert(kind) => text.push_str(alert_name(kind)),
         Word::List(marker) => push_marked(text, "list ", marker),
         Word::Item => text.push_str("item"),
         Word::Footnote => text.push_str("footnote"),
@@ -126,6 +128,18 @@ fn push_head(text: &mut String, word: Word) -> Result<(), AllocError>
         Word::Title => text.push_str("title | "),
         Word::Delimiter => text.push_str("delimiter | "),
         Word::Cell => text.push_str("cell | "),
+    }
+}
+
+fn alert_name(kind: AlertKind) -> &'static str
+    ensures { result.now ≡ alert_head kind }
+{
+    match kind {
+        AlertKind::Note => "alert note",
+        AlertKind::Tip => "alert tip",
+        AlertKind::Important => "alert important",
+        AlertKind::Warning => "alert warning",
+        AlertKind::Caution => "alert caution",
     }
 }
 

@@ -11,8 +11,10 @@ pub enum Set {
     CommonMark,
     /// CommonMark, footnote definitions and tables.
     Gfm,
-    /// All constructs but those of MDX.
+    /// All constructs but alerts and those of MDX.
     All,
+    /// All constructs but those of MDX.
+    Alerts,
 }
 
 /// The set that the arguments after the program's name ask for, or `None` where they are unknown.
@@ -33,6 +35,7 @@ fn named(name: &str) -> Option<Set>
         "commonmark" => Some(Set::CommonMark),
         "gfm" => Some(Set::Gfm),
         "all" => Some(Set::All),
+        "alerts" => Some(Set::Alerts),
         _ => None,
     }
 }
@@ -46,5 +49,6 @@ pub fn options(set: Set) -> ParseOptions
         Set::CommonMark => ParseOptions::COMMONMARK,
         Set::Gfm => ParseOptions::GFM,
         Set::All => ParseOptions::ALL,
+        Set::Alerts => ParseOptions::ALERTS,
     }
 }

@@ -88,7 +88,7 @@ apart-item m n j (t.More (t.ListOf k is) bs) other = by (n == k) refl
     by false e = apart-list m n (t.More j t.End) (t.More (t.ListOf k is) bs) other
 apart-item m n j (t.More (t.Frontmatter x y) bs) other =
     apart-list m n (t.More j t.End) (t.More (t.Frontmatter x y) bs) other
-apart-item m n j (t.More (t.Quote x) bs) other = apart-list m n (t.More j t.End) (t.More (t.Quote x) bs) other
+apart-item m n j (t.More (t.Quote kind x) bs) other = apart-list m n (t.More j t.End) (t.More (t.Quote kind x) bs) other
 apart-item m n j (t.More (t.Item x y z) bs) other = apart-list m n (t.More j t.End) (t.More (t.Item x y z) bs) other
 apart-item m n j (t.More (t.Footnote x y) bs) other = apart-list m n (t.More j t.End) (t.More (t.Footnote x y) bs) other
 apart-item m n j (t.More (t.Heading x y) bs) other = apart-list m n (t.More j t.End) (t.More (t.Heading x y) bs) other
@@ -112,7 +112,7 @@ is_other _ = true
 apart-other : (m : ℕ) (b : t.Block) (bs : t.Blocks) → is_other b ≡ true → Apart m (t.More b bs)
 apart-other m (t.ListOf n is) bs e = absurd (cc)
 apart-other m (t.Frontmatter x y) bs e = λ i. refl
-apart-other m (t.Quote x) bs e = λ i. refl
+apart-other m (t.Quote kind x) bs e = λ i. refl
 apart-other m (t.Item x y z) bs e = absurd (cc)
 apart-other m (t.Footnote x y) bs e = λ i. refl
 apart-other m (t.Heading x y) bs e = λ i. refl
@@ -140,8 +140,9 @@ other-block x no_list no_item = by (out-Block x) refl
     by (layer.Frontmatter m ls) e =
         same (b.Frontmatter m ls) (sym (roll-out-Block x) ∙ ap roll-Block e ∙ b.rolls-Frontmatter m ls)
         (ap is_other (meaning-Frontmatter m ls))
-    by (layer.Quote bs) e =
-        same (b.Quote bs) (sym (roll-out-Block x) ∙ ap roll-Block e ∙ b.rolls-Quote bs) (ap is_other (meaning-Quote bs))
+    by (layer.Quote kind bs) e =
+        same (b.Quote kind bs) (sym (roll-out-Block x) ∙ ap roll-Block e ∙ b.rolls-Quote kind bs)
+        (ap is_other (meaning-Quote kind bs))
     by (layer.Footnote label bs) e =
         same (b.Footnote label bs) (sym (roll-out-Block x) ∙ ap roll-Block e ∙ b.rolls-Footnote label bs)
         (ap is_other (meaning-Footnote label bs))
@@ -175,7 +176,7 @@ other-block x no_list no_item = by (out-Block x) refl
 with_front-other : (b : t.Block) (bs : t.Blocks) → is_other b ≡ true → with_front b bs ≡ t.More b bs
 with_front-other (t.ListOf n is) bs e = refl
 with_front-other (t.Frontmatter x y) bs e = refl
-with_front-other (t.Quote x) bs e = refl
+with_front-other (t.Quote kind x) bs e = refl
 with_front-other (t.Item x y z) bs e = absurd (cc)
 with_front-other (t.Footnote x y) bs e = refl
 with_front-other (t.Heading x y) bs e = refl

@@ -24,7 +24,7 @@ use Rattle.md_grammars.specs.Rests.{rest_meaning}
 use Rattle.md_grammars.specs.Trees.{meaning, meanings, line_meanings}
 
 abbrev pub container_meaning : Container → s.Container
-container_meaning container.Quote = s.InQuote
+container_meaning (container.Quote kind) = s.InQuote kind
 container_meaning (container.Item digits marker width starts_blank) = s.InItem digits.now marker width starts_blank
 container_meaning (container.Footnote label) = s.InFootnote label.now
 

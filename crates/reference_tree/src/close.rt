@@ -64,7 +64,7 @@ fn container_block<'a>(container: Container<'a>, blocks: Vec<Block<'a>>) -> Bloc
     ensures { meaning result ≡ state.container_block (container_meaning container.entry) (meanings blocks.entry.items) }
 {
     match container {
-        Container::Quote => Block::Quote(blocks),
+        Container::Quote(kind) => Block::Quote(kind, blocks),
         Container::Item { digits, marker, .. } => Block::Item(marker, digits, blocks),
         Container::Footnote(label) => Block::Footnote(label, blocks),
     }

@@ -2,30 +2,37 @@
 
 ghost use Rattle.std.specs.Prelude.{◌≡◌, ◌+◌, ◌≤◌, ◌&&◌, false, length, nat_le, IfSome};
 ghost use Rattle.std.specs.List.{prefix_len};
+ghost use Rattle.md_meaning.specs.Alert.{alert_at};
 ghost use Rattle.md_meaning.specs.Containers as containers;
 ghost use Rattle.md_meaning.specs.Lines as lines;
 ghost use Rattle.md_grammars.specs.Rests.{rest_meaning};
-ghost use Rattle.reference_tree.specs.States.{container_meaning, taken_option};
+ghost use Rattle.reference_tree.specs.States.{container_meaning, taken_meaning, taken_option};
 ghost use Rattle.reference_tree.specs.Markers.{marker_meaning, marker_option, label_split};
 
 use crate::leaves::is_rule;
 use crate::state::{Container, Taken};
 use md_engine::configuration::ParseOptions;
 use md_grammars::ahead::begins_with;
+use md_grammars::alert::{alert_at, behind_marker};
 use md_grammars::bytes::{is_blank, is_parted, is_white};
 use md_grammars::rest::Rest;
+use md_meaning::alert::AlertKind;
 
 /// A quote's prefix: a small indent, `>`, and one column of whitespace if there is one (CommonMark 5.1).
 #[tactic(auto, unfolding(md_meaning::specs::Containers::quote_taken))]
-fn quote_taken<'a>(options: &ParseOptions, rest: &Rest<'a>) -> Option<Taken<'a>>
-    ensures { taken_option result ≡ containers.quote_taken options.now (rest_meaning rest.now) }
+fn quote_taken<'a>(
+    options: &ParseOptions,
+    kind: Option<AlertKind>,
+    rest: &Rest<'a>,
+) -> Option<Taken<'a>>
+    ensures { taken_option result ≡ containers.quote_taken options.now kind (rest_meaning rest.now) }
 {
     let marker = rest.behind_indent();
     if !rest.has_small_indent(options) || !begins_with(b'>', marker.bytes) {
         return None;
     }
     Some(Taken {
-        container: Container::Quote,
+        container: Container::Quote(kind),
         rest: marker.behind(1).lose(1),
     })
 }
@@ -86,7 +93,7 @@ pub fn continues<'a>(
         containers.continues options.now (container_meaning container.now) (rest_meaning rest.now) }
 {
     match *container {
-        Container::Quote => quote_taken(options, rest),
+        Container::Quote(kind) => quote_taken(options, kind, rest),
         Container::Item {
             digits,
             marker,
@@ -97,15 +104,30 @@ pub fn continues<'a>(
     }
 }
 
+/// A quote, and its kind if its first rest is the marker of one: then all of it belongs to the prefix.
+fn with_kind<'a>(options: &ParseOptions, taken: Taken<'a>) -> Taken<'a>
+    ensures { taken_meaning result ≡
+        containers.taken_as (taken_meaning taken.entry) (alert_at options.now (rest_meaning taken.entry.rest)) }
+{
+    match alert_at(options, &taken.rest) {
+        None => taken,
+        Some(kind) => Taken {
+            container: Container::Quote(Some(kind)),
+            rest: behind_marker(kind, &taken.rest),
+        },
+    }
+}
+
+/// A quote, or an alert.
 #[tactic(auto, unfolding(md_meaning::specs::Containers::opens_quote))]
 fn opens_quote<'a>(options: &ParseOptions, rest: &Rest<'a>) -> Option<Taken<'a>>
     ensures { taken_option result ≡ containers.opens_quote options.now (rest_meaning rest.now) }
 {
-    if options.constructs.block_quote {
-        quote_taken(options, rest)
-    } else {
-        None
+    if !options.constructs.block_quote {
+        return None;
     }
+    let taken = quote_taken(options, None, rest)?;
+    Some(with_kind(options, taken))
 }
 
 /// A list marker: the digits of an ordered one, and the byte behind them.

@@ -149,7 +149,7 @@ fn grouped_block<'a>(alloc: Global, block: Block<'a>) -> Result<Block<'a>, Messa
     ensures { IfOk result (λ b. meaning b ≡ grouped.grouped_block (meaning block.entry)) }
 {
     match block {
-        Block::Quote(blocks) => Ok(Block::Quote(grouped(alloc, blocks)?)),
+        Block::Quote(kind, blocks) => Ok(Block::Quote(kind, grouped(alloc, blocks)?)),
         Block::Item(marker, digits, blocks) => Ok(Block::Item(
             marker,
             digits,

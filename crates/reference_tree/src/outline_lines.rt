@@ -12,6 +12,7 @@ ghost use Rattle.md_meaning.specs.Outline.{entries_of};
 use md_engine::message::Message;
 use md_grammars::memory;
 use md_grammars::tree::{Block, Line, Tree};
+use md_meaning::alert::AlertKind;
 use md_meaning::outline::{OutlineLine, Word};
 use std::alloc::Global;
 
@@ -268,6 +269,15 @@ fn push_definition<'a>(
     push_title(outline, inner, title)
 }
 
+fn quote_word(kind: Option<AlertKind>) -> Word
+    ensures { result ≡ spec.quote_word kind }
+{
+    match kind {
+        None => Word::Quote,
+        Some(kind) => Word::Alert(kind),
+    }
+}
+
 /// Adds the lines of a block at this depth.
 #[cycle(outlining)]
 fn push_block<'a>(
@@ -282,7 +292,7 @@ fn push_block<'a>(
         Block::Frontmatter(marker, lines) => {
             push_lined(outline, depth, Word::Frontmatter(*marker), lines)
         }
-        Block::Quote(blocks) => push_holder(outline, depth, Word::Quote, blocks),
+        Block::Quote(kind, blocks) => push_holder(outline, depth, quote_word(*kind), blocks),
         Block::ListOf(marker, items) => push_holder(outline, depth, Word::List(*marker), items),
         Block::Item(_, _, blocks) => push_holder(outline, depth, Word::Item, blocks),
         Block::Footnote(label, blocks) => push_footnote(outline, depth, label, blocks),

@@ -3,11 +3,13 @@
 use md_grammars::html::HtmlKind;
 use md_grammars::rest::Rest;
 use md_grammars::tree::{Block, Line};
+use md_meaning::alert::AlertKind;
 
 /// An open container.
 #[derive(Clone, Copy)]
 pub enum Container<'a> {
-    Quote,
+    /// With its kind, if it is an alert.
+    Quote(Option<AlertKind>),
     Item {
         /// The digits before the marker; none for a bullet.
         digits: &'a [u8],
