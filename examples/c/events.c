@@ -45,11 +45,11 @@ static void print(const struct hoxalgurre_event *events, size_t count) {
 }
 
 int main(int argc, char **argv) {
-    static const char *const sets[] = {"commonmark", "gfm", "all"};
+    static const char *const sets[] = {"commonmark", "gfm", "all", "alerts"};
     static const char *const reasons[] = {"", "not UTF-8", "too long", "out of memory", "unknown set"};
     const char *word = argc > 1 ? argv[1] : "commonmark";
     uint32_t set = 0;
-    while (set < 3 && strcmp(sets[set], word) != 0) {
+    while (set < 4 && strcmp(sets[set], word) != 0) {
         set++;
     }
     size_t len, room = 0;

@@ -6,7 +6,7 @@ As a module: `Parser(library).events(text, set)` answers a list of `Event`. The 
 import ctypes, os, re, sys
 from collections import namedtuple
 
-SETS = {"commonmark": 0, "gfm": 1, "all": 2}
+SETS = {"commonmark": 0, "gfm": 1, "all": 2, "alerts": 3}
 REASONS = {1: "not UTF-8", 2: "too long", 3: "out of memory", 4: "unknown set"}
 HEADER = os.path.join(os.path.dirname(os.path.abspath(__file__)), "../../include/hoxalgurre.h")
 

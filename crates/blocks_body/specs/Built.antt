@@ -10,6 +10,7 @@ use Rattle.md_meaning.specs.Outline.{outline}
 abbrev pub built_from : ParseOptions → ParseOptions
 built_from options = record {
   constructs = record {
+    alerts = options.constructs.alerts;
     block_quote = options.constructs.block_quote;
     code_fenced = options.constructs.code_fenced;
     code_indented = options.constructs.code_indented;

@@ -28,6 +28,7 @@ impl Body for Blocks {
     fn built(options: ParseOptions) -> ParseOptions {
         ParseOptions {
             constructs: Constructs {
+                alerts: options.constructs.alerts,
                 block_quote: options.constructs.block_quote,
                 code_fenced: options.constructs.code_fenced,
                 code_indented: options.constructs.code_indented,

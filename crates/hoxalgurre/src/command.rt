@@ -13,7 +13,7 @@ Status: 0 where nothing is wrong, 1 where `labels` has found something, 2 where 
 text is not what the program takes, 3 where memory ran out, 4 where a file cannot be read or the
 output not be written.";
 
-const SETS: [&str; 3] = ["commonmark", "gfm", "all"];
+const SETS: [&str; 4] = ["commonmark", "gfm", "all", "alerts"];
 
 const FORMATS: [&str; 2] = ["text", "json"];
 

@@ -25,6 +25,7 @@ fn set_of(name: Option<&str>) -> &'static ParseOptions
     match name {
         Some("commonmark") => &ParseOptions::COMMONMARK,
         Some("all") => &ParseOptions::ALL,
+        Some("alerts") => &ParseOptions::ALERTS,
         _ => &ParseOptions::GFM,
     }
 }

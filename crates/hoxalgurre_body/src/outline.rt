@@ -3,7 +3,7 @@
 use crate::position::{Place, Position, push_position};
 use markdown_blocks::event::{Event, Kind, Name};
 use markdown_blocks::names::is_block;
-use markdown_blocks::outline::{OutlineLine, Word};
+use markdown_blocks::outline::{AlertKind, OutlineLine, Word};
 use serde::Serialize;
 use std::alloc::{AllocError, Global};
 
@@ -119,12 +119,23 @@ fn words(alloc: Global, word: Word) -> Result<String, AllocError> {
         Word::Math { closed } => format!(in alloc; "math{}", open_mark(closed)),
         Word::Table(columns) => format!(in alloc; "table {columns}"),
         Word::List(marker) => format!(in alloc; "list {}", char::from(marker)),
+        Word::Alert(kind) => format!(in alloc; "alert {}", kind_word(kind)),
         _ => format!(in alloc; "{}", plain_word(word)),
     }
 }
 
 fn open_mark(closed: bool) -> &'static str {
     if closed { "" } else { " open" }
+}
+
+fn kind_word(kind: AlertKind) -> &'static str {
+    match kind {
+        AlertKind::Note => "note",
+        AlertKind::Tip => "tip",
+        AlertKind::Important => "important",
+        AlertKind::Warning => "warning",
+        AlertKind::Caution => "caution",
+    }
 }
 
 /// The word for a block of which nothing else is said.

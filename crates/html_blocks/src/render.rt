@@ -4,7 +4,7 @@
 // where parts begin and end, and only little has to be known of what is open. Texts are written at the exit of their
 // piece: a piece is entered right before, so its bytes lie between the last enter and this exit.
 
-use crate::ahead::{atx_depth, list_start, read_columns, setext_depth};
+use crate::ahead::{AlertKind, alert_kind, atx_depth, list_start, read_columns, setext_depth};
 use crate::escape::{push_escaped, without_indent};
 use crate::loose::loose_lists;
 use crate::tags::{Shown, begins_line, shown_behind, shown_in, tags};
@@ -42,6 +42,8 @@ struct Page<'a> {
     lists: usize,
     /// Of each list, quote and footnote definition that is open, whether it is a tight list.
     tight: Vec<bool>,
+    /// Of each quote that is open, whether it is an alert.
+    alerts: Vec<bool>,
 }
 
 /// The blocks of a text as HTML. An `Err` says that memory ran out.
@@ -71,6 +73,7 @@ pub fn render(alloc: Global, events: &[Event], state: &ParseState) -> Result<Str
         loose,
         lists: 0,
         tight: Vec::new(alloc),
+        alerts: Vec::new(alloc),
     };
     for (at, event) in events.iter().enumerate() {
         let written = match event.kind {
@@ -99,7 +102,7 @@ impl<'a> Page<'a> {
                 self.open_list()?;
                 self.tell_list(list_start(self.bytes, ahead))?;
             }
-            Name::BlockQuote => self.tight.push(false)?,
+            Name::BlockQuote => self.begin_quote(alert_kind(self.bytes, ahead))?,
             Name::GfmFootnoteDefinition => {
                 self.tight.push(false)?;
                 self.tell_footnote()?;
@@ -143,10 +146,8 @@ impl<'a> Page<'a> {
             Name::GfmTableCell => self.end_cell()?,
             Name::GfmTableRow => self.fill_row()?,
             Name::Paragraph if !self.is_tight() => self.html.push_str("</p>\n")?,
-            Name::ListOrdered
-            | Name::ListUnordered
-            | Name::BlockQuote
-            | Name::GfmFootnoteDefinition => {
+            Name::BlockQuote => self.end_quote()?,
+            Name::ListOrdered | Name::ListUnordered | Name::GfmFootnoteDefinition => {
                 let _closed = self.tight.pop();
             }
             _ => {}
@@ -161,6 +162,29 @@ impl<'a> Page<'a> {
             None | Some(b'\n') => Ok(()),
             Some(_) => self.html.push_str("\n"),
         }
+    }
+
+    /// Begins a quote: an alert as on GitHub, with a title.
+    fn begin_quote(&mut self, alert: Option<AlertKind>) -> Result<(), AllocError> {
+        self.tight.push(false)?;
+        self.alerts.push(alert.is_some())?;
+        match alert {
+            Some(AlertKind { class, title, .. }) => write!(
+                self.html,
+                "<div class=\"markdown-alert markdown-alert-{class}\">\n<p class=\"markdown-alert-title\">{title}</p>\n"
+            ),
+            None => self.html.push_str("<blockquote>\n"),
+        }
+    }
+
+    fn end_quote(&mut self) -> Result<(), AllocError> {
+        let _closed = self.tight.pop();
+        let is_alert = self.alerts.pop().unwrap_or(false);
+        self.html.push_str(if is_alert {
+            "</div>\n"
+        } else {
+            "</blockquote>\n"
+        })
     }
 
     /// Notes of the list that begins whether it is tight.

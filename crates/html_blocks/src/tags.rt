@@ -43,11 +43,10 @@ pub(crate) fn shown_behind(name: Name) -> Option<Shown> {
 /// What is written where a part of this name begins, and where it ends, as far as the name alone tells it.
 pub(crate) fn tags(name: Name) -> (&'static str, &'static str) {
     match name {
-        Name::BlockQuote => ("<blockquote>\n", "</blockquote>\n"),
         Name::ListUnordered => ("<ul>\n", "</ul>\n"),
         Name::ListItem => ("<li>", "</li>\n"),
         Name::ThematicBreak => ("<hr />\n", ""),
-        // The renderer ends these tags, and that of fenced code. It writes those of paragraphs.
+        // The renderer ends these tags, and that of fenced code. It writes those of paragraphs and of quotes.
         Name::ListOrdered => ("<ol", "</ol>\n"),
         Name::GfmFootnoteDefinition => ("<section class=\"footnote\"", "</section>\n"),
         Name::CodeIndented => ("<pre><code>", "</code></pre>\n"),

@@ -20,7 +20,7 @@ const MOST: usize = usize::MAX / 8;
 fn html(alloc: Global, text: &str) -> Result<String, Message>
     requires { IsSmall text.now }
 {
-    let (events, state) = parse(alloc, text, &ParseOptions::ALL)?;
+    let (events, state) = parse(alloc, text, &ParseOptions::ALERTS)?;
     render(alloc, &events, &state)
 }
 
