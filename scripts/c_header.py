@@ -43,7 +43,7 @@ extern "C" {{
 #endif
 
 /* Sets of constructs. */
-enum {{ HOXALGURRE_COMMONMARK = 0, HOXALGURRE_GFM = 1, HOXALGURRE_ALL = 2 }};
+enum {{ HOXALGURRE_COMMONMARK = 0, HOXALGURRE_GFM = 1, HOXALGURRE_ALL = 2, HOXALGURRE_ALERTS = 3 }};
 
 /* Statuses. */
 enum {{

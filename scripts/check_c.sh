@@ -55,7 +55,7 @@ compare() {
     fi
 }
 for text in examples/texts/*.md docs/events.md; do
-    for set in commonmark gfm all; do
+    for set in commonmark gfm all alerts; do
         "$events" "$set" <"$text" >"$work/wanted"
         "$work/events" "$set" <"$text" >"$work/told" || true
         compare "examples/c $set $text"

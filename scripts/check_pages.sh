@@ -17,7 +17,7 @@ cd "$(dirname "$0")/.."
 exec python3 - *.md docs/*.md examples/*.md <<'PYTHON'
 import os, re, subprocess, sys
 
-SETS = "commonmark|gfm|all"
+SETS = "commonmark|gfm|all|alerts"
 COMMAND = re.compile(r"(?:printf '([^']*)' \| )?\(cd crates/(\w+) && rt (?:try|run)(?: -- ([\w ]+?))?( < stdin)?\)")
 SHOWN = re.compile(rf"(`+) ?(\"[^`].*?\") ?\1(?: \(({SETS})\))? → `([^`]*)`")
 passed = failed = 0

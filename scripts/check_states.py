@@ -14,7 +14,10 @@ import tempfile
 
 STATES = {
     "blank_line": "start after",
-    "block_quote": "start cont_start cont_before cont_after",
+    "block_quote": (
+        "start open_start open_before open_after alert_try alert_start alert_before alert_mark alert_letter alert_name "
+        "prefix_end cont_start cont_before cont_after"
+    ),
     "code_indented": "start at_break inside after further_start further_begin further_after",
     "content": "chunk_start chunk_inside definition_before definition_after",
     "definition": (

@@ -6,8 +6,8 @@
 #   `wrap::footnote`, and the `run` of `blocks`, all on one text. What the program asks for before and after the call is counted apart. A refused run ends with status 3
 #   and prints nothing, and the last run prints what is given here. The states that take no memory answer while each request is refused.
 # - Of `blocks`, `events` and `references_example`, those of the whole program: on the texts of their stored runs, and the first two with
-#   the argument `all` on each begin of a text with a byte order mark, frontmatter, headings of both kinds, quotes, a break, nested
-#   lists, a fence, HTML, definitions, in a quote and in front of an underline, a table and a footnote definition. The third parses its
+#   the argument `alerts` on each begin of a text with a byte order mark, frontmatter, headings of both kinds, quotes, a break, nested
+#   lists, an alert with a fence, HTML, definitions, in a quote and in front of an underline, a table and a footnote definition. The third parses its
 #   text with an inline layer, wraps it in a quote and in an item, and parses both; a reference in it goes over two lines of a quote, and
 #   is defined behind. A refused run ends with status 3, says so on its standard error and prints nothing.
 # - Of `hoxalgurre`, those of each of its reports.
@@ -77,7 +77,7 @@ CALLS = {
 # What the states answer that take no memory, and that an event finds no place.
 STATES = b"ok\nok\nnext\nnext\nretry\nok\nno event\n"
 
-WHOLE = b"\xef\xbb\xbf+++\nt\n+++\n# # a #\nb\n> > c\n> d\ne\n### ##\n***\n- f\n\n  1. g\n     > h\n- i\n> ~~~ j k\n>  l\n>\nm\n<p\nn\n\no\n=\n\n> [P\n> Q]: r 's'\n\n[P]: u\nv\n=\nw|x\n-|-\n|y\n\n[^Z]: z\n"
+WHOLE = b"\xef\xbb\xbf+++\nt\n+++\n# # a #\nb\n> > c\n> d\ne\n### ##\n***\n- f\n\n  1. g\n     > h\n- i\n> [!note]\t\n> ~~~ j k\n>  l\n>\nm\n<p\nn\n\no\n=\n\n> [P\n> Q]: r 's'\n\n[P]: u\nv\n=\nw|x\n-|-\n|y\n\n[^Z]: z\n"
 OUTLINE = b"""frontmatter +
   | t
 heading 1
@@ -106,7 +106,7 @@ list -
   item
     paragraph
       | i
-quote
+alert note
   fence ~ open
     info | j
     meta | k
@@ -190,7 +190,7 @@ def refuse_program(name):
         given[WHOLE] = OUTLINE
     begins = [] if name == "references_example" else [WHOLE[:length] for length in range(3, len(WHOLE) + 1)]
     for text in [stored, *begins]:
-        command = [f"{folder}/out/{name}", *([] if text == stored else ["all"])]
+        command = [f"{folder}/out/{name}", *([] if text == stored else ["alerts"])]
         printed = given[text] if text in given else run(command, text, 0)[0][1]
         more, gone, _ = each_refused(command, text, printed, f"{name}: out of memory\n".encode())
         runs, going = runs + more, going + gone
@@ -202,7 +202,7 @@ def refuse_reports():
     runs = going = 0
     text = WHOLE + b"\n[1] [^2] `[3]`\n"
     for task, form in (("outline", "json"), ("events", "json"), ("html", "text"), ("headings", "json"), ("labels", "text")):
-        command = ["crates/hoxalgurre/out/hoxalgurre", task, "-c", "all", "-f", form]
+        command = ["crates/hoxalgurre/out/hoxalgurre", task, "-c", "alerts", "-f", form]
         right = run(command, text, 0)[0]
         if right[0] != (task == "labels") or right[2] or not right[1]:
             sys.exit(f"hoxalgurre {task}, nothing refused: status, output and complaint {right}")

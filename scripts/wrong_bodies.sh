@@ -79,9 +79,10 @@ use plain_body::Plain;
 use std::alloc::Global;
 use std::{env, io};
 
-// each kind of block, prefixes of one and of two columns, a cut tab, an item that started blank, and the endings behind open fences
+// each kind of block, prefixes of one and of two columns, a cut tab, an item that started blank, the endings behind open fences, and
+// an alert
 const TEXT: &str = "\\u{feff}> a\\n\\tb\\n>\\n# c #\\n\\t\\n***\\n\\n1. d\\n\\n   >  > e\\n2. f\\n\\n-\\n\\tg\\n\\n\\th\\n\\n\
-  ~~~ i m\\n   j\\n  ~~~\\n> ```\\n>\\nk\\n- ```\\n\\nl";
+  ~~~ i m\\n   j\\n  ~~~\\n> ```\\n>\\nk\\n- ```\\n\\nl\\n\\n> [!Tip] \\n>m";
 
 /// Tries a body on rows, on their texts with each construct off, and on long labels.
 fn try_bench<B: Body>(alloc: Global, rows: &str, report: &mut Report) -> Result<(), CaseError> {
@@ -93,7 +94,7 @@ fn try_bench<B: Body>(alloc: Global, rows: &str, report: &mut Report) -> Result<
 /// A sum of what is printed of the events of a text.
 fn events<B: Body>(alloc: Global) -> Result<u64, Message> {
     let mut sum: u64 = 0;
-    for byte in Events::output(alloc, TEXT, B::built(ParseOptions::GFM))?.bytes() {
+    for byte in Events::output(alloc, TEXT, B::built(ParseOptions::ALERTS))?.bytes() {
         sum = sum.wrapping_mul(31).wrapping_add(byte as u64);
     }
     Ok(sum)

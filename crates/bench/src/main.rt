@@ -33,7 +33,7 @@ enum Bench {
 
 impl Bench {
     /// What is tried without an argument.
-    const ALL: [Bench; 7] = [
+    const ALL: [Bench; 8] = [
         Bench::Blocks(Task::Rows),
         Bench::Plain(Task::Rows),
         Bench::Levels(LEVELS),
@@ -41,6 +41,7 @@ impl Bench {
         Bench::Nasty(Nasty::LETTERS),
         Bench::Nasty(Nasty::FRAGMENTS),
         Bench::Nasty(Nasty::RANDOM),
+        Bench::Nasty(Nasty::ALERTS),
     ];
 
     /// What these arguments name, or `None` where they name nothing.
@@ -78,7 +79,7 @@ fn main(rt: HostRuntime) -> io::Result<()> {
     let asked = Bench::asked_for(args.as_slice());
     if asked.is_none() && !args.is_empty() {
         return println!(rt;
-            "blocks or plain, and rows, short LENGTH, or random SEED COUNT; levels COUNT; agree LENGTH; or nasty, and letters MOST, fragments MOST, or random SEED COUNT"
+            "blocks or plain, and rows, short LENGTH, or random SEED COUNT; levels COUNT; agree LENGTH; or nasty, and letters MOST, fragments MOST, random SEED COUNT, or alerts SEED COUNT"
         );
     }
     for bench in Bench::ALL {

@@ -2,6 +2,8 @@
 #![tactic(auto)]
 
 #[cfg(test)]
+mod alerts;
+#[cfg(test)]
 mod footnotes;
 #[cfg(test)]
 mod lined;

@@ -1,5 +1,5 @@
 // Texts in a container, by their bytes and by what they mean; and why the laws of nesting do not speak of every text.
-ghost use Rattle.markdown_blocks.specs.Parsed.{IsSmall};
+ghost use Rattle.markdown_blocks.specs.Parsed.{IsSmall, IsWithoutMdx};
 
 use markdown_blocks::outline::outline;
 use markdown_blocks::parser::parse;
@@ -19,6 +19,24 @@ const OPTIONS: ParseOptions = ParseOptions {
         ..Constructs::NONE
     },
 };
+
+// The same with alerts.
+const ALERTS: ParseOptions = ParseOptions {
+    constructs: Constructs {
+        alerts: true,
+        block_quote: true,
+        code_indented: true,
+        gfm_footnote_definition: true,
+        list_item: true,
+        ..Constructs::NONE
+    },
+};
+
+fn options_of(has_alerts: bool) -> &'static ParseOptions
+    ensures { IsWithoutMdx result.now }
+{
+    if has_alerts { &ALERTS } else { &OPTIONS }
+}
 
 // What is put around a text.
 #[derive(Clone, Copy)]
@@ -50,6 +68,7 @@ fn add_line(all: &mut String, depth: usize, word: Word, text: &str) -> Result<()
     }
     match word {
         Word::Quote => all.push_str("q"),
+        Word::Alert(_) => all.push_str("a"),
         Word::List(marker) => all.push(char::from(marker)),
         Word::Item => all.push_str("i"),
         Word::Code => all.push_str("c"),
@@ -64,10 +83,10 @@ fn add_line(all: &mut String, depth: usize, word: Word, text: &str) -> Result<()
 }
 
 // The outline of a text.
-fn outlined(alloc: Global, text: &str) -> Result<String, Message>
+fn outlined(alloc: Global, text: &str, has_alerts: bool) -> Result<String, Message>
     requires { IsSmall text.now }
 {
-    let (events, state) = parse(alloc, text, &OPTIONS)?;
+    let (events, state) = parse(alloc, text, options_of(has_alerts))?;
     let lines = outline(alloc, &events, &state)?;
     let mut all = String::new(alloc);
     for line in lines.iter() {
@@ -79,7 +98,7 @@ fn outlined(alloc: Global, text: &str) -> Result<String, Message>
 }
 
 // The outline of a text with this around it.
-fn meant(alloc: Global, around: Around, text: &str) -> Result<String, Message>
+fn meant(alloc: Global, around: Around, text: &str, has_alerts: bool) -> Result<String, Message>
     requires { IsSmall text.now }
 {
     let all = put(alloc, around, text)?;
@@ -87,7 +106,7 @@ fn meant(alloc: Global, around: Around, text: &str) -> Result<String, Message>
     if all.len() > usize::MAX / 8 {
         return Err(Message);
     }
-    outlined(alloc, all)
+    outlined(alloc, all, has_alerts)
 }
 
 // A call that is refused memory answers so, and the next one is given it.
@@ -103,11 +122,18 @@ fn check_bytes(rt: &impl Abort, alloc: Global, around: Around, text: &str, want:
     );
 }
 
-fn check_meaning(rt: &impl Abort, alloc: Global, around: Around, text: &str, want: &str) {
+fn check_meaning(
+    rt: &impl Abort,
+    alloc: Global,
+    around: Around,
+    text: &str,
+    has_alerts: bool,
+    want: &str,
+) {
     assert!(rt; text.len() <= usize::MAX / 8);
-    let outline = match meant(alloc, around, text) {
+    let outline = match meant(alloc, around, text, has_alerts) {
         Ok(outline) => Ok(outline),
-        Err(Message) => meant(alloc, around, text),
+        Err(Message) => meant(alloc, around, text, has_alerts),
     };
     assert!(rt;
         matches!(outline, Ok(ref all) if all.as_str() == want),
@@ -116,9 +142,10 @@ fn check_meaning(rt: &impl Abort, alloc: Global, around: Around, text: &str, wan
 }
 
 // Texts, each with its bytes as a quote, as an item and as a footnote definition.
-const WRITTEN: [&str; 8] = [
+const WRITTEN: [&str; 9] = [
     " =  =  = ",
     "a = > a = + a = [^x]: a",
+    "[!NOTE]\na = > [!NOTE]\n> a = + [!NOTE]\n  a = [^x]: [!NOTE]\n    a",
     "a\n\n = > a\n> \n = + a\n  \n = [^x]: a\n    \n",
     "a\r\nb\r = > a\r\n> b\r = + a\r\n  b\r = [^x]: a\r\n    b\r",
     "a\n\nb = > a\n> \n> b = + a\n  \n  b = [^x]: a\n    \n    b",
@@ -156,10 +183,10 @@ fn writes_containers(rt: HostRuntime) {
     }
 }
 
-// Texts, each with its outline, and that of its quote, its item and its footnote definition. All laws of nesting speak of
-// the first two alone: a tab has fewer columns behind a prefix, or none; whitespace in front of the first line makes the item
-// wider than the prefix of the others; an item that starts blank ends with a second blank line; and a byte order mark is
-// one at the front alone.
+// Texts, each with its outline, and that of its quote, its item and its footnote definition. All laws of nesting speak
+// of the first two alone: a tab has fewer columns behind a prefix, or none; whitespace in front of the first line makes
+// the item wider than the prefix of the others; an item that starts blank ends with a second blank line; and a byte
+// order mark is one at the front alone.
 const MEANT: [&str; 6] = [
     "a\n\nb = p.|a|p.|b| = q.p..|a|.p..|b| = +.i..p...|a|..p...|b| = f.|x|.p..|a|.p..|b|",
     "[^a]: b = f.|a|.p..|b| = q.f..|a|..p...|b| = +.i..f...|a|...p....|b| = f.|x|.f..|a|..p...|b|",
@@ -169,38 +196,46 @@ const MEANT: [&str; 6] = [
     "\u{feff}a = p.|a| = q.p..|\u{feff}a| = +.i..p...|\u{feff}a| = f.|x|.p..|\u{feff}a|",
 ];
 
+// Tries the outline of a text, and that of its quote, its item and its footnote definition.
+fn check_row(rt: &impl Abort, alloc: Global, row: &str, has_alerts: bool) {
+    let mut parts = row.split(" = ");
+    let text = parts.next().unwrap_or("");
+    for around in [
+        Around::Nothing,
+        Around::Quote,
+        Around::Item,
+        Around::Footnote,
+    ] {
+        let want = parts.next().unwrap_or("?");
+        check_meaning(rt, alloc, around, text, has_alerts, want);
+    }
+}
+
 #[test]
 fn a_container_has_the_text_in_it(rt: HostRuntime) {
     for row in MEANT {
-        let mut parts = row.split(" = ");
-        let text = parts.next().unwrap_or("");
-        check_meaning(
-            &rt,
-            rt.alloc(),
-            Around::Nothing,
-            text,
-            parts.next().unwrap_or("?"),
-        );
-        check_meaning(
-            &rt,
-            rt.alloc(),
-            Around::Quote,
-            text,
-            parts.next().unwrap_or("?"),
-        );
-        check_meaning(
-            &rt,
-            rt.alloc(),
-            Around::Item,
-            text,
-            parts.next().unwrap_or("?"),
-        );
-        check_meaning(
-            &rt,
-            rt.alloc(),
-            Around::Footnote,
-            text,
-            parts.next().unwrap_or("?"),
-        );
+        check_row(&rt, rt.alloc(), row, false);
+    }
+}
+
+// A text whose first line is the marker of an alert: its quote has the kind, and not that line. Without alerts, and
+// behind more than a small indent, it has the line.
+#[test]
+fn a_quote_that_begins_with_a_marker_is_an_alert(rt: HostRuntime) {
+    for (row, has_alerts) in [
+        (
+            "[!NOTE]\na = p.|[!NOTE]|.|a| = a.p..|a| = +.i..p...|[!NOTE]|...|a| = f.|x|.p..|[!NOTE]|..|a|",
+            true,
+        ),
+        (
+            "[!NOTE]\na = p.|[!NOTE]|.|a| = q.p..|[!NOTE]|..|a| = +.i..p...|[!NOTE]|...|a| = f.|x|.p..|[!NOTE]|..|a|",
+            false,
+        ),
+        (
+            "    [!NOTE] = c.|[!NOTE]| = q.c..|[!NOTE]| = +.i..c...|[!NOTE]| = f.|x|.p..|[!NOTE]|",
+            true,
+        ),
+    ] {
+        check_row(&rt, rt.alloc(), row, has_alerts);
     }
 }

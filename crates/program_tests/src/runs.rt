@@ -158,6 +158,35 @@ fn prints_the_events(rt: HostRuntime) {
     check_events(&rt, rt.alloc(), Given::of(HEADING), Ended(0, EVENTS, b""));
 }
 
+const ALERT: &[u8] = b">[!Tip]";
+
+const ALERT_OUTLINE: &[u8] = b"alert tip\n\ndefinitions 0\nfootnotes 0\n";
+
+const ALERT_EVENTS: &[u8] = b"+ BlockQuote 1 1 0 0
+  + BlockQuotePrefix 1 1 0 0
+    + BlockQuoteMarker 1 1 0 0
+    - BlockQuoteMarker 1 2 1 0
+    + BlockQuoteMarker 1 2 1 0
+    - BlockQuoteMarker 1 8 7 0
+  - BlockQuotePrefix 1 8 7 0
+- BlockQuote 1 8 7 0
+";
+
+/// What is printed of the same text where no alert is asked for.
+const QUOTE_OUTLINE: &[u8] = b"quote\n  paragraph\n    | [!Tip]\n\ndefinitions 0\nfootnotes 0\n";
+
+#[test]
+fn alerts_are_asked_for(rt: HostRuntime) {
+    let mut given = Given::of(ALERT);
+    given.words = " alerts";
+    check(&rt, rt.alloc(), given, Ended(0, ALERT_OUTLINE, b""));
+    check_events(&rt, rt.alloc(), given, Ended(0, ALERT_EVENTS, b""));
+    for words in ["", " gfm", " all"] {
+        given.words = words;
+        check(&rt, rt.alloc(), given, Ended(0, QUOTE_OUTLINE, b""));
+    }
+}
+
 /// Tries a run of which the first read fails, one of which the second does, and so on, and one of which the last does that is made of
 /// an input with so many reads. None of these prints anything; the run after these meets no failed read and prints this.
 fn check_reads(rt: &impl Abort, alloc: Global, given: Given, count: usize, printed: &[u8]) {
@@ -288,7 +317,7 @@ fn a_failed_write_of_the_message_changes_nothing(rt: HostRuntime) {
 fn arguments_come_first(rt: HostRuntime) {
     let mut given = Given::of(TEXT);
     given.reads = 0;
-    for words in [" commonmark", " gfm", " all"] {
+    for words in [" commonmark", " gfm", " all", " alerts"] {
         given.words = words;
         check(
             &rt,
@@ -297,7 +326,7 @@ fn arguments_come_first(rt: HostRuntime) {
             Ended(4, b"", b"blocks: read failed\n"),
         );
     }
-    for words in [" foo", " GFM", " ", " alerts", " gfm gfm", " foo gfm"] {
+    for words in [" foo", " GFM", " ", " alert", " gfm gfm", " foo gfm"] {
         given.words = words;
         check(
             &rt,

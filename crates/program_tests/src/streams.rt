@@ -27,7 +27,7 @@ impl Read for Source<'_> {
 }
 
 /// So many bytes an output takes in all.
-const ROOM: usize = 192;
+const ROOM: usize = 256;
 
 /// An output that takes at most `step` bytes a call, fails after `calls` calls, and may fail to flush.
 #[derive(Drop)]
@@ -37,7 +37,7 @@ pub struct Sink {
     step: usize,
     calls: usize,
     flushes: bool,
-    ghost within: { len ≤ 192 },
+    ghost within: { len ≤ 256 },
 }
 
 impl Sink {

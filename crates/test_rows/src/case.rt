@@ -67,6 +67,7 @@ fn constructs_of(set: &str) -> Option<Constructs> {
         "commonmark" => Some(Constructs::COMMONMARK),
         "gfm" => Some(Constructs::GFM),
         "all" => Some(Constructs::ALL),
+        "alerts" => Some(Constructs::ALERTS),
         _ => named(set.strip_prefix("exactly")?),
     }
 }

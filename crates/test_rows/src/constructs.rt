@@ -2,8 +2,9 @@
 
 use md_engine::configuration::Constructs;
 
-/// The names of the constructs of `Constructs::ALL`.
-pub const NAMES: [&str; 13] = [
+/// The names of the constructs of `Constructs::ALERTS`.
+pub const NAMES: [&str; 14] = [
+    "alerts",
     "block_quote",
     "code_fenced",
     "code_indented",
@@ -22,6 +23,7 @@ pub const NAMES: [&str; 13] = [
 /// Switches the construct of this name on or off. A name that is none changes nothing and answers `false`.
 pub fn switch(constructs: &mut Constructs, name: &str, on: bool) -> bool {
     match name {
+        "alerts" => constructs.alerts = on,
         "block_quote" => constructs.block_quote = on,
         "code_fenced" => constructs.code_fenced = on,
         "code_indented" => constructs.code_indented = on,
@@ -54,6 +56,7 @@ pub fn named(names: &str) -> Option<Constructs> {
 /// The constructs that are on in both.
 pub fn both(a: &Constructs, b: &Constructs) -> Constructs {
     Constructs {
+        alerts: a.alerts && b.alerts,
         block_quote: a.block_quote && b.block_quote,
         code_fenced: a.code_fenced && b.code_fenced,
         code_indented: a.code_indented && b.code_indented,

@@ -6,14 +6,15 @@
 //     "TEXT"
 //     OUTLINE
 //
-// SECTION is where the standard says it. SET is `commonmark`, `gfm` or `all`, as for the program, or `exactly` and the
-// names of the constructs that are on, if any. NEEDED, which may be left out, names the constructs that the row is
-// about, or says `nothing`: the others of the set may be off and the outline stays the same. Without it all constructs
-// of the set are needed. The text and the outline are written with the escapes of Rust's strings. OUTLINE is what the
-// program prints, without the empty line before the labels; where it has no labels, the two lines `definitions 0` and
-// `footnotes 0` are left out.
+// SECTION is where the standard says it. SET is `commonmark`, `gfm`, `all` or `alerts`, as for the program, or
+// `exactly` and the names of the constructs that are on, if any. NEEDED, which may be left out, names the constructs
+// that the row is about, or says `nothing`: the others of the set may be off and the outline stays the same. Without it
+// all constructs of the set are needed. The text and the outline are written with the escapes of Rust's strings.
+// OUTLINE is what the program prints, without the empty line before the labels; where it has no labels, the two lines
+// `definitions 0` and `footnotes 0` are left out.
 #![tactic(auto)]
 
+pub mod alerts;
 pub mod breaks;
 pub mod case;
 pub mod code;
@@ -36,7 +37,7 @@ pub mod wrap;
 pub mod wraps;
 
 /// The rows of all modules.
-pub fn all() -> [&'static str; 16] {
+pub fn all() -> [&'static str; 17] {
     [
         lines::rows(),
         breaks::rows(),
@@ -48,6 +49,7 @@ pub fn all() -> [&'static str; 16] {
         definitions::rows(),
         definition_parts::rows(),
         quotes::rows(),
+        alerts::rows(),
         items::rows(),
         lists::rows(),
         tables::rows(),

@@ -58,35 +58,51 @@ const KINDS: [&str; 13] = [
     "\n",
 ];
 
-/// Tries two bodies on all texts of at most so many letters of each alphabet, with all constructs of the first. The texts
-/// of the last three alphabets, of which there are many, are one letter shorter, and those of the last one are two.
+/// Letters of which alerts are made, in quotes, in items and beside text.
+const ALERTS: [&str; 8] = [">", " ", "\n", "[!NOTE]", "[!tip]", "a", "- ", "\t"];
+
+/// Parts of the marker of an alert, quotes, whitespace, and lines.
+const MARKERS: [&str; 8] = [">", "[!", "Ti", "p", "]", " ", "\t", "\n"];
+
+/// Tries two bodies on all texts of at most so many letters of each alphabet, with all constructs of the first: alerts
+/// are on with the letters that are for them. The texts of the last five alphabets, of which there are many, are one
+/// letter shorter, and those of the last one are two.
 pub fn try_agree<A: Body, B: Body>(
     alloc: Global,
     most: usize,
     report: &mut Report,
 ) -> Result<(), CaseError> {
-    try_letters::<A, B>(alloc, &LEAVES, most, report)?;
-    try_letters::<A, B>(alloc, &ITEMS, most, report)?;
-    try_letters::<A, B>(alloc, &CODE, most, report)?;
-    try_letters::<A, B>(alloc, &FENCES, most, report)?;
-    try_letters::<A, B>(alloc, &SIZES, most, report)?;
-    try_letters::<A, B>(alloc, &MATH, most, report)?;
-    try_letters::<A, B>(alloc, &UNDERLINES, most, report)?;
-    try_letters::<A, B>(alloc, &DEFINITIONS, most, report)?;
-    try_letters::<A, B>(alloc, &TABLES, most, report)?;
-    try_letters::<A, B>(alloc, &HTML, most.saturating_sub(1), report)?;
-    try_letters::<A, B>(alloc, &PARTS, most.saturating_sub(1), report)?;
-    try_letters::<A, B>(alloc, &KINDS, most.saturating_sub(2), report)
+    let all = Constructs::ALL;
+    let less = most.saturating_sub(1);
+    for letters in [
+        LEAVES.as_slice(),
+        ITEMS.as_slice(),
+        CODE.as_slice(),
+        FENCES.as_slice(),
+        SIZES.as_slice(),
+        MATH.as_slice(),
+        UNDERLINES.as_slice(),
+        DEFINITIONS.as_slice(),
+        TABLES.as_slice(),
+    ] {
+        try_letters::<A, B>(alloc, letters, most, &all, report)?;
+    }
+    try_letters::<A, B>(alloc, &ALERTS, less, &Constructs::ALERTS, report)?;
+    try_letters::<A, B>(alloc, &MARKERS, less, &Constructs::ALERTS, report)?;
+    try_letters::<A, B>(alloc, &HTML, less, &all, report)?;
+    try_letters::<A, B>(alloc, &PARTS, less, &all, report)?;
+    try_letters::<A, B>(alloc, &KINDS, most.saturating_sub(2), &all, report)
 }
 
-/// Tries two bodies on all texts of at most so many of these letters, with all constructs of the first.
+/// Tries two bodies on all texts of at most so many of these letters, with the constructs of a set that the first has.
 pub fn try_letters<A: Body, B: Body>(
     alloc: Global,
     letters: &[&str],
     most: usize,
+    set: &Constructs,
     report: &mut Report,
 ) -> Result<(), CaseError> {
-    let constructs = built_of::<A>(&Constructs::ALL);
+    let constructs = built_of::<A>(set);
     let mut count: usize = 1;
     for length in 0..=most {
         for number in 0..count {

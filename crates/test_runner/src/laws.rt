@@ -1,5 +1,6 @@
 // Tries the laws of nesting: a text that is quoted, or indented as an item or as a footnote definition, has the same
-// outline one container deeper, and the same labels, behind that of the footnote. Its events nest and tile, too.
+// outline one container deeper, and the same labels, behind that of the footnote. Its events nest and tile, too. Where
+// alerts are on and the first line of a text is the marker of one, its quote is an alert of the lines behind.
 
 use crate::events::try_events;
 use crate::report::Report;
@@ -15,9 +16,55 @@ fn is_plain(text: &str) -> bool {
     !text.is_empty() && !text.starts_with('\u{feff}') && !text.contains('\t')
 }
 
-/// Whether the list law and the footnote law speak of a plain text: its first line is not empty and does not begin with a space.
+/// Whether the list law and the footnote law speak of a plain text: its first line is not empty and does not begin with
+/// a space.
 fn begins_with_text(text: &str) -> bool {
     !text.starts_with(' ') && !text.starts_with('\n') && !text.starts_with('\r')
+}
+
+/// The markers of alerts, each with what is printed of a quote that begins with it.
+const ALERTS: [(&str, &str); 5] = [
+    ("[!note]", "alert note\n"),
+    ("[!tip]", "alert tip\n"),
+    ("[!important]", "alert important\n"),
+    ("[!warning]", "alert warning\n"),
+    ("[!caution]", "alert caution\n"),
+];
+
+/// The first line of a text, without its ending.
+fn first_line(text: &str) -> &str {
+    let count = text
+        .bytes()
+        .take_while(|byte| *byte != b'\n' && *byte != b'\r')
+        .count();
+    text.get(..count).unwrap_or("")
+}
+
+/// The lines of a text behind the first one.
+fn behind_first_line(text: &str) -> &str {
+    let rest = text.get(first_line(text).len()..).unwrap_or("");
+    match rest.strip_prefix("\r\n") {
+        Some(lines) => lines,
+        None => rest.get(1..).unwrap_or(""),
+    }
+}
+
+/// What is printed of an alert, if the first line of a plain text is its marker, behind a small indent.
+fn alert_of(text: &str, constructs: &Constructs) -> Option<&'static str> {
+    let line = first_line(text);
+    let indent = line.bytes().take_while(|byte| *byte == b' ').count();
+    if !constructs.alerts || indent > 3 && constructs.code_indented {
+        return None;
+    }
+    let rest = line.get(indent..).unwrap_or("");
+    for (marker, head) in ALERTS {
+        let front = rest.get(..marker.len()).unwrap_or("");
+        let behind = rest.get(marker.len()..).unwrap_or("");
+        if front.eq_ignore_ascii_case(marker) && behind.bytes().all(|byte| byte == b' ') {
+            return Some(head);
+        }
+    }
+    None
 }
 
 /// What is printed for a text, with the outline below the lines `heads`.
@@ -53,6 +100,27 @@ fn with_footnote(alloc: Global, output: &str) -> Result<String, AllocError> {
     Ok(all)
 }
 
+/// Tries whether a text in a quote gives this outline below this head. The events of the quote are tried too.
+fn try_quote<B: Body>(
+    alloc: Global,
+    text: &str,
+    head: &str,
+    output: &str,
+    constructs: &Constructs,
+    report: &mut Report,
+) -> Result<(), CaseError> {
+    let quote = quoted(alloc, text)?;
+    let got = printed::<B>(alloc, quote.as_str(), constructs)?;
+    let wanted = below(alloc, output, head, "  ")?;
+    report.add(
+        "the quote law",
+        quote.as_str(),
+        wanted.as_str(),
+        got.as_str(),
+    )?;
+    try_events::<B>(alloc, quote.as_str(), constructs, report)
+}
+
 /// Tries the laws on a text with constructs that the body has, as far as they speak of it: not of frontmatter either.
 /// The events of the text in its container are tried with each.
 pub fn try_laws<B: Body>(
@@ -69,16 +137,16 @@ pub fn try_laws<B: Body>(
         return Ok(());
     }
     if constructs.block_quote {
-        let quote = quoted(alloc, text)?;
-        let got = printed::<B>(alloc, quote.as_str(), constructs)?;
-        let wanted = below(alloc, output.as_str(), "quote\n", "  ")?;
-        report.add(
-            "the quote law",
-            quote.as_str(),
-            wanted.as_str(),
-            got.as_str(),
-        )?;
-        try_events::<B>(alloc, quote.as_str(), constructs, report)?;
+        match alert_of(text, constructs) {
+            None => try_quote::<B>(alloc, text, "quote\n", output.as_str(), constructs, report)?,
+            Some(head) => {
+                let rest = behind_first_line(text);
+                let output = printed::<B>(alloc, rest, constructs)?;
+                if !rest.starts_with('\u{feff}') && !output.as_str().starts_with("frontmatter ") {
+                    try_quote::<B>(alloc, text, head, output.as_str(), constructs, report)?;
+                }
+            }
+        }
     }
     if constructs.list_item && begins_with_text(text) {
         let item = itemised(alloc, text)?;

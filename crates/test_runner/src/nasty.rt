@@ -4,12 +4,14 @@
 //     letters MOST         all texts of at most so many letters
 //     fragments MOST       all texts of at most so many fragments
 //     random SEED COUNT    so many random texts of fragments, each with a random set of constructs
+//     alerts SEED COUNT    so many random texts of the fragments that alerts are made of, with all constructs
 
 use crate::agree::{try_letters, try_text};
 use crate::report::Report;
 use crate::rows::built_of;
 use crate::sets::{FEW, HALF, without_some};
 use crate::texts::random;
+use md_engine::configuration::Constructs;
 use md_program::body::Body;
 use rand_pcg::Pcg32;
 use std::alloc::Global;
@@ -42,11 +44,56 @@ const LETTERS: [&str; 12] = [
 ];
 
 /// Fragments of all constructs; the last four begin lines with a byte whose first leaf refuses them.
-const FRAGMENTS: [&str; 44] = [
+const FRAGMENTS: [&str; 46] = [
     "a", " ", "  ", "    ", "\t", "\n", "\r", "\n\n", "\u{feff}", "\\", "> ", ">", "- ", "-\n",
     "1. ", "10) ", "[^a]: ", "[^b]:\n", "# ", " #\n", "=\n", "---\n", "---", "+++\n", "***\n",
     "```\n", "~~~ a\n", "$$\n", "<div>\n", "<a>\n", "<!--", "-->\n", "[a]: ", "[b]: c\n",
-    "\"t\"\n", "'", "|", "a|b\n", "-|-\n", ":-\n", "#a|b\n", "$a\n", "_a|", "<a |",
+    "\"t\"\n", "'", "|", "a|b\n", "-|-\n", ":-\n", "[!NOTE]", "[!tip]\n", "#a|b\n", "$a\n", "_a|",
+    "<a |",
+];
+
+/// Fragments of alerts: markers, whole and in parts, and what they stand in, behind and in front of.
+const ALERTS: [&str; 40] = [
+    "> [!NOTE]\n",
+    "> [!tip]\n> ",
+    ">[!Important]",
+    "> > [!WARNING]\n",
+    "[!cAUTION]\n",
+    "[!NOTE]",
+    "[!Tip]",
+    "[!",
+    "tIP",
+    "note]",
+    "]",
+    "[",
+    "\n> ",
+    "\n>",
+    "\n>> ",
+    "> ",
+    ">",
+    ">\t",
+    "\t",
+    " ",
+    "  ",
+    "    ",
+    "\n",
+    "\n\n",
+    "\r",
+    "\r\n",
+    "\n  ",
+    "\n    ",
+    "a",
+    "a\n",
+    "- ",
+    "1. ",
+    "[^a]: ",
+    "# ",
+    "=\n",
+    "---\n",
+    "```\n",
+    "|-\n",
+    "[a]: b\n",
+    "<div>\n",
 ];
 
 /// The most fragments of a random text.
@@ -58,6 +105,7 @@ pub enum Nasty {
     Letters { most: usize },
     Fragments { most: usize },
     Random { seed: u64, count: u64 },
+    Alerts { seed: u64, count: u64 },
 }
 
 impl Nasty {
@@ -69,6 +117,12 @@ impl Nasty {
 
     /// The random texts where no argument says how many.
     pub const RANDOM: Nasty = Nasty::Random {
+        seed: 1,
+        count: 50_000,
+    };
+
+    /// The random texts with alerts where no argument says how many.
+    pub const ALERTS: Nasty = Nasty::Alerts {
         seed: 1,
         count: 50_000,
     };
@@ -89,6 +143,11 @@ impl Nasty {
                 let count = count.as_str().parse().ok()?;
                 Some(Nasty::Random { seed, count })
             }
+            [word, seed, count] if word.as_str() == "alerts" => {
+                let seed = seed.as_str().parse().ok()?;
+                let count = count.as_str().parse().ok()?;
+                Some(Nasty::Alerts { seed, count })
+            }
             _ => None,
         }
     }
@@ -100,9 +159,14 @@ impl Nasty {
         report: &mut Report,
     ) -> Result<(), CaseError> {
         match self {
-            Nasty::Letters { most } => try_letters::<A, B>(alloc, &LETTERS, most, report),
-            Nasty::Fragments { most } => try_letters::<A, B>(alloc, &FRAGMENTS, most, report),
+            Nasty::Letters { most } => {
+                try_letters::<A, B>(alloc, &LETTERS, most, &Constructs::ALL, report)
+            }
+            Nasty::Fragments { most } => {
+                try_letters::<A, B>(alloc, &FRAGMENTS, most, &Constructs::ALERTS, report)
+            }
             Nasty::Random { seed, count } => try_long::<A, B>(alloc, seed, count, report),
+            Nasty::Alerts { seed, count } => try_alerts::<A, B>(alloc, seed, count, report),
         }
     }
 }
@@ -119,6 +183,22 @@ fn try_long<A: Body, B: Body>(
         let text = random(alloc, &mut source, &FRAGMENTS, MOST_FRAGMENTS)?;
         let bits = if number % 2 == 0 { HALF } else { FEW };
         let constructs = built_of::<A>(&without_some(&mut source, bits));
+        try_text::<A, B>(alloc, text.as_str(), &constructs, report)?;
+    }
+    Ok(())
+}
+
+/// Tries two bodies on so many random texts of fragments of alerts, with all constructs of the first.
+fn try_alerts<A: Body, B: Body>(
+    alloc: Global,
+    seed: u64,
+    count: u64,
+    report: &mut Report,
+) -> Result<(), CaseError> {
+    let constructs = built_of::<A>(&Constructs::ALERTS);
+    let mut source = Pcg32::new(seed, 0);
+    for _ in 0..count {
+        let text = random(alloc, &mut source, &ALERTS, MOST_FRAGMENTS)?;
         try_text::<A, B>(alloc, text.as_str(), &constructs, report)?;
     }
     Ok(())

@@ -47,7 +47,7 @@ pub fn built_of<B: Body>(constructs: &Constructs) -> Constructs {
 
 /// Tries a body on a table of rows, of which it takes those whose constructs it has.
 pub fn try_rows<B: Body>(alloc: Global, rows: &str, report: &mut Report) -> Result<(), CaseError> {
-    let built = built_of::<B>(&Constructs::ALL);
+    let built = built_of::<B>(&Constructs::ALERTS);
     for row in rows.split("\n\n") {
         let case = Case::read(alloc, row)?;
         if case.holds_with(&built) {

@@ -1,5 +1,5 @@
-// Looks for texts that break the laws of nesting, or whose events do not tile: begins of the rows' texts, all short texts, and random
-// longer ones.
+// Looks for texts that break the laws of nesting, or whose events do not tile: begins of the rows' texts, all short
+// texts, and random longer ones.
 
 use crate::events::try_events;
 use crate::laws::try_laws;
@@ -20,10 +20,51 @@ const LETTERS: [&str; 20] = [
 ];
 
 /// Pieces of random texts.
-const PIECES: [&str; 40] = [
-    "a", "b", " ", "  ", "    ", "\n", "\n", "\n", "\n\n", "\r", "\r\n", "> ", ">", "- ", "-",
-    "+ ", "* ", "1. ", "12) ", "# ", " #", "=\n", "---\n", "***\n", "```", "~~~", "$$", "<!--",
-    "-->", "<div>", "<x>\n", "[a]: ", "[^a]: ", "]", "'", "|", "-|-\n", ":-\n", "\\", "(",
+const PIECES: [&str; 44] = [
+    "a",
+    "b",
+    " ",
+    "  ",
+    "    ",
+    "\n",
+    "\n",
+    "\n",
+    "\n\n",
+    "\r",
+    "\r\n",
+    "> ",
+    ">",
+    "- ",
+    "-",
+    "+ ",
+    "* ",
+    "1. ",
+    "12) ",
+    "# ",
+    " #",
+    "=\n",
+    "---\n",
+    "***\n",
+    "```",
+    "~~~",
+    "$$",
+    "<!--",
+    "-->",
+    "<div>",
+    "<x>\n",
+    "[a]: ",
+    "[^a]: ",
+    "]",
+    "'",
+    "|",
+    "-|-\n",
+    ":-\n",
+    "\\",
+    "(",
+    "[!NOTE]",
+    "[!note]\n",
+    "> [!Tip]\n",
+    "> [!CAUTION] \n> ",
 ];
 
 /// The most pieces of a random text.
@@ -35,7 +76,7 @@ pub fn try_short<B: Body>(
     length: usize,
     report: &mut Report,
 ) -> Result<(), CaseError> {
-    let constructs = built_of::<B>(&Constructs::ALL);
+    let constructs = built_of::<B>(&Constructs::ALERTS);
     let mut count: usize = 1;
     for _ in 0..length {
         count = count.wrapping_mul(LETTERS.len());
@@ -47,8 +88,8 @@ pub fn try_short<B: Body>(
     Ok(())
 }
 
-/// Tries the texts of rows, each cut at each of its characters: the laws with all constructs of the body, and the events under the
-/// three sets.
+/// Tries the texts of rows, each cut at each of its characters: the events under the four sets, and the laws with all
+/// constructs of the body, with alerts and without.
 pub fn try_begins<B: Body>(
     alloc: Global,
     rows: &str,
@@ -68,10 +109,18 @@ pub fn try_begins<B: Body>(
 
 /// Tries one begin of a text so.
 fn try_begin<B: Body>(alloc: Global, text: &str, report: &mut Report) -> Result<(), CaseError> {
-    for set in [Constructs::COMMONMARK, Constructs::GFM, Constructs::ALL] {
+    for set in [
+        Constructs::COMMONMARK,
+        Constructs::GFM,
+        Constructs::ALL,
+        Constructs::ALERTS,
+    ] {
         try_events::<B>(alloc, text, &set, report)?;
     }
-    try_laws::<B>(alloc, text, &built_of::<B>(&Constructs::ALL), report)
+    for set in [Constructs::ALL, Constructs::ALERTS] {
+        try_laws::<B>(alloc, text, &built_of::<B>(&set), report)?;
+    }
+    Ok(())
 }
 
 /// Tries the laws on so many random texts, each with random constructs of the body.

@@ -62,7 +62,7 @@ fn try_all<B: Body>(alloc: Global, report: &mut Report) -> Result<(), CaseError>
         try_begins::<B>(alloc, rows, report)?;
     }
     try_wraps(alloc, test_rows::wraps::rows(), report)?;
-    let built = built_of::<B>(&Constructs::ALL);
+    let built = built_of::<B>(&Constructs::ALERTS);
     if built.definition && built.gfm_footnote_definition {
         try_labels::<B>(alloc, report)?;
     }

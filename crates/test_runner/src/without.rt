@@ -11,8 +11,8 @@ use std::alloc::Global;
 use test_rows::case::{Case, CaseError};
 use test_rows::constructs::{NAMES, switch};
 
-/// Whether only the construct of this name makes a word. Headings of depth 1 and 2 are of two constructs, which their events tell
-/// apart.
+/// Whether nothing makes a word without the construct of this name. Headings of depth 1 and 2 are of two constructs,
+/// which their events tell apart.
 fn is_of(word: Word, name: &str) -> bool {
     match word {
         Word::Frontmatter(_) => name == "frontmatter",
@@ -25,6 +25,7 @@ fn is_of(word: Word, name: &str) -> bool {
         Word::Definition => name == "definition",
         Word::Table(_) => name == "gfm_table",
         Word::Quote => name == "block_quote",
+        Word::Alert(_) => name == "alerts" || name == "block_quote",
         Word::List(_) => name == "list_item",
         Word::Footnote => name == "gfm_footnote_definition",
         _ => false,
@@ -57,8 +58,8 @@ fn occurs<B: Body>(
     }
 }
 
-/// Tries the texts of rows with all constructs but one, for each of them: that one is not in the outline, a heading's not among the
-/// events either, and the events nest and tile.
+/// Tries the texts of rows with all constructs but one, for each of them: that one is not in the outline, a heading's
+/// not among the events either, and the events nest and tile.
 pub fn try_without<B: Body>(
     alloc: Global,
     rows: &str,
@@ -80,7 +81,7 @@ fn try_off<B: Body>(
     name: &str,
     report: &mut Report,
 ) -> Result<(), CaseError> {
-    let mut constructs = Constructs::ALL;
+    let mut constructs = Constructs::ALERTS;
     let _ = switch(&mut constructs, name, false);
     let mut is_there = occurs::<B>(alloc, text, &constructs, name)?;
     if let Some(events) = events_of::<B>(alloc, text, &constructs)? {
