@@ -56,7 +56,7 @@ pub trait Table {
 }
 
 /// Leaves the innermost attempt, if there is one.
-fn leave(tokenizer: &mut Tokenizer, state: State) -> Option<State>
+pub fn leave(tokenizer: &mut Tokenizer, state: State) -> Option<State>
     requires { IsEnd state }
     ensures leaves { IfSome result (λ next. Leaves state (world tokenizer.old) next (world tokenizer.new)) }
     ensures setting { (world tokenizer.new).setting ≡ (world tokenizer.old).setting }

@@ -98,7 +98,7 @@ impl<'a> Tokenizer<'a> {
     }
 
     /// Sees, takes and counts whitespace, up to its limit.
-    pub(crate) fn see_white(&mut self)
+    pub fn see_white(&mut self)
         ensures { SeesAll Stay.White (world self.old) (world self.new) }
     {
         let Whitespace { max, size, .. } = self.scratch.whitespace;
@@ -108,7 +108,7 @@ impl<'a> Tokenizer<'a> {
     }
 
     /// Sees and takes the rest of the line.
-    pub(crate) fn see_line(&mut self)
+    pub fn see_line(&mut self)
         ensures { SeesAll Stay.Line (world self.old) (world self.new) }
     {
         self.see_span(Class::Text);
