@@ -1,6 +1,6 @@
 -- The kind whose marker begins at an index, and the line that gets it, as the code finds them.
 use Rattle.std.proofs.Common.{◌≡◌, ◌≢◌, ℕ, zero, suc, ◌+◌, ◌-◌, Bool, true, false, cond, ◌==◌, nat_lt, List, [], ◌∷◌}
-use Rattle.std.proofs.Common.{length, map, drop, get_or, slice_range, refl, sym, ◌∙◌, ap, arith, length-drop, ne_eqb}
+use Rattle.std.proofs.Common.{length, map, drop, get_or, slice_range, refl, sym, ◌∙◌, ap, arith, length-drop}
 use Rattle.std.specs.Prelude.{Option, Some, None, set}
 use Rattle.std.specs.Char.{to_ascii_lowercase}
 use Rattle.std.proofs.lemmas.Bool.{eq-eqb}
@@ -66,16 +66,14 @@ pub kind-in : (bytes rest : List ℕ) (index : ℕ) → rest ≡ slice_range byt
 unfolding kind_at
 kind-in bytes rest index is = ap (λ r. first_kind (λ k. has_marker k r) kinds) (is ∙ rest-from bytes index)
 
-first-other : (rest : List ℕ) → first_byte rest ≢ left_bracket → begins_with left_bracket rest ≡ false
+first-other : (rest : List ℕ) → (first_byte rest == left_bracket) ≡ false → begins_with left_bracket rest ≡ false
 first-other [] other = refl
-first-other (b ∷ rest) other = ne_eqb b left_bracket other
+first-other (b ∷ rest) other = other
 
 pub kind-not_in : (bytes rest : List ℕ) (index : ℕ) → rest ≡ slice_range bytes index (length bytes) →
-    first_byte rest ≢ left_bracket → None ≡ kind_at bytes index
+    (first_byte rest == left_bracket) ≡ false → kind_at bytes index ≡ None
 kind-not_in bytes rest index is other =
-    sym
-    (kind-none bytes index
-    (ap (begins_with left_bracket) (sym (is ∙ rest-from bytes index)) ∙ first-other rest other))
+    kind-none bytes index (ap (begins_with left_bracket) (sym (is ∙ rest-from bytes index)) ∙ first-other rest other)
 
 -- The last line.
 

@@ -24,7 +24,7 @@ mod paragraph;
 mod role;
 mod table;
 
-use crate::outline::alert::{give_kind, kind_at};
+use crate::outline::alert::{give_kind, kind_at, may_begin};
 use crate::outline::definition::{fill_destination, part_of, push_part_end, push_part_piece};
 use crate::outline::footnote::{fill_label, push_container};
 use crate::outline::lined::{
@@ -429,6 +429,20 @@ impl<'a> Reading<'a> {
         }
     }
 
+    /// Whether an event changes nothing: it has no meaning, or is of a marker of a quote that is no marker of a kind.
+    #[inline(always)]
+    fn is_quiet(&self, role: Role<'a>, event: &Event) -> bool
+        ensures { result ≡ true →
+            state_by self.now.bytes.now event.now.kind role.entry event.now.point (state_of self.now) ≡
+            state_of self.now }
+    {
+        match (role, event.kind) {
+            (Role::Quiet, _) | (Role::QuoteMarker, Kind::Exit) => true,
+            (Role::QuoteMarker, Kind::Enter) => !may_begin(self.bytes, event.point.index),
+            _ => false,
+        }
+    }
+
     /// Reads the next event.
     fn read(&mut self, event: &Event) -> Result<(), Message>
         ensures bytes { self.new.bytes ≡ self.old.bytes }
@@ -438,7 +452,7 @@ impl<'a> Reading<'a> {
             event.now.point (state_of self.old)) }
     {
         let role = role_of(event.name);
-        if let Role::Quiet = role {
+        if self.is_quiet(role, event) {
             return Ok(());
         }
         match event.kind {

@@ -1,7 +1,7 @@
 // How an outline meets a quote that a marker gives a kind: its line gets the kind. That is the last line as long as
 // nothing in the quote is shown.
 
-ghost use Rattle.std.specs.Prelude.{◌≡◌, Some};
+ghost use Rattle.std.specs.Prelude.{◌≡◌, None, Some, false};
 ghost use Rattle.md_meaning.specs.Alert.{first_kind, has_marker, kinds, marker_of};
 ghost use Rattle.md_meaning.specs.Outline.{entries_of};
 ghost use Rattle.md_seam.specs.Events.Spelled as spelled;
@@ -54,16 +54,19 @@ fn kind_of(bytes: &[u8]) -> Option<AlertKind>
     }
 }
 
-/// The kind whose marker begins at an index, if one does. Most markers of quotes are `>`, of which no more is read.
+/// Whether the marker of a kind may begin at an index. Most markers of quotes are `>`, of which no more is read.
+#[inline(always)]
+pub fn may_begin(bytes: &[u8], index: usize) -> bool
+    ensures { result ≡ false → spelled.kind_at bytes.now index ≡ None }
+{
+    first_of(part(bytes, index, bytes.len())) == b'['
+}
+
+/// The kind whose marker begins at an index, if one does.
 pub fn kind_at(bytes: &[u8], index: usize) -> Option<AlertKind>
     ensures { result ≡ spelled.kind_at bytes.now index }
 {
-    let rest = part(bytes, index, bytes.len());
-    if first_of(rest) == b'[' {
-        kind_of(rest)
-    } else {
-        None
-    }
+    kind_of(part(bytes, index, bytes.len()))
 }
 
 /// The word of a quote with this kind. Any other word stays.
