@@ -52,11 +52,28 @@ fn push_lines(text: &mut String, lines: &[OutlineLine]) -> Result<(), AllocError
 fn push_line(text: &mut String, line: &OutlineLine) -> Result<(), AllocError>
     ensures { OnOk result (string_bytes text.new ≡ string_bytes text.old ++ printed_line (entry_of line.now)) }
 {
-    push_indent(text, line.depth)?;
-    push_head(text, line.word)?;
+    push_front(text, line.depth, line.word)?;
     push_repeated(text, " ", line.spaces)?;
     text.push_str(line.text)?;
-    text.push_str("\n")
+    text.push('\n')
+}
+
+/// Puts two spaces a depth behind the text, and a word: at once for the lines of blocks that are not deep, which are the
+/// most.
+#[inline(always)]
+fn push_front(text: &mut String, depth: usize, word: Word) -> Result<(), AllocError>
+    ensures { OnOk result
+        (string_bytes text.new ≡ string_bytes text.old ++ (repeat depth (codes "  ") ++ head word)) }
+{
+    match (word, depth) {
+        (Word::Line, 1) => text.push_str("  | "),
+        (Word::Line, 2) => text.push_str("    | "),
+        (Word::Line, 3) => text.push_str("      | "),
+        _ => {
+            push_indent(text, depth)?;
+            push_head(text, word)
+        }
+    }
 }
 
 /// Puts two spaces a depth behind the text: at once for as few depths as most lines have.
