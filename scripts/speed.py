@@ -10,11 +10,15 @@ printed:
 
 Instructions are counted by valgrind (callgrind), so they are the same on each run of the same program; where it is
 missing, the times are printed alone. Memory is the most that is resident.
+
+`cost` counts cmark, cmark-gfm and md2html (md4c) beside it where they are installed: whole programs, which read inlines
+too and print them. `--other COMMAND` counts another program, such as a block layer of one of these that prints an outline.
 """
 
 import argparse
 import os
 import re
+import shlex
 import shutil
 import subprocess
 import sys
@@ -274,6 +278,10 @@ TIMED: list[tuple[str, str, list[int]]] = [
 ]
 
 
+# Programs that are counted beside it where they are installed.
+OTHERS = ["cmark --to xml", "cmark-gfm --extension table --to xml", "md2html --ftables"]
+
+
 def arguments(name: str) -> list[str]:
     """What the program is told of the text of this name: to read tables, or all, where it is about them."""
     if name in EXTENSIONS:
@@ -291,7 +299,7 @@ class Program:
 
     def __init__(self, path: Path) -> None:
         if not path.is_file():
-            raise SystemExit(f"{path} is not there: build it by `rt run` in its crate")
+            raise SystemExit(f"{path} does not exist: `rt run` in its crate builds it")
         self.path = path
         self.counts: dict[int, int] = {}
 
@@ -341,18 +349,32 @@ def head(*cells: str) -> None:
     print("|" + "---|" * len(cells))
 
 
-def print_cost(program: Program, size: int) -> None:
+def others(commands: list[str]) -> dict[str, tuple[Program, list[str]]]:
+    """The programs of these commands that are installed, each with its arguments."""
+    found = {}
+    for command in commands:
+        name, *told = shlex.split(command)
+        if path := shutil.which(name):
+            found[Path(name).name] = (Program(Path(path)), told)
+    return found
+
+
+def print_cost(program: Program, size: int, beside: dict[str, tuple[Program, list[str]]]) -> None:
     """What a byte of text costs, where the text is so long already: of a text less its first half."""
-    head("Text", "Instructions a byte", "Memory a byte")
+    head("Text", "Instructions a byte", "Memory a byte", *beside)
     for name, part in PARTS.items():
         told = arguments(name)
         half, whole = filled(part, size // 2), filled(part, size // 2) * 2
-        cost = (program.instructions(whole, told) - program.instructions(half, told)) / (len(whole) - len(half))
+
+        def cost(program: Program, told: list[str]) -> str:
+            more = program.instructions(whole, told) - program.instructions(half, told)
+            return f"{more / (len(whole) - len(half)):.1f}"
+
         least = 8 * size
         while program.run(part, least, told)[1] < 40 * MEGABYTE and least < 60 * MEGABYTE:
             least *= 2
         memory = (program.run(part, 2 * least, told)[1] - program.run(part, least, told)[1]) / least
-        row(name, f"{cost:.1f}", f"{memory:.1f}")
+        row(name, cost(program, told), f"{memory:.1f}", *(cost(*other) for other in beside.values()))
 
 
 def print_growth(program: Program, size: int) -> None:
@@ -387,6 +409,7 @@ def main() -> None:
     parser.add_argument("tables", nargs="*", metavar="TABLE", help="cost, growth, times; all where none is named")
     parser.add_argument("--program", type=Path, default=ROOT / "crates/blocks/out/blocks", help="what is measured")
     parser.add_argument("--size", type=int, default=240_000, help="bytes of a text that is counted (240000)")
+    parser.add_argument("--other", action="append", default=[], metavar="COMMAND", help="counted beside it by `cost`")
     parser.add_argument("--runs", type=int, default=4, help="runs of which the best time counts (4)")
     asked = parser.parse_args()
     tables = asked.tables or ["cost", "growth", "times"]
@@ -398,7 +421,7 @@ def main() -> None:
     program = Program(asked.program)
     for table in tables:
         if table == "cost":
-            print_cost(program, asked.size)
+            print_cost(program, asked.size, others(OTHERS + asked.other))
         elif table == "growth":
             print_growth(program, asked.size)
         else:
