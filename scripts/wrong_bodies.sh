@@ -2,13 +2,13 @@
 # Tries wrong bodies without proof, each of which must change a row: those that no contract can refuse, or that one may come to let
 # through, and those of promises that no must-fail edit tries.
 #
-# Each file of scripts/wrong-bodies has lines `file:`, `old:` (standing once in that file) and `new:`. All are applied to one copy of
-# the crates, where a body is wrong only for the number that stands for it: `is_wrong()` in a `new:` line asks that of the constructs,
-# which have a field for it in the copy, or in `md_program` of the program's name. The copy of `bench` then tries the rows with the
-# number of its argument, and 0 stands for the bodies as they are. It also tells the events of a text, by a sum of what is printed of
-# them, and the status of a run with an argument that is none. An edit of a crate of the plain program changes that body, each
-# other the parser. One with the line `# bench` is tried with each construct off too, by its events, and on long labels, and
-# something must be wrong.
+# Each file of scripts/wrong-bodies has lines `file:`, `old:` (once in that file) and `new:`. All are applied to one copy
+# of the crates, where a body is wrong only for its number: `is_wrong()` in a `new:` line asks that of the constructs, or
+# of the walk over the cells of a table, which have a field for it in the copy, or in `md_program` of the program's name.
+# The copy of `bench` then tries the rows with the number of its argument, and 0 is for the bodies as they are. It also
+# prints a sum of the events of a text, by the plain layer and by `references`, and the status of a run with an argument
+# that is none. An edit of a crate of the plain program changes that body, each other the parser. One with the line
+# `# bench` is tried with each construct off too, by its events, and on long labels, and something must be wrong.
 set -euo pipefail
 cd "$(dirname "$0")/.."
 work=$(mktemp -d)
@@ -57,13 +57,33 @@ text += "\nimpl Constructs {\n    pub fn is_wrong(&self, number: u8) -> bool {\n
 open(f"{work}/{options}", "w").write(text)
 kept = "let wrong = options.constructs.wrong; let mut options = Blocks::built(options); options.constructs.wrong = wrong;"
 replaced("crates/events_body/src/lib.rt", "let options = Blocks::built(options);", kept, "events")
-replaced("crates.txt", "\nbench: ", "\nbench: events_body ", "bench")
+replaced("crates.txt", "\nbench: ", "\nbench: events_body markdown_blocks references ", "bench")
+
+# the walk over the cells of a table has no constructs, so it gets the number from the resolver
+pass_of, tables, cells = "md_resolve/src/pass.rt", "md_tables/src/tables.rt", "md_tables/src/cells.rt"
+for name, old, new in [
+    ("md_order/src/wanted.rt", "pub tables: bool,", "pub tables: bool, pub wrong: u8,"),
+    ("md_order/src/wanted.rt", "tables: false,", "tables: false, wrong: 0,"),
+    ("markdown_blocks/src/parser.rt", "tables: true,", "tables: true, wrong: 0,"),
+    (pass_of, "= wanted_of(names);", "= Wanted { wrong: tokenizer.options.constructs.wrong, ..wanted_of(names) };"),
+    (pass_of, "self.table(alloc)", "self.table(alloc, wanted.wrong)"),
+    (pass_of, "fn table(&mut self, alloc: Global)", "fn table(&mut self, alloc: Global, wrong: u8)"),
+    (pass_of, "put_tables(&left[..many],", "put_tables(wrong, &left[..many],"),
+    (tables, "pub fn put_tables(events:", "pub fn put_tables(wrong: u8, events:"),
+    (tables, "stage: Stage::Outside,", "stage: Stage::Outside, wrong,"),
+    (cells, "pub(crate) stage: Stage,", "pub(crate) stage: Stage, pub(crate) wrong: u8,"),
+    (cells, "impl Walk {", "impl Walk { pub(crate) fn is_wrong(&self, number: u8) -> bool { self.wrong == number }"),
+]:
+    replaced(f"crates/{name}", old, new, "tables")
 
 # a body a number
 main = """#![tactic(auto)]
 ghost use Rattle.std.specs.Prelude.{Unit};
 use blocks_body::Blocks;
 use events_body::Events;
+use events_body::print::print;
+use markdown_blocks::parser::parse_with;
+use references::References;
 use test_runner::long::try_labels;
 use test_runner::report::Report;
 use test_runner::rows::try_rows;
@@ -79,10 +99,11 @@ use plain_body::Plain;
 use std::alloc::Global;
 use std::{env, io};
 
-// each kind of block, prefixes of one and of two columns, a cut tab, an item that started blank, the endings behind open fences, and
-// an alert
+// each kind of block, prefixes of one and of two columns, a cut tab, an item that started blank, the endings behind open
+// fences, an alert, a table with a cell of two words, and references in texts and in a string
 const TEXT: &str = "\\u{feff}> a\\n\\tb\\n>\\n# c #\\n\\t\\n***\\n\\n1. d\\n\\n   >  > e\\n2. f\\n\\n-\\n\\tg\\n\\n\\th\\n\\n\
-  ~~~ i m\\n   j\\n  ~~~\\n> ```\\n>\\nk\\n- ```\\n\\nl\\n\\n> [!Tip] \\n>m";
+  ~~~ i m\\n   j\\n  ~~~\\n> ```\\n>\\nk\\n- ```\\n\\nl\\n\\n> [!Tip] \\n>m\\n\\n\
+  |n o|\\n|-|\\n|p|\\n\\n[q]: r\\n\\n[Q] \\\\[q] [s]\\n~~~ [q]";
 
 /// Tries a body on rows, on their texts with each construct off, and on long labels.
 fn try_bench<B: Body>(alloc: Global, rows: &str, report: &mut Report) -> Result<(), CaseError> {
@@ -91,11 +112,15 @@ fn try_bench<B: Body>(alloc: Global, rows: &str, report: &mut Report) -> Result<
     try_labels::<B>(alloc, report)
 }
 
-/// A sum of what is printed of the events of a text.
+/// A sum of what is printed of the events of a text, without and with its references.
 fn events<B: Body>(alloc: Global) -> Result<u64, Message> {
+    let options = B::built(ParseOptions::ALERTS);
+    let (marked, _state) = parse_with(alloc, &References, TEXT, &options)?;
     let mut sum: u64 = 0;
-    for byte in Events::output(alloc, TEXT, B::built(ParseOptions::ALERTS))?.bytes() {
-        sum = sum.wrapping_mul(31).wrapping_add(byte as u64);
+    for printed in [Events::output(alloc, TEXT, B::built(ParseOptions::ALERTS))?, print(alloc, &marked)?] {
+        for byte in printed.bytes() {
+            sum = sum.wrapping_mul(31).wrapping_add(byte as u64);
+        }
     }
     Ok(sum)
 }
