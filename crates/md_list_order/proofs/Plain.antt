@@ -2,7 +2,6 @@
 -- are put around items.
 use Rattle.std.proofs.Common.{◌≡◌, inl, inr, ℕ, suc, Bool, true, false, cond, ◌&&◌, List, [], ◌∷◌, ◌++◌, take, refl, ap}
 use Rattle.std.proofs.Common.{sym, ◌∙◌, subst}
-use Rattle.std.specs.Prelude.{Some, None}
 use Rattle.std.specs.List.{All}
 use Rattle.std.proofs.lemmas.Bool.{and_parts}
 use Rattle.std.proofs.lemmas.List.Elements.{All-cons, All-head, All-nil, All-tail}
@@ -12,21 +11,18 @@ use Rattle.md_engine.specs.declared.event.Name.{Name}
 use Rattle.md_engine.specs.declared.event.Name.TheVariants as n
 use Rattle.md_containers.specs.Listed.{Place as ListPlace, is_item, listed_from}
 use Rattle.md_containers.proofs.ListedLemmas.{passes-given}
-use Rattle.md_leaves.specs.HeadingText.{Before, Opened, Outside, Place as HeadPlace, Within, begins, ends, is_heading}
-use Rattle.md_leaves.specs.HeadingText.{is_run, is_sequence, text_between}
+use Rattle.md_leaves.specs.HeadingText.{begins, headings_resolved, is_heading}
 use Rattle.md_leaves.specs.Turned.{BeginsText, EndsText, EndsUnderline, Stays, Turn, given_by}
 use Rattle.md_seam.specs.Events.Nested.{is_enter, is_exit}
 use Rattle.md_seam.specs.Events.Spelled.{role}
-use Rattle.md_seam.specs.Events.Tiles.{is_data}
 use Rattle.md_tables.specs.Heads.{is_table}
 use Rattle.md_tables.specs.Tabled.{begins_table, bound_of, tabled}
 use Rattle.md_tables.proofs.CellsLemmas.{is_put}
 use Rattle.md_tables.proofs.TabledWalk.{tabled-kept}
 use Rattle.md_order.specs.declared.wanted.Wanted.{Wanted}
 use Rattle.md_order.specs.Alone.{HoldNoBlock, InTable, Nothing, Open, closes, is_set, opened_by}
-use Rattle.md_order.specs.Left.{MayBeLeft, MayStay, ends_table, table_len}
-use Rattle.md_order.specs.Quiet.{AreQuiet, HeldQuiet, IsQuiet}
-use Rattle.md_order.proofs.HeadParts.{head_given, head_last}
+use Rattle.md_order.specs.Left.{MayBeLeft, MayStay, ends_table, heading_len, table_len}
+use Rattle.md_order.proofs.HeadStep.{AreQuiet, heading-given}
 use Rattle.md_order.proofs.Names.{table-begin, unset-item}
 use Rattle.md_order.proofs.Stay.{closed-table, stay-opens}
 use Rattle.md_order.proofs.TableSlice.{slice, slice-is}
@@ -52,10 +48,6 @@ abbrev pub ArePlain : List Event → Type 0
 ArePlain [] = Unit {0}
 ArePlain (e ∷ es) = IsPlain e × ArePlain es
 
-plain-append : (xs ys : List Event) → ArePlain xs → ArePlain ys → ArePlain (xs ++ ys)
-plain-append [] ys h k = k
-plain-append (e ∷ xs) ys h k = (h.0, plain-append xs ys h.1 k)
-
 -- they stay as they are
 pub plain-past : (bytes : List ℕ) (place : ListPlace) (xs ys : List Event) → ArePlain xs →
     listed_from bytes place (xs ++ ys) ≡ xs ++ listed_from bytes place ys
@@ -63,42 +55,18 @@ plain-past bytes place [] ys h = refl
 plain-past bytes place (e ∷ xs) ys h =
     passes-given bytes place e (xs ++ ys) h.0 ∙ ap (λ (l : List Event). e ∷ l) (plain-past bytes place xs ys h.1)
 
--- What is given in an ATX heading, as what is held there is of no item.
+-- What is given for an ATX heading, as what is in it is of no item.
 
 quiet-plain : (xs : List Event) → AreQuiet (with_items true) xs → ArePlain xs
 quiet-plain [] h = tt
 quiet-plain (e ∷ xs) h = (h.0.0 refl, quiet-plain xs h.1)
 
-pub last-plain : (p : HeadPlace) → HeldQuiet (with_items true) p → ArePlain (head_last p)
-last-plain Outside h = tt
-last-plain Before h = tt
-last-plain Opened h = tt
-last-plain (Within first None last closing since) h =
-    plain-append closing since (quiet-plain closing h.0) (quiet-plain since h.1)
-last-plain (Within first (Some after) last closing since) h =
-    plain-append (text_between first (Some after) ++ closing) since
-    (refl, (refl, (refl, (refl, quiet-plain closing h.0)))) (quiet-plain since h.1)
-
-pub head-plain : (p : HeadPlace) (e : Event) → HeldQuiet (with_items true) p → IsQuiet (with_items true) e →
-    ArePlain (head_given p e)
-head-plain Outside e h k = (k.0 refl, tt)
-head-plain Before e h k = (k.0 refl, tt)
-head-plain Opened e h k = go (begins is_run e)
-  where
-    go : (x : Bool) → ArePlain (cond x [] (e ∷ []))
-    go true = tt
-    go false = (k.0 refl, tt)
-head-plain (Within first after last closing since) e h k = go (ends is_data e) (ends is_sequence e) (ends is_heading e)
-  where
-    held : List Event
-    held = text_between first after ++ closing ++ since
-
-    go : (x y z : Bool) → ArePlain (cond x [] (cond y [] (cond z (held ++ e ∷ []) [])))
-    go true y z = tt
-    go false true z = tt
-    go false false true =
-        plain-append held (e ∷ []) (last-plain (Within first after last closing since) h) (k.0 refl, tt)
-    go false false false = tt
+-- what is given for one is so
+pub heading-plain : (e : Event) (es : List Event) → begins is_heading e ≡ true → MayStay (with_items true) (e ∷ es) →
+    ArePlain (headings_resolved (take (suc (heading_len es)) (e ∷ es)))
+heading-plain e es begins stay =
+    quiet-plain (headings_resolved (e ∷ take (heading_len es) es))
+    (heading-given (with_items true) e es refl begins stay)
 
 -- What is given for an event of a paragraph or an underline.
 pub turn-plain : (t : Turn) (on begins : Bool) (e : Event) → IsPlain e → ArePlain (given_by t on begins e)

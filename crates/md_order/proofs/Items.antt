@@ -5,14 +5,13 @@ use Rattle.md_engine.specs.declared.event.Event.{Event}
 use Rattle.md_containers.specs.Listed.{Begins, Ends, Place as ListPlace, Stays, Turn, given, given_by, goes_on, is_item}
 use Rattle.md_containers.specs.Listed.{list_begin, list_end, list_name, listed_from, marker_ahead, next_item, place_after}
 use Rattle.md_containers.specs.Listed.{turn}
-use Rattle.md_leaves.specs.HeadingText.{Outside}
 use Rattle.md_seam.specs.Events.Nested.{enter, exit}
 use Rattle.md_seam.specs.Events.Spelled.{role}
 use Rattle.md_order.specs.declared.wanted.Wanted.{Wanted}
 use Rattle.md_order.specs.InOrder.{set_if}
 use Rattle.md_order.specs.Left.{Standing, left_in}
 use Rattle.md_order.proofs.Names.{item-bare, list-bare}
-use Rattle.md_order.proofs.Passed.{Passes, bare-passes, behind_items, items-past, left-outside}
+use Rattle.md_order.proofs.Passed.{Passes, bare-passes, behind_items, items-past}
 
 abbrev pub AllPass : Wanted → List Event → Type 0
 AllPass w [] = Unit {0}
@@ -53,16 +52,14 @@ given-pass w bytes place e es h = go (turn e.kind (role e.name))
     go Stays = (itself, tt)
 
 pub item-step : (w : Wanted) (bytes : List ℕ) (at : Standing) (e : Event) (es : List Event) → w.items ≡ true →
-    at.head ≡ Outside → is_item (role e.name) ≡ true →
+    is_item (role e.name) ≡ true →
     left_in w bytes at (e ∷ es)
     ≡ given bytes at.items e es ++ left_in w bytes (record at { items = place_after bytes at.items e es }) es
-item-step w bytes at e es on out h =
-    left-outside w bytes at (e ∷ es) out
-    ∙ ap (λ (x : Bool). behind_items w at.on (set_if x (listed_from bytes at.items) (e ∷ es))) on
+item-step w bytes at e es on h =
+    ap (λ (x : Bool). behind_items w at.on (set_if x (listed_from bytes at.items) (e ∷ es))) on
     ∙ all-past w at.on (given bytes at.items e es) (listed_from bytes there es) (given-pass w bytes at.items e es h)
     ∙ ap (λ (l : List Event). given bytes at.items e es ++ l)
-    (ap (λ (x : Bool). behind_items w at.on (set_if x (listed_from bytes there) es)) (sym on)
-    ∙ sym (left-outside w bytes (record at { items = there }) es out))
+    (ap (λ (x : Bool). behind_items w at.on (set_if x (listed_from bytes there) es)) (sym on))
   where
     there : ListPlace
     there = place_after bytes at.items e es

@@ -1,6 +1,4 @@
-pub mod HeadParts
-pub mod Held
-pub mod HeldMany
+pub mod HeadStep
 pub mod Items
 pub mod Names
 pub mod Passed

@@ -6,7 +6,7 @@ use Rattle.std.proofs.lemmas.Bool.{and_right, or_parts}
 use Rattle.md_engine.specs.declared.event.Event.{Event}
 use Rattle.md_containers.specs.Listed.{Place as ListPlace, is_item, listed_from}
 use Rattle.md_containers.proofs.ListedLemmas.{passes-given as listed-passes}
-use Rattle.md_leaves.specs.HeadingText.{Before, Outside, Place as HeadPlace, begins, is_heading, resolved}
+use Rattle.md_leaves.specs.HeadingText.{Before, Outside, begins, is_heading, resolved}
 use Rattle.md_leaves.specs.Turned.{passes as is_unturned, turned_from}
 use Rattle.md_leaves.proofs.TurnedLemmas.{passes-given as turned-passes}
 use Rattle.md_seam.specs.Events.Nested.{is_enter}
@@ -66,13 +66,6 @@ behind_heads w on es = set_if w.tables tabled (set_if w.setext (turned_from on) 
 abbrev pub behind_items : Wanted → Bool → List Event → List Event
 behind_items w on es = behind_heads w on (set_if w.atx (resolved Outside) es)
 
-pub left-outside : (w : Wanted) (bytes : List ℕ) (at : Standing) (es : List Event) → at.head ≡ Outside →
-    left_in w bytes at es ≡ behind_items w at.on (set_if w.items (listed_from bytes at.items) es)
-left-outside w bytes at es out =
-    ap
-    (λ (p : HeadPlace).
-    behind_heads w at.on (set_if w.atx (resolved p) (set_if w.items (listed_from bytes at.items) es))) out
-
 -- An event that passes them.
 pub record Passes (w : Wanted) (e : Event) : Type 0 where
   pub head : w.atx ≡ true → begins is_heading e ≡ false
@@ -113,11 +106,10 @@ not-all : (x : Bool) → not x ≡ true → x ≡ false
 not-all true h = absurd (let no : false ≡ true = h in cc)
 not-all false h = refl
 
-pub passed-one : (w : Wanted) (bytes : List ℕ) (at : Standing) (e : Event) (es : List Event) → at.head ≡ Outside →
+pub passed-one : (w : Wanted) (bytes : List ℕ) (at : Standing) (e : Event) (es : List Event) →
     is_passed w e ≡ true → left_in w bytes at (e ∷ es) ≡ e ∷ left_in w bytes at es
-passed-one w bytes at e es out h =
-    left-outside w bytes at (e ∷ es) out
-    ∙ ap (behind_items w at.on)
+passed-one w bytes at e es h =
+    ap (behind_items w at.on)
     (items-pass w.items bytes at.items e es (and-none w.items (is_item (role e.name)) (first).0))
     ∙ items-past w at.on e (set_if w.items (listed_from bytes at.items) es)
     (record {
@@ -125,7 +117,6 @@ passed-one w bytes at e es out h =
       turn = λ k. not-none (is_unturned e) (and-none w.setext (not (is_unturned e)) second.1 k);
       table = and-none w.tables (begins_table (bound_of e)) third.1;
     })
-    ∙ ap (λ (l : List Event). e ∷ l) (sym (left-outside w bytes at es out))
   where
     i : Bool
     i = w.items && is_item (role e.name)
@@ -150,11 +141,11 @@ passed-one w bytes at e es out h =
 
 -- So do all in front of the next that does not.
 
-passed-run : (w : Wanted) (bytes : List ℕ) (at : Standing) (es : List Event) → at.head ≡ Outside →
+passed-run : (w : Wanted) (bytes : List ℕ) (at : Standing) (es : List Event) →
     left_in w bytes at es
     ≡ take (prefix_len (is_passed w) es) es ++ left_in w bytes at (drop (prefix_len (is_passed w) es) es)
-passed-run w bytes at [] out = refl
-passed-run w bytes at (e ∷ es) out = go (is_passed w e) refl (passed-run w bytes at es out)
+passed-run w bytes at [] = refl
+passed-run w bytes at (e ∷ es) = go (is_passed w e) refl (passed-run w bytes at es)
   where
     n : ℕ
     n = prefix_len (is_passed w) es
@@ -165,12 +156,12 @@ passed-run w bytes at (e ∷ es) out = go (is_passed w e) refl (passed-run w byt
         ≡ take (cond x (1 + n) 0) (e ∷ es) ++ left_in w bytes at (drop (cond x (1 + n) 0) (e ∷ es))
     go false h k = refl
     go true h k =
-        passed-one w bytes at e es out h ∙ ap (λ (l : List Event). e ∷ l) k
+        passed-one w bytes at e es h ∙ ap (λ (l : List Event). e ∷ l) k
         ∙ ap (λ (m : ℕ). take m (e ∷ es) ++ left_in w bytes at (drop m (e ∷ es)))
         (let one : suc n ≡ 1 + n = omega arith in one)
 
-pub passed-many : (w : Wanted) (bytes : List ℕ) (at : Standing) (es : List Event) → at.head ≡ Outside → (n : ℕ) →
+pub passed-many : (w : Wanted) (bytes : List ℕ) (at : Standing) (es : List Event) (n : ℕ) →
     n ≡ prefix_len (is_passed w) es → left_in w bytes at es ≡ take n es ++ left_in w bytes at (drop n es)
-passed-many w bytes at es out n count =
-    passed-run w bytes at es out
+passed-many w bytes at es n count =
+    passed-run w bytes at es
     ∙ ap (λ (m : ℕ). take m es ++ left_in w bytes at (drop m es)) (sym count)

@@ -6,7 +6,7 @@ use Rattle.md_engine.specs.declared.event.Kind.TheVariants.{Enter, Exit}
 use Rattle.md_engine.specs.declared.event.Name.{Name}
 use Rattle.md_engine.specs.declared.event.Name.TheVariants as n
 use Rattle.md_containers.specs.Listed.{is_item}
-use Rattle.md_leaves.specs.HeadingText.{Outside, begins, is_heading}
+use Rattle.md_leaves.specs.HeadingText.{begins, is_heading}
 use Rattle.md_leaves.specs.Turned.{BeginsText, EndsText, EndsUnderline, Stays, Turn, given_by, is_paragraph, is_turned}
 use Rattle.md_leaves.specs.Turned.{is_underline, on_by, passes as is_unturned, turn, turn_by, turned_from}
 use Rattle.md_seam.specs.Events.Nested.{is_enter}
@@ -17,7 +17,7 @@ use Rattle.md_order.specs.Alone.{InParagraph, Open, is_set, opened_by}
 use Rattle.md_order.specs.InOrder.{set_if}
 use Rattle.md_order.specs.Left.{MayBeLeft, MayStay, Standing, left_in}
 use Rattle.md_order.proofs.Names.{tableless}
-use Rattle.md_order.proofs.Passed.{behind_heads, left-outside, tables-pass}
+use Rattle.md_order.proofs.Passed.{behind_heads, tables-pass}
 use Rattle.md_order.proofs.SetextLook.{ahead, ahead-pass, turned-ahead}
 use Rattle.md_order.proofs.Stay.{one-setext, stay-opens}
 
@@ -91,13 +91,12 @@ paragraph-begun Exit n.HeadingSetextUnderline h = absurd (let no : EndsUnderline
 paragraph-begun kind _ h = absurd (let no : Stays ≡ BeginsText = h in cc)
 
 pub setext-step : (w : Wanted) (bytes : List ℕ) (at : Standing) (e : Event) (es : List Event) → w.setext ≡ true →
-    at.head ≡ Outside → is_unturned e ≡ false → MayStay w (e ∷ es) →
+    is_unturned e ≡ false → MayStay w (e ∷ es) →
     left_in w bytes at (e ∷ es)
     ≡ given_by (turn e) at.on (is_turned es) e
     ++ left_in w bytes (record at { on = on_by (turn e) at.on (is_turned es) }) es
-setext-step w bytes at e es on out h stay =
-    left-outside w bytes at (e ∷ es) out
-    ∙ ap (behind_heads w at.on) (ahead-pass w.atx w.items bytes at.items e es text.item text.heading)
+setext-step w bytes at e es on h stay =
+    ap (behind_heads w at.on) (ahead-pass w.atx w.items bytes at.items e es text.item text.heading)
     ∙ ap (λ (x : Bool). set_if w.tables tabled (set_if x (turned_from at.on) (e ∷ left))) on
     ∙ ap (λ (l : List Event). set_if w.tables tabled (l ++ turned_from (on_by (turn e) at.on (is_turned left)) left))
     same.given
@@ -105,8 +104,7 @@ setext-step w bytes at e es on out h stay =
     ∙ tables-past w.tables own (turned_from there left)
     (given-tableless (turn e) at.on (is_turned es) e (text.table e.kind))
     ∙ ap (λ (l : List Event). own ++ l)
-    (ap (λ (x : Bool). set_if w.tables tabled (set_if x (turned_from there) left)) (sym on)
-    ∙ sym (left-outside w bytes (record at { on = there }) es out))
+    (ap (λ (x : Bool). set_if w.tables tabled (set_if x (turned_from there) left)) (sym on))
   where
     text : IsText e.name
     text = text-name e.name h

@@ -8,15 +8,17 @@ use Rattle.md_engine.specs.declared.event.Kind.TheVariants.{Enter, Exit}
 use Rattle.md_engine.specs.declared.event.Name.{Name}
 use Rattle.md_engine.specs.declared.event.Name.TheVariants as n
 use Rattle.md_leaves.specs.HeadingText.{begins, ends, is_heading}
-use Rattle.md_leaves.specs.Turned.{is_paragraph}
+use Rattle.md_containers.specs.Listed.{is_item}
+use Rattle.md_leaves.specs.Turned.{is_paragraph, passes as is_unturned}
 use Rattle.md_seam.specs.Events.Inline.{is_line_ending}
 use Rattle.md_seam.specs.Events.Nested.{is_enter, is_exit}
+use Rattle.md_seam.specs.Events.Spelled.{role}
 use Rattle.md_tables.specs.Heads.{is_table}
+use Rattle.md_tables.specs.Tabled.{begins_table, bound_of}
 use Rattle.md_order.specs.declared.wanted.Wanted.{Wanted}
 use Rattle.md_order.specs.Alone.{HoldNoBlock, InEnding, InHeading, InParagraph, InTable, InUnderline, MayStand}
 use Rattle.md_order.specs.Alone.{Nothing, Open, closed_by, closes, is_one, is_set, open_behind, opened_by}
 use Rattle.md_order.specs.Left.{MayBeLeft, MayStay}
-use Rattle.md_order.specs.Quiet.{IsQuiet}
 use Rattle.md_order.proofs.Names.{bare-unturned, tableless, unset-bare, unset-item}
 
 -- one event further
@@ -125,17 +127,20 @@ one-table w one h = go w.items w.atx w.setext w.tables one h
 
 -- Within a heading.
 
+-- an event that the other resolvers that are wanted leave as it is
+abbrev pub IsQuiet : Wanted → Event → Type 0
+IsQuiet w e =
+    (w.items ≡ true → is_item (role e.name) ≡ false) × (w.setext ≡ true → is_unturned e ≡ true)
+    × (w.tables ≡ true → begins_table (bound_of e) ≡ false)
+
 -- an event of one
-heading-quiet : (w : Wanted) (e : Event) → is_heading e.name ≡ true → IsQuiet w e
+pub heading-quiet : (w : Wanted) (e : Event) → is_heading e.name ≡ true → IsQuiet w e
 heading-quiet w e h = go e.kind e.name h
   where
     go : (kind : Kind) (name : Name) → is_heading name ≡ true → IsQuiet w (record e { kind = kind; name = name })
     go Enter n.HeadingAtx h = (λ k. refl, λ k. refl, λ k. refl)
     go Exit n.HeadingAtx h = (λ k. refl, λ k. refl, λ k. refl)
     go kind _ h = absurd (let no : false ≡ true = h in cc)
-
-pub quiet-begin : (w : Wanted) (e : Event) → begins is_heading e ≡ true → IsQuiet w e
-quiet-begin w e h = heading-quiet w e (and_parts (is_enter e.kind) (is_heading e.name) h).1
 
 pub quiet-inside : (w : Wanted) (e : Event) (es : List Event) → w.atx ≡ true → MayBeLeft w InHeading (e ∷ es) →
     IsQuiet w e

@@ -7,7 +7,7 @@ use Rattle.md_engine.specs.declared.event.Kind.TheVariants.{Enter}
 use Rattle.md_engine.specs.declared.event.Name.{Name}
 use Rattle.md_engine.specs.declared.event.Name.TheVariants as n
 use Rattle.md_containers.specs.Listed.{is_item}
-use Rattle.md_leaves.specs.HeadingText.{Outside, is_heading}
+use Rattle.md_leaves.specs.HeadingText.{is_heading}
 use Rattle.md_leaves.specs.Turned.{passes as is_unturned, turned_from}
 use Rattle.md_seam.specs.Events.Nested.{is_enter, is_exit}
 use Rattle.md_seam.specs.Events.Spelled.{role}
@@ -20,7 +20,7 @@ use Rattle.md_order.specs.Alone.{HoldNoBlock, InTable, Nothing, Open, closes, is
 use Rattle.md_order.specs.InOrder.{set_if}
 use Rattle.md_order.specs.Left.{MayBeLeft, MayStay, Standing, ends_table, left_in, table_len}
 use Rattle.md_order.proofs.Names.{bare-unturned, table-begin, unset-bare, unset-item}
-use Rattle.md_order.proofs.Passed.{left-outside, turns-none, turns-pass}
+use Rattle.md_order.proofs.Passed.{turns-none, turns-pass}
 use Rattle.md_order.proofs.SetextLook.{ahead, ahead-none, ahead-pass}
 use Rattle.md_order.proofs.Stay.{closed-table, one-table, stay-opens}
 use Rattle.md_order.proofs.TableSlice.{rest, rest-follows, rest-is, slice, slice-is, tabled-slice}
@@ -110,18 +110,16 @@ begun-set : (name : Name) → name ≡ n.GfmTable → (is_set name ≡ true) × 
 begun-set name h = rw h (refl, refl)
 
 pub table-step : (w : Wanted) (bytes : List ℕ) (at : Standing) (e : Event) (es : List Event) → w.tables ≡ true →
-    at.head ≡ Outside → begins_table (bound_of e) ≡ true → MayStay w (e ∷ es) →
+    begins_table (bound_of e) ≡ true → MayStay w (e ∷ es) →
     left_in w bytes at (e ∷ es)
     ≡ tabled (take (suc (table_len es)) (e ∷ es)) ++ left_in w bytes at (drop (suc (table_len es)) (e ∷ es))
-table-step w bytes at e es on out h stay =
-    left-outside w bytes at (e ∷ es) out
-    ∙ ap (set_if w.tables tabled)
+table-step w bytes at e es on h stay =
+    ap (set_if w.tables tabled)
     (front-pass w bytes at e es (table-other e (ap is_table begins.1))
     ∙ ap (λ (l : List Event). e ∷ l) (slice-passes w bytes at es on opened))
     ∙ ap (λ (x : Bool). set_if x tabled ((e ∷ slice es) ++ in_front w bytes at (rest es))) on
     ∙ set
     ∙ ap (λ (x : Bool). tabled (e ∷ slice es) ++ set_if x tabled (in_front w bytes at (rest es))) (sym on)
-    ∙ ap (λ (l : List Event). tabled (e ∷ slice es) ++ l) (sym (left-outside w bytes at (rest es) out))
     ∙ ap (λ (l : List Event). tabled (e ∷ l) ++ left_in w bytes at (rest es)) (sym (slice-is es))
     ∙ ap (λ (l : List Event). tabled (e ∷ take (table_len es) es) ++ left_in w bytes at l)
     (sym (rest-is es))

@@ -3,7 +3,7 @@ use Rattle.std.specs.Prelude.{◌≡◌, ◌⊎◌, ℕ, suc, Bool, true, ◌||�
 use Rattle.std.specs.List.{prefix_len}
 use Rattle.md_engine.specs.declared.event.Event.{Event}
 use Rattle.md_containers.specs.Listed.{Place as ListPlace, is_item, listed_from}
-use Rattle.md_leaves.specs.HeadingText.{Place as HeadPlace, begins, is_heading, resolved}
+use Rattle.md_leaves.specs.HeadingText.{begins, ends, headings_resolved, is_heading}
 use Rattle.md_leaves.specs.Turned.{is_underline, passes as is_unturned, turned_from}
 use Rattle.md_seam.specs.Events.Nested.{is_exit}
 use Rattle.md_seam.specs.Events.Spelled.{role}
@@ -13,16 +13,16 @@ use Rattle.md_order.specs.declared.wanted.Wanted.{Wanted}
 use Rattle.md_order.specs.Alone.{HoldNoBlock, Open, is_one}
 use Rattle.md_order.specs.InOrder.{set_if}
 
--- Where it stands: among items, in an ATX heading, and whether a setext heading is open. Tables are set whole.
+-- Where it stands: among items, and whether a setext heading is open. ATX headings and tables are set whole.
 pub record Standing : Type 0 where
   pub items : ListPlace
-  pub head : HeadPlace
   pub on : Bool
 
 abbrev pub left_in : Wanted → List ℕ → Standing → List Event → List Event
 left_in w bytes at es =
     set_if w.tables tabled
-    (set_if w.setext (turned_from at.on) (set_if w.atx (resolved at.head) (set_if w.items (listed_from bytes at.items) es)))
+    (set_if w.setext (turned_from at.on)
+    (set_if w.atx headings_resolved (set_if w.items (listed_from bytes at.items) es)))
 
 -- Outside of ATX headings an event passes as it is if it is of no block that is set.
 abbrev pub is_passed : Wanted → Event → Bool
@@ -51,3 +51,7 @@ ends_table e = is_exit e.kind && is_table e.name
 
 abbrev pub table_len : List Event → ℕ
 table_len es = suc (prefix_len (λ (e : Event). not (ends_table e)) es)
+
+-- how many events there are in front of the first end of an ATX heading
+abbrev pub heading_len : List Event → ℕ
+heading_len es = prefix_len (λ (e : Event). not (ends is_heading e)) es

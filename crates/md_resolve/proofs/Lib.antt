@@ -1,6 +1,5 @@
-pub mod HeadLaws
-pub mod HeldText
 pub mod NoUnderline
 pub mod PassLaws
 pub mod Same
+pub mod TextLaws
 pub mod Unset

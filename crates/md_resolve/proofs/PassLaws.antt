@@ -1,5 +1,6 @@
 -- The steps of one pass: what is given so far, and what is given for what is left, stay the same in all.
-use Rattle.std.proofs.Common.{◌≡◌, ◌≤◌, ℕ, Bool, true, false, List, [], ◌∷◌, ◌++◌, drop, take, length, refl, ap, sym, ◌∙◌}
+use Rattle.std.proofs.Common.{◌≡◌, ◌≤◌, ◌<◌, length-drop, ℕ, Bool, true, false, List, [], ◌∷◌, ◌++◌, drop, take, length}
+use Rattle.std.proofs.Common.{refl, ap, sym, ◌∙◌}
 use Rattle.std.proofs.Common.{subst, append_assoc, append-nil, ap₂, arith, cond, not, suc, ◌+◌, ◌&&◌, ◌⊎◌, inl, inr}
 use Rattle.std.proofs.lemmas.List.{drop_all, take_all}
 use Rattle.std.specs.List.{prefix_len}
@@ -9,13 +10,14 @@ use Rattle.md_engine.specs.declared.event.Kind.TheVariants.{Enter, Exit}
 use Rattle.md_engine.specs.declared.event.Name.{Name}
 use Rattle.md_engine.specs.declared.event.Name.TheVariants as n
 use Rattle.md_containers.specs.Listed.{Place as ListPlace, given, is_item, place_after}
-use Rattle.md_leaves.specs.HeadingText.{Outside, Place as HeadPlace, resolved}
+use Rattle.md_leaves.specs.HeadingText.{begins, headings_resolved, is_heading}
 use Rattle.md_leaves.specs.Turned.{given_by, is_turned, on_by, turn, turned_from}
 use Rattle.md_leaves.specs.Turned.{passes as is_unturned}
 use Rattle.md_order.specs.InOrder.{in_order, set_if}
-use Rattle.md_order.specs.Left.{MayStay, Standing, ends_table, is_passed, left_in, table_len}
+use Rattle.md_order.specs.Left.{MayStay, Standing, ends_table, heading_len, is_passed, left_in, table_len}
 use Rattle.md_order.specs.declared.wanted.Wanted.{Wanted}
 use Rattle.md_order.proofs.Passed.{heads-none, items-none, passed-many, passed-one, tables-none, turns-none}
+use Rattle.md_order.proofs.HeadStep.{heading-more, heading-step}
 use Rattle.md_order.proofs.Items.{item-step}
 use Rattle.md_order.proofs.SetextStep.{setext-step}
 use Rattle.md_order.proofs.TableStep.{table-step}
@@ -23,65 +25,37 @@ use Rattle.md_seam.specs.Events.Spelled.{role}
 use Rattle.md_seam.specs.Events.Nested.{is_exit}
 use Rattle.md_tables.specs.Heads.{is_table}
 use Rattle.md_tables.specs.Tabled.{begins_table, bound_by, bound_of, tabled}
-use Rattle.md_resolve.specs.HeadingWalk.{given_of as given_at, place_of}
 use Rattle.md_resolve.specs.PassWalk as walk
-use Rattle.md_seam.specs.Rewritten.{IsFirst, held_of, left_of, written_of}
-use Rattle.md_resolve.specs.declared.heading_text.Stage.{Stage}
-use Rattle.md_resolve.specs.declared.heading_text.Stage.TheVariants as stage
-use Rattle.md_resolve.specs.declared.heading_text.Text.{Text}
+use Rattle.md_seam.specs.Rewritten.{IsFirst, given_of as given_at, held_of, left_of, written_of}
 use Rattle.md_resolve.specs.declared.pass.Walk.{Walk}
 use Rattle.md_seam.specs.declared.rewriting.Rewriting.{Rewriting}
 
-abbrev pub at : ListPlace → HeadPlace → Bool → Standing
-at p h o = record { items = p; head = h; on = o }
+abbrev pub at : ListPlace → Bool → Standing
+at p o = record { items = p; on = o }
 
--- The parts of a walk that count: where it stands in a heading, its events, where it stands among items, and whether a
--- setext heading is open.
+-- The parts of a walk that count: its events, where it is among items, and whether a setext heading is open.
 pub record Now : Type 0 where
-  pub stage : Stage
-  pub text : Text
   pub all : Rewriting
   pub items : ListPlace
   pub on : Bool
 
 abbrev pub now_of : Walk → Now
-now_of w = record {
-  stage = w.heads.stage;
-  text = w.heads.text;
-  all = w.heads.all;
-  items = walk.items_of w;
-  on = w.on;
-}
+now_of w = record { all = w.all; items = walk.items_of w; on = w.on }
 
 abbrev pub given_of : Now → List Event
-given_of n = given_at n.stage (written_of n.all) (held_of n.all)
+given_of n = given_at n.all
 
 abbrev pub rest_of : Now → List Event
 rest_of n = left_of n.all
 
-abbrev pub head_of : Now → HeadPlace
-head_of n = place_of n.stage n.text (held_of n.all)
-
 abbrev pub whole_of : Wanted → List ℕ → Now → List Event
-whole_of w bytes n = given_of n ++ left_in w bytes (at n.items (head_of n) n.on) (rest_of n)
+whole_of w bytes n = given_of n ++ left_in w bytes (at n.items n.on) (rest_of n)
 
-abbrev pub IsOut : Now → Type 0
-IsOut n = n.stage ≡ stage.Outside
-
-pub head-out : (n : Now) → IsOut n → head_of n ≡ Outside
-head-out n h = ap (λ (s : Stage). place_of s n.text (held_of n.all)) h
-
--- outside of headings all that is held is given
-pub out-given : (n : Now) → IsOut n → given_of n ≡ written_of n.all ++ held_of n.all
-out-given n h = ap (λ (s : Stage). given_at s (written_of n.all) (held_of n.all)) h
-
-pub held-given : (old new : Now) (more : List Event) → IsOut old → IsOut new →
-    written_of new.all ≡ written_of old.all → held_of new.all ≡ held_of old.all ++ more →
-    given_of new ≡ given_of old ++ more
-held-given old new more out out_new written held =
-    out-given new out_new ∙ ap₂ (λ (a b : List Event). a ++ b) written held
-    ∙ sym (append_assoc (written_of old.all) (held_of old.all) more)
-    ∙ ap (λ (l : List Event). l ++ more) (sym (out-given old out))
+-- all that is held is given
+pub held-given : (old new : Now) (more : List Event) → written_of new.all ≡ written_of old.all →
+    held_of new.all ≡ held_of old.all ++ more → given_of new ≡ given_of old ++ more
+held-given old new more written held =
+    ap₂ (λ (a b : List Event). a ++ b) written held ∙ sym (append_assoc (written_of old.all) (held_of old.all) more)
 
 -- how many events are of a table, at most all
 pub slice-many : (es : List Event) (end many : ℕ) → end ≡ prefix_len (λ (f : Event). not (ends_table f)) es →
@@ -97,53 +71,43 @@ slice-many es end many is (inr all) =
       drop_all many es long ∙ sym (drop_all (table_len es) es longer),
     )
 
--- by its parts
-pub whole-of : (w : Wanted) (bytes : List ℕ) (g g' : List Event) (p p' : ListPlace) (h h' : HeadPlace) (o o' : Bool)
-    (r r' : List Event) → g ≡ g' → p ≡ p' → h ≡ h' → o ≡ o' → r ≡ r' →
-    g ++ left_in w bytes (at p h o) r ≡ g' ++ left_in w bytes (at p' h' o') r'
-whole-of w bytes g g' p p' h h' o o' r r' a b c d e =
-    ap (λ (x : List Event). x ++ left_in w bytes (at p h o) r) a
-    ∙ ap (λ (x : ListPlace). g' ++ left_in w bytes (at x h o) r) b
-    ∙ ap (λ (x : HeadPlace). g' ++ left_in w bytes (at p' x o) r) c
-    ∙ ap (λ (x : Bool). g' ++ left_in w bytes (at p' h' x) r) d
-    ∙ ap (λ (x : List Event). g' ++ left_in w bytes (at p' h' o') x) e
-
 -- Where what is given more is what the law of a step says, all is the same.
-pub step-whole : (w : Wanted) (bytes : List ℕ) (old new : Now) (given_more left es : List Event) (items : ListPlace)
-    (on : Bool) → IsOut old → IsOut new → rest_of old ≡ left → given_of new ≡ given_of old ++ given_more →
+pub step-whole : (w : Wanted) (bytes : List ℕ) (old new : Now) (more left es : List Event) (items : ListPlace)
+    (on : Bool) → rest_of old ≡ left → given_of new ≡ given_of old ++ more →
     new.items ≡ items → new.on ≡ on → rest_of new ≡ es →
-    left_in w bytes (at old.items Outside old.on) left ≡ given_more ++ left_in w bytes (at items Outside on) es →
+    left_in w bytes (at old.items old.on) left ≡ more ++ left_in w bytes (at items on) es →
     whole_of w bytes new ≡ whole_of w bytes old
-step-whole w bytes old new more left es items on out out_new left_is given_is items_is on_is rest_is law =
-    whole-of w bytes (given_of new) (given_of old ++ more) new.items items (head_of new) Outside new.on on
-    (rest_of new) es given_is items_is (head-out new out_new) on_is rest_is
-    ∙ append_assoc (given_of old) more (left_in w bytes (at items Outside on) es)
-    ∙ ap (λ (l : List Event). given_of old ++ l) (sym law)
-    ∙ whole-of w bytes (given_of old) (given_of old) old.items old.items Outside (head_of old) old.on old.on
-    left (rest_of old) refl refl (sym (head-out old out)) refl (sym left_is)
+step-whole w bytes old new more left es items on left_is given_is items_is on_is rest_is law =
+    ap (λ (x : List Event). x ++ left_in w bytes (at new.items new.on) (rest_of new)) given_is
+    ∙ ap (λ (x : ListPlace). (given_of old ++ more) ++ left_in w bytes (at x new.on) (rest_of new)) items_is
+    ∙ ap (λ (x : Bool). (given_of old ++ more) ++ left_in w bytes (at items x) (rest_of new)) on_is
+    ∙ ap (λ (x : List Event). (given_of old ++ more) ++ left_in w bytes (at items on) x) rest_is
+    ∙ append_assoc (given_of old) more (left_in w bytes (at items on) es)
+    ∙ ap (λ (l : List Event). given_of old ++ l)
+    (sym law ∙ ap (left_in w bytes (at old.items old.on)) (sym left_is))
 
-pub item-whole : (w : Wanted) (bytes : List ℕ) (old new : Now) (e : Event) → w.items ≡ true → IsOut old → IsOut new →
+pub item-whole : (w : Wanted) (bytes : List ℕ) (old new : Now) (e : Event) → w.items ≡ true →
     is_item (role e.name) ≡ true → IsFirst e (rest_of old) →
     given_of new ≡ given_of old ++ given bytes old.items e (drop 1 (rest_of old)) →
     new.items ≡ place_after bytes old.items e (drop 1 (rest_of old)) → new.on ≡ old.on →
     rest_of new ≡ drop 1 (rest_of old) → whole_of w bytes new ≡ whole_of w bytes old
-item-whole w bytes old new e wanted out out_new item first given_is items_is on_is rest_is =
+item-whole w bytes old new e wanted item first given_is items_is on_is rest_is =
     let es : List Event = drop 1 (rest_of old) in
     step-whole w bytes old new (given bytes old.items e es) (e ∷ es) es (place_after bytes old.items e es)
-    old.on out out_new first given_is items_is on_is rest_is
-    (item-step w bytes (at old.items Outside old.on) e es wanted refl item)
+    old.on first given_is items_is on_is rest_is
+    (item-step w bytes (at old.items old.on) e es wanted item)
 
-pub text-whole : (w : Wanted) (bytes : List ℕ) (old new : Now) (e : Event) → w.setext ≡ true → IsOut old → IsOut new →
+pub text-whole : (w : Wanted) (bytes : List ℕ) (old new : Now) (e : Event) → w.setext ≡ true →
     is_unturned e ≡ false → MayStay w (rest_of old) → IsFirst e (rest_of old) →
     given_of new ≡ given_of old ++ given_by (turn e) old.on (is_turned (drop 1 (rest_of old))) e →
     new.items ≡ old.items → new.on ≡ on_by (turn e) old.on (is_turned (drop 1 (rest_of old))) →
     rest_of new ≡ drop 1 (rest_of old) → whole_of w bytes new ≡ whole_of w bytes old
-text-whole w bytes old new e wanted out out_new text stay first given_is items_is on_is rest_is =
+text-whole w bytes old new e wanted text stay first given_is items_is on_is rest_is =
     let es : List Event = drop 1 (rest_of old) in
     let begins : Bool = is_turned es in
     step-whole w bytes old new (given_by (turn e) old.on begins e) (e ∷ es) es old.items
-    (on_by (turn e) old.on begins) out out_new first given_is items_is on_is rest_is
-    (setext-step w bytes (at old.items Outside old.on) e es wanted refl text (subst (MayStay w) first stay))
+    (on_by (turn e) old.on begins) first given_is items_is on_is rest_is
+    (setext-step w bytes (at old.items old.on) e es wanted text (subst (MayStay w) first stay))
 
 table-more : (e : Event) (es : List Event) → begins_table (bound_of e) ≡ true → table_len (e ∷ es) ≡ suc (table_len es)
 table-more e es h = go e.kind e.name h
@@ -156,50 +120,74 @@ table-more e es h = go e.kind e.name h
     go Exit n.GfmTableDelimiterRow h = absurd (let bad : false ≡ true = h in cc)
     go Exit _ h = absurd (let bad : false ≡ true = h in cc)
 
-pub table-whole : (w : Wanted) (bytes : List ℕ) (old new : Now) (e : Event) → w.tables ≡ true → IsOut old →
-    IsOut new → begins_table (bound_of e) ≡ true → MayStay w (rest_of old) → IsFirst e (rest_of old) →
+pub table-whole : (w : Wanted) (bytes : List ℕ) (old new : Now) (e : Event) → w.tables ≡ true →
+    begins_table (bound_of e) ≡ true → MayStay w (rest_of old) → IsFirst e (rest_of old) →
     given_of new ≡ given_of old ++ tabled (take (table_len (rest_of old)) (rest_of old)) →
     new.items ≡ old.items → new.on ≡ old.on → rest_of new ≡ drop (table_len (rest_of old)) (rest_of old) →
     whole_of w bytes new ≡ whole_of w bytes old
-table-whole w bytes old new e wanted out out_new begins stay first given_is items_is on_is rest_is =
+table-whole w bytes old new e wanted begins stay first given_is items_is on_is rest_is =
     let es : List Event = drop 1 (rest_of old) in
     let n : ℕ = suc (table_len es) in
     let more : table_len (e ∷ es) ≡ n = table-more e es begins in
-    step-whole w bytes old new (tabled (take n (e ∷ es))) (e ∷ es) (drop n (e ∷ es)) old.items old.on out out_new
+    step-whole w bytes old new (tabled (take n (e ∷ es))) (e ∷ es) (drop n (e ∷ es)) old.items old.on
     first
     (given_is ∙ ap (λ (l : List Event). given_of old ++ tabled (take (table_len l) l)) first
     ∙ ap (λ (m : ℕ). given_of old ++ tabled (take m (e ∷ es))) more)
     items_is on_is
     (rest_is ∙ ap (λ (l : List Event). drop (table_len l) l) first ∙ ap (λ (m : ℕ). drop m (e ∷ es)) more)
-    (table-step w bytes (at old.items Outside old.on) e es wanted refl begins (subst (MayStay w) first stay))
+    (table-step w bytes (at old.items old.on) e es wanted begins (subst (MayStay w) first stay))
 
-pub passed-whole : (w : Wanted) (bytes : List ℕ) (old new : Now) (n : ℕ) → IsOut old → IsOut new →
+pub heading-whole : (w : Wanted) (bytes : List ℕ) (old new : Now) (e : Event) → w.atx ≡ true →
+    begins is_heading e ≡ true → MayStay w (rest_of old) → IsFirst e (rest_of old) →
+    given_of new ≡ given_of old ++ headings_resolved (take (heading_len (rest_of old)) (rest_of old)) →
+    new.items ≡ old.items → new.on ≡ old.on → rest_of new ≡ drop (heading_len (rest_of old)) (rest_of old) →
+    whole_of w bytes new ≡ whole_of w bytes old
+heading-whole w bytes old new e wanted begins stay first given_is items_is on_is rest_is =
+    let es : List Event = drop 1 (rest_of old) in
+    let n : ℕ = suc (heading_len es) in
+    let more : heading_len (e ∷ es) ≡ n = heading-more e es begins in
+    step-whole w bytes old new (headings_resolved (take n (e ∷ es))) (e ∷ es) (drop n (e ∷ es)) old.items old.on
+    first
+    (given_is ∙ ap (λ (l : List Event). given_of old ++ headings_resolved (take (heading_len l) l)) first
+    ∙ ap (λ (m : ℕ). given_of old ++ headings_resolved (take m (e ∷ es))) more)
+    items_is on_is
+    (rest_is ∙ ap (λ (l : List Event). drop (heading_len l) l) first ∙ ap (λ (m : ℕ). drop m (e ∷ es)) more)
+    (heading-step w bytes (at old.items old.on) e es wanted begins (subst (MayStay w) first stay))
+
+pub heading-fewer : (e : Event) (left : List Event) → IsFirst e left → begins is_heading e ≡ true →
+    length (drop (heading_len left) left) < length left
+heading-fewer e left first begins =
+    let es : List Event = drop 1 left in
+    subst (λ (l : List Event). length (drop (heading_len l) l) < length l) (sym first)
+    (subst (λ (m : ℕ). length (drop m (e ∷ es)) < length (e ∷ es)) (sym (heading-more e es begins))
+    (omega (arith, length-drop (heading_len es) es)))
+
+pub passed-whole : (w : Wanted) (bytes : List ℕ) (old new : Now) (n : ℕ) →
     n ≡ prefix_len (is_passed w) (rest_of old) → given_of new ≡ given_of old ++ take n (rest_of old) →
     new.items ≡ old.items → new.on ≡ old.on → rest_of new ≡ drop n (rest_of old) →
     whole_of w bytes new ≡ whole_of w bytes old
-passed-whole w bytes old new n out out_new n_is given_is items_is on_is rest_is =
-    step-whole w bytes old new (take n (rest_of old)) (rest_of old) (drop n (rest_of old)) old.items old.on out
-    out_new refl given_is items_is on_is rest_is
-    (passed-many w bytes (at old.items Outside old.on) (rest_of old) refl n n_is)
+passed-whole w bytes old new n n_is given_is items_is on_is rest_is =
+    step-whole w bytes old new (take n (rest_of old)) (rest_of old) (drop n (rest_of old)) old.items old.on refl
+    given_is items_is on_is rest_is
+    (passed-many w bytes (at old.items old.on) (rest_of old) n n_is)
 
-pub one-whole : (w : Wanted) (bytes : List ℕ) (old new : Now) (e : Event) → IsOut old → IsOut new →
+pub one-whole : (w : Wanted) (bytes : List ℕ) (old new : Now) (e : Event) →
     is_passed w e ≡ true → IsFirst e (rest_of old) → given_of new ≡ given_of old ++ e ∷ [] →
     new.items ≡ old.items → new.on ≡ old.on → rest_of new ≡ drop 1 (rest_of old) →
     whole_of w bytes new ≡ whole_of w bytes old
-one-whole w bytes old new e out out_new passes first given_is items_is on_is rest_is =
+one-whole w bytes old new e passes first given_is items_is on_is rest_is =
     let es : List Event = drop 1 (rest_of old) in
-    step-whole w bytes old new (e ∷ []) (e ∷ es) es old.items old.on out out_new first given_is items_is on_is rest_is
-    (passed-one w bytes (at old.items Outside old.on) e es refl passes)
+    step-whole w bytes old new (e ∷ []) (e ∷ es) es old.items old.on first given_is items_is on_is rest_is
+    (passed-one w bytes (at old.items old.on) e es passes)
 
 -- The pass has come so far.
 pub record HasPassed (w : Wanted) (bytes : List ℕ) (events : List Event) (now : Now) : Type 0 where
   pub whole : whole_of w bytes now ≡ in_order w bytes events
   pub stay : MayStay w (rest_of now)
-  pub out : IsOut now
 
-left-none : (w : Wanted) (bytes : List ℕ) (p : ListPlace) (o : Bool) → left_in w bytes (at p Outside o) [] ≡ []
+left-none : (w : Wanted) (bytes : List ℕ) (p : ListPlace) (o : Bool) → left_in w bytes (at p o) [] ≡ []
 left-none w bytes p o =
-    ap (λ (l : List Event). set_if w.tables tabled (set_if w.setext (turned_from o) (set_if w.atx (resolved Outside) l)))
+    ap (λ (l : List Event). set_if w.tables tabled (set_if w.setext (turned_from o) (set_if w.atx headings_resolved l)))
     (items-none w.items bytes p)
     ∙ ap (λ (l : List Event). set_if w.tables tabled (set_if w.setext (turned_from o) l)) (heads-none w.atx)
     ∙ ap (set_if w.tables tabled) (turns-none w.setext o) ∙ tables-none w.tables
@@ -208,8 +196,6 @@ left-none w bytes p o =
 pub passed-done : (w : Wanted) (bytes : List ℕ) (events : List Event) (now : Now) → HasPassed w bytes events now →
     rest_of now ≡ [] → written_of now.all ++ held_of now.all ≡ in_order w bytes events
 passed-done w bytes events now h none =
-    sym (out-given now h.out) ∙ sym (append-nil (given_of now))
+    sym (append-nil (given_of now))
     ∙ ap (λ (l : List Event). given_of now ++ l) (sym (left-none w bytes now.items now.on))
-    ∙ whole-of w bytes (given_of now) (given_of now) now.items now.items Outside (head_of now) now.on now.on []
-    (rest_of now) refl refl (sym (head-out now h.out)) refl (sym none)
-    ∙ h.whole
+    ∙ ap (λ (l : List Event). given_of now ++ left_in w bytes (at now.items now.on) l) (sym none) ∙ h.whole

@@ -1,3 +1,2 @@
-pub mod Counted
-pub mod HeadingWalk
 pub mod PassWalk
+pub mod Texted

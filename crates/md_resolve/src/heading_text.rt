@@ -1,16 +1,23 @@
-// The text of an ATX heading.
+// The text of an ATX heading: one part in the place of all events from the first run behind the opening sequence to the
+// last that is no closing sequence.
+//
+// A heading is set whole. One walk finds its end, one the end of its opening sequence, one the begin of its text, and
+// one the end of that.
 
-ghost use Rattle.std.specs.Prelude.{◌≡◌, ◌++◌, ◌≤◌, OnOk, drop, length};
-ghost use Rattle.md_resolve.specs.Counted.{counted};
-ghost use Rattle.md_seam.specs.Rewritten.{IsFirst, held_of, left_of, written_of};
-ghost use Rattle.md_leaves.specs.HeadingText.{begins, ends, is_heading, is_run};
-ghost use Rattle.md_leaves.specs.HeadingText.{is_sequence, text_between};
-ghost use Rattle.md_order.specs.Quiet.{MayHoldQuiet};
+ghost use Rattle.std.specs.Prelude.{◌≡◌, ◌++◌, ◌≤◌, None, OnOk, Some, [], drop, length, not, take, true};
+ghost use Rattle.std.specs.List.{All, prefix_len};
+ghost use Rattle.md_engine.specs.declared.event.Event.{Event};
+ghost use Rattle.md_resolve.specs.Texted.{IsInside, begun, texted};
+ghost use Rattle.md_seam.specs.Rewritten.{IsFirst, given_of, held_of, left_of, written_of};
+ghost use Rattle.md_leaves.specs.HeadingText.{Before, Within, begins, ends, headings_resolved, is_heading, is_run};
+ghost use Rattle.md_leaves.specs.HeadingText.{is_sequence, resolved, text_between};
+ghost use Rattle.md_order.specs.Left.{heading_len};
 ghost use Rattle.md_seam.specs.Events.Tiles.{is_data};
 
 use md_engine::event::{Content, Event, Kind, Link, Name, Point};
 use md_engine::message::Message;
 use md_seam::rewriting::Rewriting;
+use md_seam::walks::{Test, passing};
 
 /// The link of a text that is read later.
 const TEXT_LINK: Link = Link {
@@ -20,27 +27,15 @@ const TEXT_LINK: Link = Link {
 };
 
 /// Whether a heading begins here.
+#[inline(always)]
 pub(crate) fn begins_heading(event: &Event) -> bool
     ensures { result ≡ begins is_heading event.now }
 {
     matches!(event.kind, Kind::Enter) && matches!(event.name, Name::HeadingAtx)
 }
 
-/// Whether a heading ends here.
-fn ends_heading(event: &Event) -> bool
-    ensures { result ≡ ends is_heading event.now }
-{
-    matches!(event.kind, Kind::Exit) && matches!(event.name, Name::HeadingAtx)
-}
-
-/// Whether a run of `#` or of text begins here.
-fn begins_run(event: &Event) -> bool
-    ensures { result ≡ begins is_run event.now }
-{
-    matches!(event.kind, Kind::Enter) && matches!(event.name, Name::Data | Name::HeadingAtxSequence)
-}
-
 /// Whether a run of `#` ends here.
+#[inline(always)]
 fn ends_sequence(event: &Event) -> bool
     ensures { result ≡ ends is_sequence event.now }
 {
@@ -48,28 +43,87 @@ fn ends_sequence(event: &Event) -> bool
 }
 
 /// Whether a run of text ends here.
+#[inline(always)]
 fn ends_data(event: &Event) -> bool
     ensures { result ≡ ends is_data event.now }
 {
     matches!(event.kind, Kind::Exit) && matches!(event.name, Name::Data)
 }
 
-/// How many of the events that are left in a heading, from its first further run on, may be held at once: those in
-/// front of the last end of text before the next end of a run of `#` or of the heading, or all in front of that one
-/// where no text ends before it.
-pub(crate) fn until_end(events: &[Event]) -> usize
-    ensures holds { MayHoldQuiet result events.now }
+/// Whether no heading ends at an event.
+struct EndsNoHeading;
+
+impl Test for EndsNoHeading {
+    ghost passes = { λ test e. not (ends is_heading e) };
+
+    #[inline(always)]
+    fn passes(&self, event: &Event) -> bool {
+        !(matches!(event.name, Name::HeadingAtx) && matches!(event.kind, Kind::Exit))
+    }
+}
+
+/// Whether no run of `#` ends at an event.
+struct EndsNoSequence;
+
+impl Test for EndsNoSequence {
+    ghost passes = { λ test e. not (ends is_sequence e) };
+
+    #[inline(always)]
+    fn passes(&self, event: &Event) -> bool {
+        !ends_sequence(event)
+    }
+}
+
+/// Whether no run of `#` or of text begins at an event.
+struct BeginsNoRun;
+
+impl Test for BeginsNoRun {
+    ghost passes = { λ test e. not (begins is_run e) };
+
+    #[inline(always)]
+    fn passes(&self, event: &Event) -> bool {
+        !(matches!(event.kind, Kind::Enter)
+            && matches!(event.name, Name::Data | Name::HeadingAtxSequence))
+    }
+}
+
+/// How many of the events come before the first end of a heading.
+fn until_end(events: &[Event]) -> usize
+    ensures value { result ≡ heading_len events.now }
     ensures within { result ≤ length events.now }
 {
-    let mut text = None;
+    passing(&EndsNoHeading, events)
+}
+
+/// How many events of a heading come before the first run behind its opening sequence.
+fn until_text(events: &[Event]) -> usize
+    requires inside { All IsInside events.now }
+    ensures set { resolved Before events.now ≡ take result events.now ++ begun (drop result events.now) }
+    ensures within { result ≤ length events.now }
+{
+    let opening = passing(&EndsNoSequence, events);
+    opening + passing(&BeginsNoRun, &events[opening..])
+}
+
+/// How many events, from the first run behind the opening sequence on, are of the text: those up to the end of the last
+/// run, or of the one before if the last is of `#`.
+fn text_len(events: &[Event]) -> usize
+    requires inside { All IsInside events.now }
+    ensures set { (first : Point) → resolved (Within first None None [] []) events.now ≡ texted first result events.now }
+    ensures within { result ≤ length events.now }
+{
+    let mut text = 0;
+    let mut last = 0;
     for (at, event) in events.iter().enumerate() {
         if ends_data(event) {
-            text = Some(at);
-        } else if ends_sequence(event) || ends_heading(event) {
-            return text.unwrap_or(at);
+            text = at + 1;
+            last = at + 1;
+        } else if ends_sequence(event) {
+            text = last;
+            last = at + 1;
         }
     }
-    text.unwrap_or(events.len())
+    text
 }
 
 /// An event without a link.
@@ -84,15 +138,13 @@ fn plain(kind: Kind, name: Name, point: Point) -> Event
     }
 }
 
-/// Writes the text between two points, as one part that is read later; nothing if it has no end.
-fn push_text(events: &mut Rewriting, first: Point, after: Option<Point>) -> Result<(), Message>
+/// Writes the text between two points, as one part that is read later.
+fn push_text(events: &mut Rewriting, first: Point, after: Point) -> Result<(), Message>
     ensures left { OnOk result (left_of events.new ≡ left_of events.old) }
     ensures held { held_of events.new ≡ held_of events.old }
-    ensures written { OnOk result (written_of events.new ≡ written_of events.old ++ text_between first after) }
+    ensures written { OnOk result
+        (written_of events.new ≡ written_of events.old ++ text_between first (Some after)) }
 {
-    let Some(after) = after else {
-        return Ok(());
-    };
     let data = Event {
         kind: Kind::Enter,
         name: Name::Data,
@@ -105,180 +157,29 @@ fn push_text(events: &mut Rewriting, first: Point, after: Option<Point>) -> Resu
     events.push(plain(Kind::Exit, Name::HeadingAtxText, after))
 }
 
-/// The state of a walk over the events.
-#[derive(Clone, Copy)]
-pub enum Stage {
-    Outside,
-    /// In a heading, before the end of its opening sequence.
-    Before,
-    /// Behind it, before a further run.
-    Opened,
-    /// Behind the begin of a further run.
-    Within,
-}
-
-/// The text of a heading, as far as it is known.
-#[derive(Clone, Copy)]
-pub struct Text {
-    /// Where the first run begins.
-    first: Point,
-    /// Where the text ends, if there is some: behind the last run, or behind the one before if the last is of `#`.
-    after: Option<Point>,
-    /// Where the last run has ended.
-    last: Option<Point>,
-    /// How many of the events that are held lie between that text and the end of the last run: a run of `#`, which
-    /// may close the heading.
-    closing: usize,
-}
-
-impl Text {
-    /// A text without a run.
-    pub(crate) const NONE: Text = Text {
-        first: Point {
-            line: 0,
-            column: 0,
-            index: 0,
-            vs: 0,
-        },
-        after: None,
-        last: None,
-        closing: 0,
-    };
-}
-
-/// A walk over the events.
-#[derive(Drop)]
-pub struct Walk {
-    /// What is given for the events so far, those that are held behind it, and those that are left. Outside of texts,
-    /// what is held is given as it is.
-    pub(crate) all: Rewriting,
-    pub(crate) stage: Stage,
-    /// The text that is open, within a heading from its first further run on.
-    pub(crate) text: Text,
-    ghost within: { counted stage text.closing ≤ length (held_of all) },
-}
-
-impl Walk {
-    ghost use Rattle.md_order.specs.HeadingSteps.{finished, stepped};
-    ghost use Rattle.md_resolve.specs.HeadingWalk.{walk_of};
-
-    /// Takes an event outside of headings.
-    fn step_outside(&mut self, event: Event)
-        requires stage { self.old.stage ≡ Stage.Outside }
-        requires first { IsFirst event (left_of self.old.all) }
-        ensures left { left_of self.new.all ≡ drop 1 (left_of self.old.all) }
-        ensures walked { walk_of self.new ≡ stepped (walk_of self.old) event }
-    {
-        if begins_heading(&event) {
-            self.stage = Stage::Before;
-        }
-        self.all.hold(event);
+/// Sets the text of the heading that begins with the event that is left first, up to its end.
+pub(crate) fn set(all: &mut Rewriting, _event: Event) -> Result<(), Message>
+    requires first { IsFirst _event (left_of all.old) }
+    requires begins { begins is_heading _event ≡ true }
+    ensures given { OnOk result
+        (given_of all.new ≡
+        given_of all.old ++ headings_resolved (take (heading_len (left_of all.old)) (left_of all.old))) }
+    ensures left { OnOk result (left_of all.new ≡ drop (heading_len (left_of all.old)) (left_of all.old)) }
+{
+    let left = all.left();
+    let many = until_end(left);
+    let events = &left[..many];
+    let front = until_text(events);
+    let text = text_len(&events[front..]);
+    if text == 0 {
+        all.hold_many(many);
+        return Ok(());
     }
-
-    /// Takes an event of a heading up to the end of its opening sequence.
-    fn step_before(&mut self, event: Event)
-        requires stage { self.old.stage ≡ Stage.Before }
-        requires first { IsFirst event (left_of self.old.all) }
-        ensures left { left_of self.new.all ≡ drop 1 (left_of self.old.all) }
-        ensures walked { walk_of self.new ≡ stepped (walk_of self.old) event }
-    {
-        if ends_sequence(&event) {
-            self.stage = Stage::Opened;
-        } else if ends_heading(&event) {
-            self.stage = Stage::Outside;
-        }
-        self.all.hold(event);
-    }
-
-    /// Takes an event of a heading between its opening sequence and a further run.
-    fn step_opened(&mut self, event: Event)
-        requires stage { self.old.stage ≡ Stage.Opened }
-        requires first { IsFirst event (left_of self.old.all) }
-        ensures left { left_of self.new.all ≡ drop 1 (left_of self.old.all) }
-        ensures walked { walk_of self.new ≡ stepped (walk_of self.old) event }
-    {
-        if begins_run(&event) {
-            self.stage = Stage::Within;
-            self.text = Text {
-                first: event.point,
-                after: None,
-                last: None,
-                closing: 0,
-            };
-            self.all.give();
-        } else if ends_heading(&event) {
-            self.stage = Stage::Outside;
-        }
-        self.all.hold(event);
-    }
-
-    /// Takes an event of a heading from its first further run on.
-    fn step_within(&mut self, event: Event) -> Result<(), Message>
-        requires stage { self.old.stage ≡ Stage.Within }
-        requires first { IsFirst event (left_of self.old.all) }
-        ensures left { OnOk result (left_of self.new.all ≡ drop 1 (left_of self.old.all)) }
-        ensures walked { OnOk result (walk_of self.new ≡ stepped (walk_of self.old) event) }
-    {
-        if matches!(event.kind, Kind::Enter) {
-            self.all.hold(event);
-            return Ok(());
-        }
-        self.all.hold(event);
-        if ends_data(&event) {
-            self.text.after = Some(event.point);
-            self.text.last = Some(event.point);
-            self.text.closing = 0;
-            self.all.leave_out(self.all.held());
-        } else if ends_sequence(&event) {
-            let closing = self.text.closing;
-            self.text.after = self.text.last;
-            self.text.last = Some(event.point);
-            self.text.closing = 0;
-            self.all.leave_out(closing);
-            self.text.closing = self.all.held();
-        } else if ends_heading(&event) {
-            push_text(&mut self.all, self.text.first, self.text.after)?;
-            self.stage = Stage::Outside;
-        }
-        Ok(())
-    }
-
-    /// Takes the event that is left first.
-    pub(crate) fn step(&mut self, event: Event) -> Result<(), Message>
-        requires { IsFirst event (left_of self.old.all) }
-        ensures left { OnOk result (left_of self.new.all ≡ drop 1 (left_of self.old.all)) }
-        ensures walked { OnOk result (walk_of self.new ≡ stepped (walk_of self.old) event) }
-    {
-        match self.stage {
-            Stage::Outside => {
-                self.step_outside(event);
-                Ok(())
-            }
-            Stage::Before => {
-                self.step_before(event);
-                Ok(())
-            }
-            Stage::Opened => {
-                self.step_opened(event);
-                Ok(())
-            }
-            Stage::Within => self.step_within(event),
-        }
-    }
-
-    /// Ends the heading that is open, if one is.
-    pub(crate) fn close(&mut self) -> Result<(), Message>
-        ensures left { OnOk result (left_of self.new.all ≡ left_of self.old.all) }
-        ensures given { OnOk result ((walk_of self.new).given ≡ finished (walk_of self.old)) }
-        ensures outside { OnOk result (self.new.stage ≡ Stage.Outside) }
-    {
-        if let Stage::Within = self.stage {
-            let Text { first, after, .. } = self.text;
-            self.text = Text::NONE;
-            push_text(&mut self.all, first, after)?;
-            self.all.give();
-        }
-        self.stage = Stage::Outside;
-        Ok(())
-    }
+    let first = events[front].point;
+    let after = events[front + text - 1].point;
+    all.hold_many(front);
+    all.skip(text);
+    push_text(all, first, after)?;
+    all.hold_many(many - front - text);
+    Ok(())
 }

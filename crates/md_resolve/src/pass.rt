@@ -5,7 +5,7 @@
 // set from their begin to their end, and nothing else is set there.
 //
 // It looks ahead from the begin of an item to its marker, from the end of one to the next block, from the begin of a
-// paragraph to the underline behind it, and within the text of an ATX heading to what may close that; so no event is
+// paragraph to the underline behind it, and from the begin of an ATX heading to its end; so no event is
 // looked at more than three times, and the walk is linear.
 
 ghost use Rattle.std.specs.Prelude.{◌≡◌, ◌≤◌, ◌<◌, ◌&&◌, ◌++◌, IfOk, None, OnOk, List, ℕ, [], drop, length, not, take, false, true};
@@ -29,7 +29,7 @@ ghost use Rattle.md_resolve.specs.PassWalk.{given_of, items_of, rest_of, whole_o
 ghost use Rattle.md_seam.specs.Rewritten.{IsFirst};
 
 use crate::heading_text;
-use crate::heading_text::{Stage, Text, begins_heading};
+use crate::heading_text::begins_heading;
 use crate::items::{goes_on, is_item, list_event, marker_ahead, next_item};
 use crate::underlines::{self, enter, exit, is_turned};
 use md_engine::event::{Event, Kind, Name};
@@ -142,8 +142,8 @@ pub struct Items {
 /// A walk over the events.
 #[derive(Drop)]
 pub struct Walk {
-    /// The events, and the state within an ATX heading.
-    heads: heading_text::Walk,
+    /// What is given for the events so far, and those that are left. What is held is given as it is.
+    all: Rewriting,
     items: Items,
     /// Whether a setext heading is open here.
     on: bool,
@@ -158,14 +158,9 @@ impl Walk {
         ensures items { items_of result ≡ outside }
         ensures on { result.on ≡ false }
         ensures rest { rest_of result ≡ events.items }
-        ensures outside { result.heads.stage ≡ Stage.Outside }
     {
         Walk {
-            heads: heading_text::Walk {
-                all: Rewriting::new(events),
-                stage: Stage::Outside,
-                text: Text::NONE,
-            },
+            all: Rewriting::new(events),
             items: Items {
                 within: false,
                 markers: Vec::new(alloc),
@@ -177,35 +172,29 @@ impl Walk {
 
     /// Holds the events that pass as they are.
     fn pass(&mut self, wanted: Wanted, bytes: &[u8])
-        requires outside { self.old.heads.stage ≡ Stage.Outside }
         requires stay { MayStay wanted (rest_of self.old) }
         ensures whole { whole_of wanted bytes.now self.new ≡ whole_of wanted bytes.now self.old }
         ensures stay { MayStay wanted (rest_of self.new) }
-        ensures outside { self.new.heads.stage ≡ Stage.Outside }
         ensures fewer { length (rest_of self.new) ≤ length (rest_of self.old) }
     {
-        let many = until_set(wanted, self.heads.all.left());
-        self.heads.all.hold_many(many);
+        let many = until_set(wanted, self.all.left());
+        self.all.hold_many(many);
     }
 
     /// Puts the begin of a list in front of an item, if this is its first.
     fn begin_item(&mut self, marker: u8, event: Event) -> Result<(), Message>
-        requires outside { self.old.heads.stage ≡ Stage.Outside }
         requires first { IsFirst event (rest_of self.old) }
         ensures given { OnOk result
             (given_of self.new ≡ given_of self.old ++ given_by Begins (items_of self.old) marker None event) }
         ensures items { OnOk result (items_of self.new ≡ place_by Begins (items_of self.old) marker None) }
         ensures rest { OnOk result (rest_of self.new ≡ drop 1 (rest_of self.old)) }
         ensures on { OnOk result (self.new.on ≡ self.old.on) }
-        ensures outside { OnOk result (self.new.heads.stage ≡ Stage.Outside) }
     {
         if !self.items.within {
-            self.heads.all.give();
-            self.heads
-                .all
-                .push(list_event(Kind::Enter, marker, event.point))?;
+            self.all.give();
+            self.all.push(list_event(Kind::Enter, marker, event.point))?;
         }
-        self.heads.all.hold(event);
+        self.all.hold(event);
         self.items.within = false;
         if self.items.markers.push(marker).is_err() {
             return Err(Message);
@@ -215,16 +204,14 @@ impl Walk {
 
     /// Puts the end of a list behind an item, if this is its last.
     fn end_item(&mut self, next: Option<u8>, event: Event) -> Result<(), Message>
-        requires outside { self.old.heads.stage ≡ Stage.Outside }
         requires first { IsFirst event (rest_of self.old) }
         ensures given { OnOk result
             (given_of self.new ≡ given_of self.old ++ given_by Ends (items_of self.old) 0 next event) }
         ensures items { OnOk result (items_of self.new ≡ place_by Ends (items_of self.old) 0 next) }
         ensures rest { OnOk result (rest_of self.new ≡ drop 1 (rest_of self.old)) }
         ensures on { OnOk result (self.new.on ≡ self.old.on) }
-        ensures outside { OnOk result (self.new.heads.stage ≡ Stage.Outside) }
     {
-        self.heads.all.hold(event);
+        self.all.hold(event);
         let Some(marker) = self.items.markers.pop() else {
             return Ok(());
         };
@@ -232,15 +219,12 @@ impl Walk {
         if self.items.within {
             return Ok(());
         }
-        self.heads.all.give();
-        self.heads
-            .all
-            .push(list_event(Kind::Exit, marker, event.point))
+        self.all.give();
+        self.all.push(list_event(Kind::Exit, marker, event.point))
     }
 
     /// Sets lists at the begin or the end of an item.
     fn item(&mut self, bytes: &[u8], event: Event) -> Result<(), Message>
-        requires outside { self.old.heads.stage ≡ Stage.Outside }
         requires first { IsFirst event (rest_of self.old) }
         requires item { is_item (role event.name) ≡ true }
         ensures given { OnOk result
@@ -250,47 +234,18 @@ impl Walk {
             (items_of self.new ≡ place_after bytes.now (items_of self.old) event (drop 1 (rest_of self.old))) }
         ensures rest { OnOk result (rest_of self.new ≡ drop 1 (rest_of self.old)) }
         ensures on { OnOk result (self.new.on ≡ self.old.on) }
-        ensures outside { OnOk result (self.new.heads.stage ≡ Stage.Outside) }
     {
         if matches!(event.kind, Kind::Enter) {
-            let marker = marker_ahead(bytes, &self.heads.all.left()[1..]);
+            let marker = marker_ahead(bytes, &self.all.left()[1..]);
             self.begin_item(marker, event)
         } else {
-            let next = next_item(bytes, &self.heads.all.left()[1..]);
+            let next = next_item(bytes, &self.all.left()[1..]);
             self.end_item(next, event)
         }
     }
 
-    /// Sets the text of the ATX heading that begins here.
-    fn heading(&mut self, wanted: Wanted, bytes: &[u8], event: Event) -> Result<(), Message>
-        requires atx { wanted.atx ≡ true }
-        requires outside { self.old.heads.stage ≡ Stage.Outside }
-        requires stay { MayStay wanted (rest_of self.old) }
-        requires first { IsFirst event (rest_of self.old) }
-        requires begins { begins is_heading event ≡ true }
-        ensures whole { OnOk result (whole_of wanted bytes.now self.new ≡ whole_of wanted bytes.now self.old) }
-        ensures stay { OnOk result (MayStay wanted (rest_of self.new)) }
-        ensures outside { OnOk result (self.new.heads.stage ≡ Stage.Outside) }
-        ensures fewer { OnOk result (length (rest_of self.new) < length (rest_of self.old)) }
-    {
-        self.heads.step(event)?;
-        while let Some(next) = self.heads.all.first() {
-            if let Stage::Outside = self.heads.stage {
-                return Ok(());
-            }
-            self.heads.step(next)?;
-            if let Stage::Within = self.heads.stage {
-                let many = heading_text::until_end(self.heads.all.left());
-                self.heads.all.hold_many(many);
-            }
-        }
-        self.heads.close()?;
-        Ok(())
-    }
-
     /// Begins a heading in the place of a paragraph, if an underline follows that.
     fn begin_text(&mut self, begins: bool, event: Event) -> Result<(), Message>
-        requires outside { self.old.heads.stage ≡ Stage.Outside }
         requires first { IsFirst event (rest_of self.old) }
         ensures given { OnOk result
             (given_of self.new ≡
@@ -298,70 +253,58 @@ impl Walk {
         ensures on { OnOk result (self.new.on ≡ on_by setext.BeginsText self.old.on begins) }
         ensures items { OnOk result (items_of self.new ≡ items_of self.old) }
         ensures rest { OnOk result (rest_of self.new ≡ drop 1 (rest_of self.old)) }
-        ensures outside { OnOk result (self.new.heads.stage ≡ Stage.Outside) }
     {
         self.on = begins;
         if !begins {
-            self.heads.all.hold(event);
+            self.all.hold(event);
             return Ok(());
         }
-        self.heads.all.give();
-        self.heads.all.hold(event);
-        self.heads.all.leave_out(1);
-        self.heads
-            .all
-            .push(enter(Name::HeadingSetext, event.point))?;
-        self.heads
-            .all
-            .push(enter(Name::HeadingSetextText, event.point))
+        self.all.give();
+        self.all.hold(event);
+        self.all.leave_out(1);
+        self.all.push(enter(Name::HeadingSetext, event.point))?;
+        self.all.push(enter(Name::HeadingSetextText, event.point))
     }
 
     /// Ends the text of a heading in the place of a paragraph, if one is open.
     fn end_text(&mut self, event: Event) -> Result<(), Message>
-        requires outside { self.old.heads.stage ≡ Stage.Outside }
         requires first { IsFirst event (rest_of self.old) }
         ensures given { OnOk result
             (given_of self.new ≡ given_of self.old ++ setext.given_by setext.EndsText self.old.on false event) }
         ensures on { OnOk result (self.new.on ≡ on_by setext.EndsText self.old.on false) }
         ensures items { OnOk result (items_of self.new ≡ items_of self.old) }
         ensures rest { OnOk result (rest_of self.new ≡ drop 1 (rest_of self.old)) }
-        ensures outside { OnOk result (self.new.heads.stage ≡ Stage.Outside) }
     {
         if !self.on {
-            self.heads.all.hold(event);
+            self.all.hold(event);
             return Ok(());
         }
-        self.heads.all.give();
-        self.heads.all.hold(event);
-        self.heads.all.leave_out(1);
-        self.heads
-            .all
-            .push(exit(Name::HeadingSetextText, event.point))
+        self.all.give();
+        self.all.hold(event);
+        self.all.leave_out(1);
+        self.all.push(exit(Name::HeadingSetextText, event.point))
     }
 
     /// Ends a heading behind its underline, if one is open.
     fn end_underline(&mut self, event: Event) -> Result<(), Message>
-        requires outside { self.old.heads.stage ≡ Stage.Outside }
         requires first { IsFirst event (rest_of self.old) }
         ensures given { OnOk result
             (given_of self.new ≡ given_of self.old ++ setext.given_by setext.EndsUnderline self.old.on false event) }
         ensures on { OnOk result (self.new.on ≡ on_by setext.EndsUnderline self.old.on false) }
         ensures items { OnOk result (items_of self.new ≡ items_of self.old) }
         ensures rest { OnOk result (rest_of self.new ≡ drop 1 (rest_of self.old)) }
-        ensures outside { OnOk result (self.new.heads.stage ≡ Stage.Outside) }
     {
-        self.heads.all.hold(event);
+        self.all.hold(event);
         if !self.on {
             return Ok(());
         }
         self.on = false;
-        self.heads.all.give();
-        self.heads.all.push(exit(Name::HeadingSetext, event.point))
+        self.all.give();
+        self.all.push(exit(Name::HeadingSetext, event.point))
     }
 
     /// Sets a setext heading at an event of its text or its underline.
     fn text(&mut self, event: Event) -> Result<(), Message>
-        requires outside { self.old.heads.stage ≡ Stage.Outside }
         requires first { IsFirst event (rest_of self.old) }
         ensures given { OnOk result
             (given_of self.new ≡
@@ -371,17 +314,16 @@ impl Walk {
             (self.new.on ≡ on_by (turn event) self.old.on (is_turned (drop 1 (rest_of self.old)))) }
         ensures items { OnOk result (items_of self.new ≡ items_of self.old) }
         ensures rest { OnOk result (rest_of self.new ≡ drop 1 (rest_of self.old)) }
-        ensures outside { OnOk result (self.new.heads.stage ≡ Stage.Outside) }
     {
         match (event.kind, event.name) {
             (Kind::Enter, Name::Paragraph) => {
-                let begins = is_turned(&self.heads.all.left()[1..]);
+                let begins = is_turned(&self.all.left()[1..]);
                 self.begin_text(begins, event)
             }
             (Kind::Exit, Name::Paragraph) => self.end_text(event),
             (Kind::Exit, Name::HeadingSetextUnderline) => self.end_underline(event),
             _ => {
-                self.heads.all.hold(event);
+                self.all.hold(event);
                 Ok(())
             }
         }
@@ -389,18 +331,16 @@ impl Walk {
 
     /// Gives the table that begins here its head, body and cells.
     fn table(&mut self, alloc: Global) -> Result<(), Message>
-        requires outside { self.old.heads.stage ≡ Stage.Outside }
         requires some { 0 < length (rest_of self.old) }
         ensures given { OnOk result
             (given_of self.new ≡ given_of self.old ++ tabled (take (table_len (rest_of self.old)) (rest_of self.old))) }
         ensures rest { OnOk result (rest_of self.new ≡ drop (table_len (rest_of self.old)) (rest_of self.old)) }
         ensures on { OnOk result (self.new.on ≡ self.old.on) }
         ensures items { OnOk result (items_of self.new ≡ items_of self.old) }
-        ensures outside { OnOk result (self.new.heads.stage ≡ Stage.Outside) }
     {
         self.cells.clear();
         let list = mem::replace(&mut self.cells, Vec::new(alloc));
-        let all = &mut self.heads.all;
+        let all = &mut self.all;
         all.give();
         let left = all.left();
         let end = until_end(left);
@@ -421,12 +361,10 @@ impl Walk {
         bytes: &[u8],
         event: Event,
     ) -> Result<(), Message>
-        requires outside { self.old.heads.stage ≡ Stage.Outside }
         requires stay { MayStay wanted (rest_of self.old) }
         requires first { IsFirst event (rest_of self.old) }
         ensures whole { OnOk result (whole_of wanted bytes.now self.new ≡ whole_of wanted bytes.now self.old) }
         ensures stay { OnOk result (MayStay wanted (rest_of self.new)) }
-        ensures outside { OnOk result (self.new.heads.stage ≡ Stage.Outside) }
         ensures fewer { OnOk result (length (rest_of self.new) < length (rest_of self.old)) }
     {
         if wanted.items && is_item(event.name) {
@@ -434,7 +372,8 @@ impl Walk {
             return Ok(());
         }
         if wanted.atx && begins_heading(&event) {
-            return self.heading(wanted, bytes, event);
+            heading_text::set(&mut self.all, event)?;
+            return Ok(());
         }
         if wanted.setext && !underlines::passes(&event) {
             self.text(event)?;
@@ -444,7 +383,7 @@ impl Walk {
             self.table(alloc)?;
             return Ok(());
         }
-        self.heads.all.hold(event);
+        self.all.hold(event);
         Ok(())
     }
 }
@@ -463,13 +402,13 @@ pub fn set_all(
 {
     let mut walk = Walk::new(alloc, events);
     walk.pass(wanted, bytes);
-    while let Some(event) = walk.heads.all.first() {
+    while let Some(event) = walk.all.first() {
         walk.step(alloc, wanted, bytes, event)?;
         walk.pass(wanted, bytes);
     }
-    walk.heads.all.give();
-    let Walk { heads, .. } = walk;
-    Ok(heads.all.finish())
+    walk.all.give();
+    let Walk { all, .. } = walk;
+    Ok(all.finish())
 }
 
 /// Whether an event stays where all do: no item, heading, underline or table that is to be set begins there.

@@ -9,9 +9,9 @@ pub returns-clause-whole : goal.returns-clause-whole
 returns-clause-whole c =
     let old : Now = now_of c.args.self.now in
     let new : Now = record old { all = c.hold_many.new.self } in
-    passed-whole c.args.wanted c.args.bytes.now old new c.until_set-many.result c.requires.outside c.requires.outside
+    passed-whole c.args.wanted c.args.bytes.now old new c.until_set-many.result
     (c.until_set-many.ensures.value ∙ ap (prefix_len (is_passed c.args.wanted)) c.left.ensures)
-    (held-given old new _ c.requires.outside c.requires.outside c.hold_many.ensures.written c.hold_many.ensures.held) refl
+    (held-given old new _ c.hold_many.ensures.written c.hold_many.ensures.held) refl
     refl c.hold_many.ensures.left
 
 pub returns-clause-stay : goal.returns-clause-stay

@@ -1,10 +1,12 @@
-use Rattle.std.proofs.Common.{◌≡◌, Bool, false, true, not, refl, sym, subst, ap, ◌∙◌, ◌&&◌, ◌∷◌, []}
+use Rattle.std.proofs.Common.{◌≡◌, ◌<◌, length, List, Bool, false, true, not, refl, sym, subst, ap, ◌∙◌, ◌&&◌, ◌∷◌, []}
 use Rattle.md_containers.specs.Listed.{is_item}
-use Rattle.md_order.specs.Left.{MayStay, is_passed, table_len}
+use Rattle.md_engine.specs.declared.event.Event.{Event}
+use Rattle.md_order.specs.Left.{MayStay, heading_len, is_passed, table_len}
 use Rattle.md_order.proofs.Stay.{stay-drop}
 use Rattle.md_tables.specs.Tabled.{begins_table}
 use Rattle.md_resolve.proofs.Unset.{off, passed-by}
 use Rattle.md_resolve.proofs.PassLaws.{Now, held-given, item-whole, now_of, one-whole, rest_of, table-whole, text-whole}
+use Rattle.md_resolve.proofs.PassLaws.{heading-fewer, heading-whole}
 use Rattle.md_resolve.proofs.pass.Walk.step.Goals as goal
 use Rattle.md_resolve.proofs.pass.Walk.step.Goals.{else-wanted-2-via-else-wanted-2, else-wanted-2-via-then-wanted-2+else-begins_heading}
 use Rattle.md_resolve.proofs.pass.Walk.step.Goals.{else-wanted-3-via-else-wanted-3, else-wanted-3-via-then-wanted-3+else-not-passes}
@@ -14,21 +16,40 @@ use Rattle.md_resolve.proofs.pass.Walk.step.Goals.{else-wanted-via-else-wanted, 
 pub returns-then-is_item-clause-whole : goal.returns-then-is_item-clause-whole
 returns-then-is_item-clause-whole c =
     item-whole c.args.wanted c.args.bytes.now (now_of c.args.self.now) (now_of c.item.new.self) c.args.event
-    c.if-wanted.true c.requires.outside c.in_ok-item.ensures.outside (sym c.is_item.ensures ∙ c.if-is_item.true)
+    c.if-wanted.true (sym c.is_item.ensures ∙ c.if-is_item.true)
     c.requires.first c.in_ok-item.ensures.given c.in_ok-item.ensures.items c.in_ok-item.ensures.on
     c.in_ok-item.ensures.rest
+
+pub returns-then-begins_heading-clause-whole : goal.returns-then-begins_heading-clause-whole
+returns-then-begins_heading-clause-whole c =
+    let old : Now = now_of c.args.self.now in
+    heading-whole c.args.wanted c.args.bytes.now old (record old { all = c.set.new.all }) c.args.event
+    c.if-wanted-2.true (sym c.begins_heading.ensures ∙ c.if-begins_heading.true) c.requires.stay c.requires.first
+    c.in_ok-set.ensures.given refl refl c.in_ok-set.ensures.left
+
+pub returns-then-begins_heading-clause-stay : goal.returns-then-begins_heading-clause-stay
+returns-then-begins_heading-clause-stay c =
+    let left = rest_of (now_of c.args.self.now) in
+    subst (MayStay c.args.wanted) (sym c.in_ok-set.ensures.left)
+    (stay-drop c.args.wanted left c.requires.stay (heading_len left))
+
+pub returns-then-begins_heading-clause-fewer : goal.returns-then-begins_heading-clause-fewer
+returns-then-begins_heading-clause-fewer c =
+    let left = rest_of (now_of c.args.self.now) in
+    subst (λ (l : List Event). length l < length left) (sym c.in_ok-set.ensures.left)
+    (heading-fewer c.args.event left c.requires.first (sym c.begins_heading.ensures ∙ c.if-begins_heading.true))
 
 pub returns-then-not-passes-clause-whole : goal.returns-then-not-passes-clause-whole
 returns-then-not-passes-clause-whole c =
     text-whole c.args.wanted c.args.bytes.now (now_of c.args.self.now) (now_of c.text.new.self) c.args.event
-    c.if-wanted-3.true c.requires.outside c.in_ok-text.ensures.outside (sym c.passes.ensures ∙ c.if-not-passes.true)
+    c.if-wanted-3.true (sym c.passes.ensures ∙ c.if-not-passes.true)
     c.requires.stay c.requires.first c.in_ok-text.ensures.given c.in_ok-text.ensures.items c.in_ok-text.ensures.on
     c.in_ok-text.ensures.rest
 
 pub returns-then-begins_table-clause-whole : goal.returns-then-begins_table-clause-whole
 returns-then-begins_table-clause-whole c =
     table-whole c.args.wanted c.args.bytes.now (now_of c.args.self.now) (now_of c.table.new.self) c.args.event
-    c.if-wanted-4.true c.requires.outside c.in_ok-table.ensures.outside
+    c.if-wanted-4.true
     (sym c.begins_table.ensures ∙ c.if-begins_table.true) c.requires.stay c.requires.first c.in_ok-table.ensures.given
     c.in_ok-table.ensures.items c.in_ok-table.ensures.on c.in_ok-table.ensures.rest
 
@@ -42,7 +63,7 @@ other : (x y : Bool) → y ≡ false → (x && y) ≡ false
 other true y h = h
 other false y h = refl
 
-is-passed : (c : goal.After-self-1) → is_passed c.args.wanted c.args.event ≡ true
+is-passed : (c : goal.After-hold) → is_passed c.args.wanted c.args.event ≡ true
 is-passed c =
     passed-by c.args.wanted c.args.event
     (elim c.else-wanted.branch [
@@ -69,9 +90,9 @@ pub returns-clause-whole : goal.returns-clause-whole
 returns-clause-whole c =
     let old : Now = now_of c.args.self.now in
     let new : Now = record old { all = c.hold.new.self } in
-    one-whole c.args.wanted c.args.bytes.now old new c.args.event c.requires.outside c.requires.outside (is-passed c)
+    one-whole c.args.wanted c.args.bytes.now old new c.args.event (is-passed c)
     c.requires.first
-    (held-given old new (c.args.event ∷ []) c.requires.outside c.requires.outside c.hold.ensures.written
+    (held-given old new (c.args.event ∷ []) c.hold.ensures.written
     c.hold.ensures.held) refl refl c.hold.ensures.left
 
 pub returns-clause-stay : goal.returns-clause-stay

@@ -6,7 +6,7 @@ use Rattle.md_engine.specs.declared.event.Event.{Event}
 use Rattle.md_order.specs.Left.{table_len}
 use Rattle.md_tables.specs.Tabled.{tabled}
 use Rattle.md_seam.specs.Rewritten.{held_of, left_of, written_of}
-use Rattle.md_resolve.proofs.PassLaws.{Now, now_of, out-given, rest_of, slice-many}
+use Rattle.md_resolve.proofs.PassLaws.{Now, now_of, rest_of, slice-many}
 use Rattle.md_resolve.proofs.pass.Walk.table.Goals as goal
 use Rattle.md_resolve.proofs.pass.Walk.table.Goals.{else-end-left, then-end-left}
 
@@ -43,10 +43,8 @@ returns-clause-given c =
     ∙ ap₂ (λ (a b : List Event). a ++ b)
     (c.leave_out.ensures.written ∙ c.hold_many.ensures.written ∙ c.give.ensures.written)
     (c.deref.ensures.value ∙ cells) in
-    out-given new c.requires.outside
-    ∙ ap₂ (λ (a b : List Event). a ++ b) written (none c)
+    ap₂ (λ (a b : List Event). a ++ b) written (none c)
     ∙ append-nil ((written_of old.all ++ held_of old.all) ++ tabled (take (table_len r) r))
-    ∙ ap (λ (l : List Event). l ++ tabled (take (table_len r) r)) (sym (out-given old c.requires.outside))
   where
     none : (c : goal.After-drop-self) → held_of c.push_all.new.self ≡ []
     none c =
