@@ -25,17 +25,22 @@ const NOTHING: Event = Event {
     link: None,
 };
 
+/// Growth is not expected to go on as in fewer events than this.
+const SAMPLE: usize = 64;
+
 /// How many events to make room for where `need` are to be written and `behind` others have to be moved, after `read` were
-/// read and `added` more than these were written: as many as the others take if they grow as those did, at most half of
-/// their number, and at least a sixteenth of it, so that in all the moves are linear in the events.
-fn room_for(need: usize, added: usize, read: usize, behind: usize) -> usize
+/// read. Room was made for `added` before, and now `lacking` more are needed.
+///
+/// It is as many as the others take if they grow as those did, at most a quarter of their number the first time and then
+/// half of it, and at least a sixteenth of it, so that in all the moves are linear in the events.
+fn room_for(need: usize, lacking: usize, added: usize, read: usize, behind: usize) -> usize
     ensures enough { need ≤ result }
     ensures some { 0 < result }
 {
-    let expected = behind.saturating_mul(added) / read.max(1);
-    need.max(expected.min(behind / 2))
-        .max(behind / 16)
-        .max(LEAST)
+    let grown = added.saturating_add(lacking);
+    let expected = behind.saturating_mul(grown) / read.max(SAMPLE);
+    let most = if added == 0 { behind / 4 } else { behind / 2 };
+    need.max(expected.min(most)).max(behind / 16).max(LEAST)
 }
 
 /// A list that is read from its front on, and written again in the places that were read. What was read is held before
@@ -148,7 +153,8 @@ impl Rewriting {
         let end = self.events.len();
         let added = end.saturating_sub(self.begun);
         let read = self.done.saturating_sub(added);
-        let many = room_for(need, added, read, end - self.done);
+        let lacking = need.saturating_sub(self.done - self.written);
+        let many = room_for(need, lacking, added, read, end - self.done);
         let Some(new_end) = end.checked_add(many) else {
             return Err(Message);
         };
