@@ -12,6 +12,7 @@ use Rattle.md_engine.specs.World.{Setting, World, looks}
 use Rattle.md_engine.proofs.Local.{fits}
 use Rattle.md_engine.specs.Sees.{Sees}
 use Rattle.md_engine.proofs.StepOf.{sees, steps-as}
+use Rattle.md_engine.proofs.Walks.{EachKeeps}
 use Rattle.md_content.specs.DefinitionsRule.{HasDefinitions}
 use Rattle.md_content.specs.ParagraphRule.{HasParagraph}
 use Rattle.md_content.specs.States.{ContentStep, content_behaves, content_owner, content_scheme, content_transition}
@@ -35,7 +36,7 @@ use Rattle.md_link_definitions.proofs.LabelMeaning.{label_means}
 use Rattle.md_link_definitions.proofs.TitleTermination.{TitleFits, title_terminates}
 use Rattle.md_link_definitions.proofs.TitleMeaning.{title_means}
 use Rattle.md_seam.specs.Ahead.{HasWhite}
-use Rattle.md_seam.proofs.SpacesTermination.{Does, WhiteFits, does-stands, white_terminates}
+use Rattle.md_seam.proofs.SpacesTermination.{Does, WhiteFits, does-fall, does-stands, white_terminates}
 use Rattle.md_seam.proofs.WhiteMeaning.{white_means}
 
 -- The table has each construct.
@@ -85,6 +86,14 @@ content_terminates (n.SpaceOrTab state) w c r = white_terminates content_scheme 
 content_terminates (n.SpaceOrTabEol state) w c r = gap_terminates content_scheme state w gap_fits c r
 content_terminates (n.Title state) w c r = title_terminates content_scheme state w title_fits c r
 content_terminates name w c r = absurd r
+
+-- each call keeps what the table needs
+pub content-keeps : EachKeeps ContentStep content_scheme
+content-keeps name w to new seen at step =
+    let does = content_terminates name w seen at in (
+      does-stands content_scheme name w (content_transition name w) to new step.to_is step.new_is does,
+      does-fall content_scheme name w (content_transition name w) to new step.to_is step.new_is does,
+    )
 
 -- What is left at each state is what the constructs say.
 
@@ -158,6 +167,4 @@ content_table_means under is_end feed name w to new f called step =
 
 -- and comes to where the table stands
 pub content_stands : StandsOn ContentStep content_scheme
-content_stands name w to new at step =
-    does-stands content_scheme name (reading w) (content_transition name (reading w)) to new step.to_is step.new_is
-    (content_terminates name (reading w) refl at)
+content_stands name w to new at step = (content-keeps name (reading w) to new refl at step).0

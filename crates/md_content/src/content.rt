@@ -229,7 +229,10 @@ impl Table for ContentTable {
     ghost resolves = { λ name old found new. (found ≡ None) × (new ≡ old) };
 
     fn call(tokenizer: &mut Tokenizer, name: StateName) -> State {
-        call_state(tokenizer, name)
+        match name {
+            StateName::SpaceOrTab(state) => space_or_tab::call_at_once(tokenizer, state),
+            _ => call_state(tokenizer, name),
+        }
     }
 
     fn takes_at_once(name: StateName) -> Option<Stay> {

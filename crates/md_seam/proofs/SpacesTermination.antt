@@ -68,7 +68,7 @@ seen-some x b e = go (nat_lt x.point.index x.setting.limit) refl
     go false k = let bad : (let o : Option ℕ = None in o) ≡ Some b = rw k at e in cc
 
 -- where whitespace stands here, something does
-white-here : (w : World) (b : Bool) → w.current ≡ looks w → sees_white w.current && b ≡ true →
+pub white-here : (w : World) (b : Bool) → w.current ≡ looks w → sees_white w.current && b ≡ true →
     w.point.index < w.setting.limit
 white-here w b c e = go w.current c e
   where

@@ -11,6 +11,7 @@ use Rattle.md_engine.specs.declared.state.State.TheVariants.{Ok, Nok, Next, Retr
 use Rattle.md_engine.specs.declared.tokenizer.Scratch.{Scratch}
 use Rattle.md_engine.specs.declared.tokenizer.TheConstants.Scratch.{REST}
 use Rattle.md_engine.specs.declared.configuration.ParseOptions.{ParseOptions}
+use Rattle.md_engine.specs.Run.{Step}
 use Rattle.md_engine.specs.World.{World}
 use Rattle.md_engine.specs.Scheme.{Position, After, Rank, Scheme, Ends, EndsLater, cells_before, ranked}
 use Rattle.md_meaning.specs.Rest.{is_white}
@@ -70,9 +71,13 @@ abbrev pub WhiteNeeds : StateName → World → Type 0
 WhiteNeeds (n.SpaceOrTab its.Inside) w = w.scratch.whitespace.size ≤ cells_before w.point
 WhiteNeeds _ w = Unit {0}
 
+-- whether whitespace begins here, and some is asked for
+abbrev pub begins_white : World → Bool
+begins_white w = sees_white w.current && nat_lt 0 w.scratch.whitespace.max
+
 -- each state with what it does, where there is memory
 abbrev pub start_transition : World → Transition
-start_transition w = start_code w (sees_white w.current && nat_lt 0 w.scratch.whitespace.max)
+start_transition w = start_code w (begins_white w)
 
 abbrev pub inside_transition : World → Transition
 inside_transition w = inside_code w (sees_white w.current && nat_lt w.scratch.whitespace.size w.scratch.whitespace.max)
@@ -85,6 +90,11 @@ abbrev pub white_transition : WhiteState → World → Transition
 white_transition its.Start w = start_transition w
 white_transition its.Inside w = inside_transition w
 white_transition its.After w = after_transition w
+
+-- the same, as steps of a table
+abbrev pub WhiteStep : Step
+WhiteStep (n.SpaceOrTab state) w to new = white_transition state w ≡ record { to = to; world = new }
+WhiteStep name w to new = ⊥
 
 -- whether this byte stands here
 abbrev pub is_current : ℕ → Option ℕ → Bool

@@ -7,15 +7,18 @@
 ghost use Rattle.std.specs.Prelude.{◌≡◌, ◌≢◌, IfSome, OnOk, is_err, true};
 ghost use Rattle.md_seam.specs.Ahead.{WhiteMeans};
 ghost use Rattle.md_engine.specs.Full.{IsFull, OnError};
+ghost use Rattle.md_engine.specs.Going.{SeesOn};
 ghost use Rattle.md_engine.specs.Place.{is_ending};
+ghost use Rattle.md_engine.specs.Run.{RunsHere};
 ghost use Rattle.md_engine.specs.World.{world};
 ghost use Rattle.md_engine.specs.declared.state.Name.{Name as StateName};
 ghost use Rattle.md_engine.specs.declared.state.State.{State};
 ghost use Rattle.md_engine.specs.declared.state.space_or_tab.State.{State as WhiteState};
 ghost use Rattle.md_seam.specs.Look.{as_seen, looks_behind, sees_other};
 ghost use Rattle.md_seam.specs.OneSpace.{IsOneSpace, spaced};
-ghost use Rattle.md_seam.specs.Spaces.{WhiteNeeds, after_transition, any_size, inside_transition, sees_white};
-ghost use Rattle.md_seam.specs.Spaces.{small_indent, start_transition, white_then, white_transition};
+ghost use Rattle.md_seam.specs.Spaces.{WhiteNeeds, WhiteStep, after_transition, any_size, begins_white};
+ghost use Rattle.md_seam.specs.Spaces.{inside_transition, sees_white, small_indent, start_transition, white_then};
+ghost use Rattle.md_seam.specs.Spaces.{white_transition};
 ghost use Rattle.md_seam.specs.Stays.{TakesEach};
 ghost use Rattle.md_seam.specs.Transition.{IsAt};
 
@@ -153,6 +156,13 @@ pub fn take_one_space(tokenizer: &mut Tokenizer) -> Result<(), Message>
     Ok(())
 }
 
+/// Whether whitespace begins here, and some is asked for.
+fn begins(tokenizer: &Tokenizer) -> bool
+    ensures { result ≡ begins_white (world tokenizer.now) }
+{
+    is_space_or_tab(tokenizer.current) && tokenizer.scratch.whitespace.max > 0
+}
+
 /// Before whitespace.
 ///
 /// ```markdown
@@ -168,7 +178,7 @@ pub fn start(tokenizer: &mut Tokenizer) -> State
         WhiteMeans WhiteState.Start (world tokenizer.old) result (world tokenizer.new) }
     ensures full { OnError result (IsFull tokenizer.new) }
 {
-    if is_space_or_tab(tokenizer.current) && tokenizer.scratch.whitespace.max > 0 {
+    if begins(tokenizer) {
         or_error!(tokenizer.enter(Name::SpaceOrTab));
         State::Retry(StateName::SpaceOrTab(WhiteState::Inside))
     } else {
@@ -247,5 +257,45 @@ pub fn call(tokenizer: &mut Tokenizer, state: WhiteState) -> State
         WhiteState::Start => start(tokenizer),
         WhiteState::Inside => inside(tokenizer),
         WhiteState::After => after(tokenizer),
+    }
+}
+
+/// Before whitespace: takes all of it at once, as the states do one after another.
+///
+/// ```markdown
+/// > |   a
+///     ^
+/// ```
+fn start_at_once(tokenizer: &mut Tokenizer) -> State
+    requires { IsAt WhiteNeeds (StateName.SpaceOrTab WhiteState.Start) (world tokenizer.old) }
+    ensures runs { result ≢ State.Error →
+        RunsHere WhiteStep
+        (StateName.SpaceOrTab WhiteState.Start) (world tokenizer.old) result (world tokenizer.new) }
+    ensures sees { result ≢ State.Error → SeesOn result (world tokenizer.old) (world tokenizer.new) }
+    ensures full { OnError result (IsFull tokenizer.new) }
+{
+    if begins(tokenizer) {
+        or_error!(tokenizer.enter(Name::SpaceOrTab));
+        tokenizer.see_white();
+        if tokenizer.see_or_wait(false) {
+            return State::Next(StateName::SpaceOrTab(WhiteState::Inside));
+        }
+        or_error!(tokenizer.exit(Name::SpaceOrTab));
+        return after(tokenizer);
+    }
+    after(tokenizer)
+}
+
+/// Calls a state of whitespace; all of it is taken at once.
+pub fn call_at_once(tokenizer: &mut Tokenizer, state: WhiteState) -> State
+    requires { IsAt WhiteNeeds (StateName.SpaceOrTab state) (world tokenizer.old) }
+    ensures runs { result ≢ State.Error →
+        RunsHere WhiteStep (StateName.SpaceOrTab state) (world tokenizer.old) result (world tokenizer.new) }
+    ensures sees { result ≢ State.Error → SeesOn result (world tokenizer.old) (world tokenizer.new) }
+    ensures full { OnError result (IsFull tokenizer.new) }
+{
+    match state {
+        WhiteState::Start => start_at_once(tokenizer),
+        _ => call(tokenizer, state),
     }
 }
