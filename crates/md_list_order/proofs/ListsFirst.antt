@@ -4,8 +4,8 @@
 -- block that is set, or a whole ATX heading or table. `md_order` says what is given for a segment, and that is the
 -- same with lists as without. What is given for a segment of no item stays as it is where lists are put around items.
 -- An event of an item sees the same ahead of it with headings and tables set as without.
-use Rattle.std.proofs.Common.{◌≡◌, inr, ℕ, zero, suc, Bool, true, false, ◌&&◌, List, [], ◌∷◌, ◌++◌, take, drop, refl}
-use Rattle.std.proofs.Common.{ap, sym, ◌∙◌, append-nil, subst}
+use Rattle.std.proofs.Common.{◌≡◌, inr, ℕ, zero, suc, Bool, true, false, List, [], ◌∷◌, ◌++◌, take, drop, refl}
+use Rattle.std.proofs.Common.{ap, sym, ◌∙◌, subst}
 use Rattle.std.specs.Prelude.{Option}
 use Rattle.md_engine.specs.declared.event.Event.{Event}
 use Rattle.md_containers.specs.Listed.{Place as ListPlace, given, given_by as given_item, listed, listed_from}

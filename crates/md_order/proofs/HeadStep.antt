@@ -14,7 +14,6 @@ use Rattle.md_leaves.specs.HeadingText.{Before, Opened, Outside, Place, Within, 
 use Rattle.md_leaves.specs.HeadingText.{is_heading, is_run, is_sequence, resolved, text_between}
 use Rattle.md_seam.specs.Events.Nested.{is_enter, is_exit}
 use Rattle.md_seam.specs.Events.Tiles.{is_data}
-use Rattle.md_tables.specs.Tabled.{tabled}
 use Rattle.md_order.specs.declared.wanted.Wanted.{Wanted}
 use Rattle.md_order.specs.Alone.{InHeading, Open, is_set, opened_by}
 use Rattle.md_order.specs.InOrder.{set_if}

@@ -5,7 +5,7 @@
 // one the end of that.
 
 ghost use Rattle.std.specs.Prelude.{◌≡◌, ◌++◌, ◌≤◌, None, OnOk, Some, [], drop, length, not, take, true};
-ghost use Rattle.std.specs.List.{All, prefix_len};
+ghost use Rattle.std.specs.List.{All};
 ghost use Rattle.md_engine.specs.declared.event.Event.{Event};
 ghost use Rattle.md_resolve.specs.Texted.{IsInside, begun, texted};
 ghost use Rattle.md_seam.specs.Rewritten.{IsFirst, given_of, held_of, left_of, written_of};

@@ -15,7 +15,6 @@ ghost use Rattle.md_engine.specs.Found.{found_in};
 ghost use Rattle.md_engine.specs.World.{world};
 ghost use Rattle.md_containers.specs.Listed.{given, given_by, is_item, place_after, place_by};
 ghost use Rattle.md_containers.specs.Listed.{Begins, Ends, outside};
-ghost use Rattle.md_leaves.specs.HeadingText.{begins, is_heading};
 ghost use Rattle.md_leaves.specs.Turned.{HoldNoUnderline, is_turned, on_by, turn};
 ghost use Rattle.md_leaves.specs.Turned as setext;
 ghost use Rattle.md_order.specs.Alone.{MayPass, is_set};

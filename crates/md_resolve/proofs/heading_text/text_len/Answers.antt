@@ -1,5 +1,5 @@
-use Rattle.std.proofs.Common.{◌+◌, ◌∙◌, ℕ, ap₂, subst, sym}
-use Rattle.md_resolve.proofs.TextLaws.{IsTexted, texted-data, texted-none, texted-other, texted-run}
+use Rattle.std.proofs.Common.{◌∙◌, sym}
+use Rattle.md_resolve.proofs.TextLaws.{texted-data, texted-none, texted-other, texted-run}
 use Rattle.md_resolve.proofs.heading_text.text_len.Goals as goal
 use Rattle.md_resolve.proofs.heading_text.text_len.Goals.{else-ends_data+else-ends_sequence}
 use Rattle.md_resolve.proofs.heading_text.text_len.Goals.{else-ends_data+then-ends_sequence, then-ends_data}

@@ -1,9 +1,7 @@
 use Rattle.std.proofs.Common.{◌≡◌, ◌<◌, length, List, Bool, false, true, not, refl, sym, subst, ap, ◌∙◌, ◌&&◌, ◌∷◌, []}
-use Rattle.md_containers.specs.Listed.{is_item}
 use Rattle.md_engine.specs.declared.event.Event.{Event}
 use Rattle.md_order.specs.Left.{MayStay, heading_len, is_passed, table_len}
 use Rattle.md_order.proofs.Stay.{stay-drop}
-use Rattle.md_tables.specs.Tabled.{begins_table}
 use Rattle.md_resolve.proofs.Unset.{off, passed-by}
 use Rattle.md_resolve.proofs.PassLaws.{Now, held-given, item-whole, now_of, one-whole, rest_of, table-whole, text-whole}
 use Rattle.md_resolve.proofs.PassLaws.{heading-fewer, heading-whole}
