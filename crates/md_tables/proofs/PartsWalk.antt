@@ -10,7 +10,8 @@ use Rattle.md_engine.specs.declared.event.Name.TheVariants as n
 use Rattle.md_seam.specs.Events.Nested.{enter, exit, is_enter, is_exit}
 use Rattle.md_tables.specs.Cells.{begins_inner, begins_row, cell_name, ends_inner, goes_on, inner_name}
 use Rattle.md_tables.specs.Cells.{is_divider, is_inner, is_white, row_ends, row_kind, step}
-use Rattle.md_tables.specs.Goes.{ends_text_row, in_table, is_between, is_ending, is_pair, is_text_row}
+use Rattle.md_tables.specs.Goes.{begins_body, ends_head, ends_text_row, in_table, is_between, is_delimiter_row}
+use Rattle.md_tables.specs.Goes.{is_ending, is_pair, is_text_row}
 use Rattle.md_tables.specs.Tabled.{bound_of, tabled_from}
 use Rattle.md_tables.specs.declared.cells.RowKind.{RowKind}
 use Rattle.md_tables.specs.declared.cells.RowKind.TheVariants.{Delimiter, Text}
@@ -165,6 +166,42 @@ row-ends section e es at h =
     (λ (m : Name).
     tabled_from section Behind (is Exit m e ∷ es) ≡ is Exit m e ∷ tabled_from section row.Outside es)
     (one section Behind (is Exit n.GfmTableRow e) es at refl))
+
+-- The end of the head,
+delimiter-row : (P : Name → Type 0) → P n.GfmTableDelimiterRow → (name : Name) → is_delimiter_row name ≡ true → P name
+delimiter-row P h n.GfmTableDelimiterRow is = h
+delimiter-row P h _ is = absurd (cc)
+
+pub head-ends : (section : Section) (e : Event) (es : List Event) → ends_head section e ≡ true →
+    tabled_from section Behind (e ∷ es) ≡ e ∷ exit n.GfmTableHead e.point ∷ tabled_from Between row.Outside es
+head-ends Head e es h =
+    ends
+    (λ (x : Event).
+    tabled_from Head Behind (x ∷ es) ≡ x ∷ exit n.GfmTableHead x.point ∷ tabled_from Between row.Outside es)
+    is_delimiter_row e h
+    (delimiter-row
+    (λ (m : Name).
+    tabled_from Head Behind (is Exit m e ∷ es)
+    ≡ is Exit m e ∷ exit n.GfmTableHead e.point ∷ tabled_from Between row.Outside es)
+    refl)
+head-ends _ e es h = absurd (cc)
+
+-- and the begin of the body.
+pub body-begins : (section : Section) (e : Event) (es : List Event) → begins_body section e ≡ true →
+    tabled_from section row.Outside (e ∷ es)
+    ≡ enter n.GfmTableBody e.point ∷ e ∷ tabled_from Body (Front Text) es
+body-begins Between e es h =
+    begins
+    (λ (x : Event).
+    tabled_from Between row.Outside (x ∷ es)
+    ≡ enter n.GfmTableBody x.point ∷ x ∷ tabled_from Body (Front Text) es)
+    is_text_row e h
+    (text-row
+    (λ (m : Name).
+    tabled_from Between row.Outside (is Enter m e ∷ es)
+    ≡ enter n.GfmTableBody e.point ∷ is Enter m e ∷ tabled_from Body (Front Text) es)
+    refl)
+body-begins _ e es h = absurd (cc)
 
 -- A pipe: in front of the first cell of a row,
 pub front-goes : (section : Section) (k : RowKind) (a b : Event) (es : List Event) → in_table section ≡ true →

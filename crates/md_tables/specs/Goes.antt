@@ -9,7 +9,7 @@ use Rattle.md_tables.specs.declared.cells.RowKind.{RowKind}
 use Rattle.md_tables.specs.declared.cells.Stage.{Stage}
 use Rattle.md_tables.specs.declared.cells.Stage.TheVariants.{Within}
 use Rattle.md_tables.specs.declared.tables.Section.{Section}
-use Rattle.md_tables.specs.declared.tables.Section.TheVariants.{Between, Outside}
+use Rattle.md_tables.specs.declared.tables.Section.TheVariants.{Between, Head, Outside}
 use Rattle.md_tables.specs.declared.tables.Walk.{Walk}
 
 -- what it gives in all, with these events left
@@ -37,6 +37,20 @@ is_text_row _ = false
 
 abbrev pub ends_text_row : Event → Bool
 ends_text_row e = is_exit e.kind && is_text_row e.name
+
+-- the end of the head of a table, with its delimiter row
+abbrev pub is_delimiter_row : Name → Bool
+is_delimiter_row n.GfmTableDelimiterRow = true
+is_delimiter_row _ = false
+
+abbrev pub ends_head : Section → Event → Bool
+ends_head Head e = is_exit e.kind && is_delimiter_row e.name
+ends_head _ e = false
+
+-- the begin of its body, with the first row
+abbrev pub begins_body : Section → Event → Bool
+begins_body Between e = is_enter e.kind && is_text_row e.name
+begins_body _ e = false
 
 -- the begin and the end of a part with such a name
 abbrev pub is_pair : (Name → Bool) → Event → Event → Bool

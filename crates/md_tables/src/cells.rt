@@ -113,6 +113,7 @@ pub(crate) fn ends_inner(kind: RowKind, event: &Event) -> bool
 }
 
 /// Whether whitespace stands here.
+#[inline(always)]
 fn has_white(events: &[Event]) -> bool
     ensures { result ≡ has_white events.now }
 {
@@ -122,6 +123,7 @@ fn has_white(events: &[Event]) -> bool
 }
 
 /// Whether a row ends here, maybe behind whitespace.
+#[inline(always)]
 pub(crate) fn row_ends(events: &[Event]) -> bool
     ensures { result ≡ row_ends events.now }
 {
@@ -137,6 +139,7 @@ fn is_last(events: &[Event]) -> bool
 }
 
 /// Whether what a cell holds goes on behind a piece of it.
+#[inline(always)]
 pub(crate) fn goes_on(kind: RowKind, events: &[Event]) -> bool
     ensures { result ≡ goes_on kind events.now }
 {
@@ -168,15 +171,21 @@ pub(crate) fn inner_name(kind: RowKind) -> Name
     }
 }
 
-/// An event without a link.
+/// An event without a link. The point is copied by its fields: as a whole it would be copied twice.
+#[inline(always)]
 pub(crate) fn plain(kind: Kind, name: Name, point: Point) -> Event
     ensures { result ≡ record { kind = kind; name = name; point = point; link = None } }
 {
     Event {
         kind,
         name,
-        point,
         link: None,
+        point: Point {
+            line: point.line,
+            column: point.column,
+            index: point.index,
+            vs: point.vs,
+        },
     }
 }
 

@@ -1,7 +1,8 @@
 // Parts of a table that are passed at once: their begin, and their end right behind it.
 
 ghost use Rattle.std.specs.Prelude.{◌≡◌, ◌≤◌, ◌∷◌, IfOk, drop, length, true};
-ghost use Rattle.md_tables.specs.Goes.{IsWithin, ends_text_row, in_all, in_table, is_between, is_ending, is_pair};
+ghost use Rattle.md_tables.specs.Goes.{IsWithin, begins_body, ends_head, ends_text_row, in_all, in_table, is_between};
+ghost use Rattle.md_tables.specs.Goes.{is_ending, is_pair};
 ghost use Rattle.md_tables.specs.Cells.{is_divider, is_inner, is_white};
 ghost use Rattle.md_tables.specs.declared.cells.Stage.TheVariants.{Behind, Front, Inner, Outside, Within};
 
@@ -65,6 +66,26 @@ fn ends_text_row(event: &Event) -> bool
     ensures { result ≡ ends_text_row event.now }
 {
     matches!(event.kind, Kind::Exit) && matches!(event.name, Name::GfmTableRow)
+}
+
+/// Whether the head of a table ends here, with its delimiter row.
+#[inline(always)]
+fn ends_head(section: Section, event: &Event) -> bool
+    ensures { result ≡ ends_head section event.now }
+{
+    matches!(section, Section::Head)
+        && matches!(event.kind, Kind::Exit)
+        && matches!(event.name, Name::GfmTableDelimiterRow)
+}
+
+/// Whether the body of a table begins here, with its first row.
+#[inline(always)]
+fn begins_body(section: Section, event: &Event) -> bool
+    ensures { result ≡ begins_body section event.now }
+{
+    matches!(section, Section::Between)
+        && matches!(event.kind, Kind::Enter)
+        && matches!(event.name, Name::GfmTableRow)
 }
 
 /// Whether this is between the head and the body of a table.
@@ -233,12 +254,13 @@ impl Walk {
         Ok(2)
     }
 
-    /// Goes on between two rows with the ending of a line, or with the begin of a row with which no body begins.
+    /// Goes on between two rows with the ending of a line, or with the begin of a row, which may begin the body, and the pipe
+    /// of its first cell.
     #[inline(always)]
     fn part_outside(&mut self, events: &[Event]) -> Result<usize, Message>
         requires section { in_table self.old.section ≡ true }
         requires stage { self.old.rows.stage ≡ Outside }
-        ensures section { self.new.section ≡ self.old.section }
+        ensures section { in_table self.new.section ≡ true }
         ensures within { IfOk result (λ many. many ≤ length events.now) }
         ensures in_all { IfOk result (λ many. in_all self.new (drop many events.now) ≡ in_all self.old events.now) }
     {
@@ -249,6 +271,13 @@ impl Walk {
             give_two(&mut self.rows.given, begin, end)?;
             return Ok(2);
         }
+        if begins_body(self.section, begin) {
+            give_first(&mut self.rows.given, Name::GfmTableBody, begin)?;
+            self.rows.stage = Stage::Front(RowKind::Text);
+            self.section = Section::Body;
+            let many = self.part_front(RowKind::Text, &events[1..])?;
+            return Ok(1 + many);
+        }
         if is_between(self.section) {
             return Ok(0);
         }
@@ -257,26 +286,33 @@ impl Walk {
         };
         give(&mut self.rows.given, begin)?;
         self.rows.stage = Stage::Front(kind);
-        Ok(1)
+        let many = self.part_front(kind, &events[1..])?;
+        Ok(1 + many)
     }
 
-    /// Goes on behind the last pipe of a row of text with the end of the row.
+    /// Goes on behind the last pipe of a row with the end of the row, which may end the head.
     #[inline(always)]
     fn part_behind(&mut self, events: &[Event]) -> Result<usize, Message>
         requires section { in_table self.old.section ≡ true }
         requires stage { self.old.rows.stage ≡ Behind }
-        ensures section { self.new.section ≡ self.old.section }
+        ensures section { in_table self.new.section ≡ true }
         ensures within { IfOk result (λ many. many ≤ length events.now) }
         ensures in_all { IfOk result (λ many. in_all self.new (drop many events.now) ≡ in_all self.old events.now) }
     {
         let [end, ..] = events else {
             return Ok(0);
         };
-        if !ends_text_row(end) {
+        if ends_text_row(end) {
+            give(&mut self.rows.given, end)?;
+            self.rows.stage = Stage::Outside;
+            return Ok(1);
+        }
+        if !ends_head(self.section, end) {
             return Ok(0);
         }
-        give(&mut self.rows.given, end)?;
+        give_last(&mut self.rows.given, end, Name::GfmTableHead)?;
         self.rows.stage = Stage::Outside;
+        self.section = Section::Between;
         Ok(1)
     }
 
@@ -284,13 +320,15 @@ impl Walk {
     #[inline(always)]
     fn part(&mut self, events: &[Event]) -> Result<usize, Message>
         requires { in_table self.old.section ≡ true }
-        ensures section { self.new.section ≡ self.old.section }
+        ensures section { in_table self.new.section ≡ true }
         ensures within { IfOk result (λ many. many ≤ length events.now) }
         ensures in_all { IfOk result (λ many. in_all self.new (drop many events.now) ≡ in_all self.old events.now) }
     {
         match self.rows.stage {
-            Stage::Within(kind) => self.parts_within(kind, events),
-            Stage::Inner(kind) => self.part_inner(kind, events),
+            Stage::Within(RowKind::Text) => self.parts_within(RowKind::Text, events),
+            Stage::Within(RowKind::Delimiter) => self.parts_within(RowKind::Delimiter, events),
+            Stage::Inner(RowKind::Text) => self.part_inner(RowKind::Text, events),
+            Stage::Inner(RowKind::Delimiter) => self.part_inner(RowKind::Delimiter, events),
             Stage::Front(kind) => self.part_front(kind, events),
             Stage::Outside => self.part_outside(events),
             Stage::Behind => self.part_behind(events),

@@ -246,11 +246,11 @@ impl Walk {
         ensures in_all { IfOk result (λ many. in_all self.new (drop many events.now) ≡ in_all self.old events.now) }
     {
         let many = self.parts(events)?;
-        if many > 0 {
+        if many == events.len() {
             return Ok(many);
         }
-        self.step(&events[0], &events[1..])?;
-        Ok(1)
+        self.step(&events[many], &events[many + 1..])?;
+        Ok(many + 1)
     }
 }
 

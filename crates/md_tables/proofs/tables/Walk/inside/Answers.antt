@@ -1,4 +1,4 @@
-use Rattle.std.proofs.Common.{◌≡◌, arith}
+use Rattle.std.proofs.Common.{◌<◌, ◌+◌, length, arith}
 use Rattle.std.proofs.lemmas.List.{take_rest}
 use Rattle.md_tables.proofs.Unset.{unset}
 use Rattle.md_tables.proofs.TabledWalk.{walk-stepped}
@@ -10,9 +10,10 @@ returns-clause-in_all c =
     let old = c.parts.new.self in
     let new = c.step.new.self in
     let events = c.args.events.now in
-    let none : c.in_ok-many.many ≡ 0 = omega arith in
+    let many = c.in_ok-many.many in
+    let within : many < length events = omega (arith, c.in_ok-many.ensures.within, c.if-many-events.false) in
     walk-stepped old.section new.section old.rows.stage new.rows.stage events old.rows.given.items
-    new.rows.given.items (in_all c.args.self.now events) 0 unset c.requires.some
-    (rw (take_rest events 1) at c.in_ok-step.ensures.given) c.in_ok-step.ensures.section
-    (rw (take_rest events 1) at c.in_ok-step.ensures.stage)
-    (rw none at c.in_ok-many.ensures.in_all)
+    new.rows.given.items (in_all c.args.self.now events) many unset within
+    (rw (take_rest events (many + 1)) at c.in_ok-step.ensures.given) c.in_ok-step.ensures.section
+    (rw (take_rest events (many + 1)) at c.in_ok-step.ensures.stage)
+    c.in_ok-many.ensures.in_all
