@@ -30,10 +30,12 @@ use md_engine::state::document::State as DocumentState;
 use md_engine::state::flow::State as FlowState;
 use md_engine::state::gfm_table::State as TableState;
 use md_engine::state::heading_atx::State as HeadingState;
+use md_engine::state::space_or_tab::State as WhiteState;
 use md_engine::state::{Name as StateName, State};
 use md_engine::tokenizer::{Container, Tokenizer};
 use md_leaves::{blank_line, heading_atx};
 use md_registry::choices;
+use md_seam::space_or_tab;
 use md_tables::row::{Row, place_of};
 use md_tables::{gfm_table, row_words};
 
@@ -314,6 +316,19 @@ pub fn call_flow(tokenizer: &mut Tokenizer, state: FlowState) -> State
         FlowState::BeforeContent => content_begins(tokenizer),
         _ => flow::call(tokenizer, state),
     }
+}
+
+/// Calls a state of whitespace; all of it is taken at once.
+#[inline(always)]
+pub fn call_white(tokenizer: &mut Tokenizer, state: WhiteState) -> State
+    requires current { (world tokenizer.old).current ≡ looks (world tokenizer.old) }
+    requires stands { stands flow_table_scheme (world tokenizer.old) (State.Next (StateName.SpaceOrTab state)) }
+    ensures runs { result ≢ State.Error →
+        RunsHere FlowStep (StateName.SpaceOrTab state)
+        (world tokenizer.old) result (world tokenizer.new) }
+    ensures sees { result ≢ State.Error → SeesOn result (world tokenizer.old) (world tokenizer.new) }
+{
+    space_or_tab::call_at_once(tokenizer, state)
 }
 
 /// Calls a state of a heading; words of it are taken at once.

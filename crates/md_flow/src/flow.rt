@@ -392,7 +392,7 @@ impl Table for FlowTable {
             StateName::Content(state) => content::call(tokenizer, state),
             StateName::Document(state) => at_once::call_document(tokenizer, state),
             StateName::Flow(state) => at_once::call_flow(tokenizer, state),
-            StateName::SpaceOrTab(state) => space_or_tab::call(tokenizer, state),
+            StateName::SpaceOrTab(state) => at_once::call_white(tokenizer, state),
             _ => at_once::call_at_once(tokenizer, name),
         }
     }

@@ -50,20 +50,19 @@ returns-in-Content c =
 pub returns-in-SpaceOrTab : goal.returns-in-SpaceOrTab
 returns-in-SpaceOrTab c =
     let w = world c.args.tokenizer.now in
-    let w' = world c.call-in-SpaceOrTab.new.tokenizer in
-    let once = λ (fine : c.call-in-SpaceOrTab.result ≢ Error).
-    called-once c.args.name w c.call-in-SpaceOrTab.result w' c.requires.current c.requires.stands
-    (within-world c.args.tokenizer.now) fine (rw c.in-SpaceOrTab.is (c.call-in-SpaceOrTab.ensures.to fine))
-    (rw c.in-SpaceOrTab.is (c.call-in-SpaceOrTab.ensures.world fine)) in
-    let kept = λ (fine : c.call-in-SpaceOrTab.result ≢ Error).
-    here-keeps FlowStep flow_table_scheme c.args.name w c.call-in-SpaceOrTab.result w' flow-keeps
-    c.requires.current c.requires.stands (once fine).0 in
+    let w' = world c.call_white.new.tokenizer in
+    let runs : c.call_white.result ≢ Error → RunsHere FlowStep c.args.name w c.call_white.result w' =
+    λ fine. subst (λ (x : StateName). RunsHere FlowStep x w c.call_white.result w') (sym c.in-SpaceOrTab.is)
+    (c.call_white.ensures.runs fine) in
+    let kept = λ (fine : c.call_white.result ≢ Error).
+    here-keeps FlowStep flow_table_scheme c.args.name w c.call_white.result w' flow-keeps
+    c.requires.current c.requires.stands (runs fine) in
     record {
-      runs = λ fine. (once fine).0;
+      runs = runs;
       stands = λ fine. (kept fine).0;
       falls = λ fine. (kept fine).1;
       setting = λ fine. (kept fine).2;
-      sees = λ fine. (once fine).1;
+      sees = c.call_white.ensures.sees;
     }
 
 pub returns-in-Document : goal.returns-in-Document
