@@ -1,16 +1,18 @@
 -- Events of no block that is set.
 use Rattle.std.proofs.Common.{◌≡◌, Bool, false, true, not, ◌&&◌, refl, ap}
 use Rattle.md_engine.specs.declared.event.Event.{Event}
+use Rattle.md_engine.specs.declared.event.Kind.{Kind}
+use Rattle.md_engine.specs.declared.event.Kind.TheVariants.{Enter, Exit}
 use Rattle.md_engine.specs.declared.event.Name.{Name}
 use Rattle.md_engine.specs.declared.event.Name.TheVariants as n
 use Rattle.md_containers.specs.Listed.{is_item}
-use Rattle.md_leaves.specs.HeadingText.{begins, is_heading}
+use Rattle.md_leaves.specs.HeadingText.{begins, ends, is_heading}
 use Rattle.md_leaves.specs.Turned.{is_underline, passes as is_unturned}
 use Rattle.md_order.specs.Alone.{is_set}
 use Rattle.md_order.specs.Left.{is_passed, is_same}
 use Rattle.md_order.specs.declared.wanted.Wanted.{Wanted}
 use Rattle.md_order.proofs.Names.{bare-unturned, tableless, unset-bare, unset-item}
-use Rattle.md_seam.specs.Events.Nested.{is_enter}
+use Rattle.md_seam.specs.Events.Nested.{is_enter, is_exit}
 use Rattle.md_seam.specs.Events.Spelled.{role}
 use Rattle.md_tables.specs.Tabled.{begins_table, bound_of}
 
@@ -50,3 +52,15 @@ unset-same w e h =
     (off-right w.atx _ (off-right (is_enter e.kind) _ (unset-bare e.name h).heading))
     (off-right w.setext _ (unset-underline e.name h))
     (off-right w.tables _ (tableless e.kind e.name (unset-bare e.name h).table))
+
+-- and so does the end of an ATX heading
+pub end-passed : (w : Wanted) (e : Event) → ends is_heading e ≡ true → is_passed w e ≡ true
+end-passed w e h = go e.kind e.name h
+  where
+    go : (kind : Kind) (name : Name) → (is_exit kind && is_heading name) ≡ true →
+        is_passed w (record e { kind = kind; name = name }) ≡ true
+    go Exit n.HeadingAtx k =
+        passed-by w (record e { kind = Exit; name = n.HeadingAtx }) (off-right w.items _ refl) (off-right w.atx _ refl)
+        (off-right w.setext _ refl) (off-right w.tables _ refl)
+    go Exit _ k = absurd (let bad : false ≡ true = k in cc)
+    go Enter name k = absurd (let bad : false ≡ true = k in cc)

@@ -34,6 +34,14 @@ pub(crate) fn begins_heading(event: &Event) -> bool
     matches!(event.kind, Kind::Enter) && matches!(event.name, Name::HeadingAtx)
 }
 
+/// Whether a heading ends here.
+#[inline(always)]
+pub(crate) fn ends_heading(event: &Event) -> bool
+    ensures { result ≡ ends is_heading event.now }
+{
+    matches!(event.kind, Kind::Exit) && matches!(event.name, Name::HeadingAtx)
+}
+
 /// Whether a run of `#` ends here.
 #[inline(always)]
 fn ends_sequence(event: &Event) -> bool
@@ -58,7 +66,7 @@ impl Test for EndsNoHeading {
 
     #[inline(always)]
     fn passes(&self, event: &Event) -> bool {
-        !(matches!(event.name, Name::HeadingAtx) && matches!(event.kind, Kind::Exit))
+        !ends_heading(event)
     }
 }
 

@@ -28,7 +28,7 @@ ghost use Rattle.md_resolve.specs.PassWalk.{given_of, items_of, rest_of, whole_o
 ghost use Rattle.md_seam.specs.Rewritten.{IsFirst};
 
 use crate::heading_text;
-use crate::heading_text::begins_heading;
+use crate::heading_text::{begins_heading, ends_heading};
 use crate::items::{goes_on, is_item, list_event, marker_ahead, next_item};
 use crate::underlines::{self, enter, exit, is_turned};
 use md_engine::event::{Event, Kind, Name};
@@ -243,6 +243,21 @@ impl Walk {
         }
     }
 
+    /// Holds the end of an ATX heading, if that is left first.
+    #[inline(always)]
+    fn end_heading(&mut self, wanted: Wanted, bytes: &[u8])
+        requires stay { MayStay wanted (rest_of self.old) }
+        ensures whole { whole_of wanted bytes.now self.new ≡ whole_of wanted bytes.now self.old }
+        ensures stay { MayStay wanted (rest_of self.new) }
+        ensures fewer { length (rest_of self.new) ≤ length (rest_of self.old) }
+    {
+        if let Some(event) = self.all.first() {
+            if ends_heading(&event) {
+                self.all.hold(event);
+            }
+        }
+    }
+
     /// Begins a heading in the place of a paragraph, if an underline follows that.
     fn begin_text(&mut self, begins: bool, event: Event) -> Result<(), Message>
         requires first { IsFirst event (rest_of self.old) }
@@ -372,6 +387,7 @@ impl Walk {
         }
         if wanted.atx && begins_heading(&event) {
             heading_text::set(&mut self.all, event)?;
+            self.end_heading(wanted, bytes);
             return Ok(());
         }
         if wanted.setext && !underlines::passes(&event) {

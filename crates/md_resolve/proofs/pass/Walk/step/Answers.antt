@@ -1,4 +1,4 @@
-use Rattle.std.proofs.Common.{◌≡◌, ◌<◌, length, List, Bool, false, true, not, refl, sym, subst, ap, ◌∙◌, ◌&&◌, ◌∷◌, []}
+use Rattle.std.proofs.Common.{◌≡◌, ◌<◌, arith, length, List, Bool, false, true, not, refl, sym, subst, ap, ◌∙◌, ◌&&◌, ◌∷◌, []}
 use Rattle.md_engine.specs.declared.event.Event.{Event}
 use Rattle.md_order.specs.Left.{MayStay, heading_len, is_passed, table_len}
 use Rattle.md_order.proofs.Stay.{stay-drop}
@@ -18,24 +18,28 @@ returns-then-is_item-clause-whole c =
     c.requires.first c.in_ok-item.ensures.given c.in_ok-item.ensures.items c.in_ok-item.ensures.on
     c.in_ok-item.ensures.rest
 
+pub end_heading-requires : goal.end_heading-requires
+end_heading-requires c =
+    let left = rest_of (now_of c.args.self.now) in
+    record {
+      stay = subst (MayStay c.args.wanted) (sym c.in_ok-set.ensures.left)
+          (stay-drop c.args.wanted left c.requires.stay (heading_len left));
+    }
+
 pub returns-then-begins_heading-clause-whole : goal.returns-then-begins_heading-clause-whole
 returns-then-begins_heading-clause-whole c =
     let old : Now = now_of c.args.self.now in
-    heading-whole c.args.wanted c.args.bytes.now old (record old { all = c.set.new.all }) c.args.event
+    c.end_heading.ensures.whole
+    ∙ heading-whole c.args.wanted c.args.bytes.now old (record old { all = c.set.new.all }) c.args.event
     c.if-wanted-2.true (sym c.begins_heading.ensures ∙ c.if-begins_heading.true) c.requires.stay c.requires.first
     c.in_ok-set.ensures.given refl refl c.in_ok-set.ensures.left
-
-pub returns-then-begins_heading-clause-stay : goal.returns-then-begins_heading-clause-stay
-returns-then-begins_heading-clause-stay c =
-    let left = rest_of (now_of c.args.self.now) in
-    subst (MayStay c.args.wanted) (sym c.in_ok-set.ensures.left)
-    (stay-drop c.args.wanted left c.requires.stay (heading_len left))
 
 pub returns-then-begins_heading-clause-fewer : goal.returns-then-begins_heading-clause-fewer
 returns-then-begins_heading-clause-fewer c =
     let left = rest_of (now_of c.args.self.now) in
-    subst (λ (l : List Event). length l < length left) (sym c.in_ok-set.ensures.left)
-    (heading-fewer c.args.event left c.requires.first (sym c.begins_heading.ensures ∙ c.if-begins_heading.true))
+    let less = subst (λ (l : List Event). length l < length left) (sym c.in_ok-set.ensures.left)
+    (heading-fewer c.args.event left c.requires.first (sym c.begins_heading.ensures ∙ c.if-begins_heading.true)) in
+    omega (arith, less, c.end_heading.ensures.fewer)
 
 pub returns-then-not-passes-clause-whole : goal.returns-then-not-passes-clause-whole
 returns-then-not-passes-clause-whole c =
