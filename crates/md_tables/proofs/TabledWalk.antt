@@ -112,12 +112,6 @@ walk-stepped section now stage after events old new all at d within is same ther
     (with_cells section stage (get_or events at d) (drop (at + 1) events)).stage (drop (at + 1) events))
     ∙ ap (λ (l : List Event). old ++ tabled_from section stage l) (sym (drop_more events at d within)) ∙ so_far)
 
--- what the walk gives in all stays, and so does the section; it stays within the events
-pub record Stays (now before : Section) (at : ℕ) (events left whole : List Event) : Type 0 where
-  pub within : at ≤ length events
-  pub section : now ≡ before
-  pub all : left ≡ whole
-
 -- A step from some place on is one of the whole walk.
 pub walk-goes : (old new : Walk) (events all : List Event) (at many : ℕ) →
     in_all new (drop many (drop at events)) ≡ in_all old (drop at events) → in_all old (drop at events) ≡ all →

@@ -1,6 +1,6 @@
 // Parts of a table that are passed at once: their begin, and their end right behind it.
 
-ghost use Rattle.std.specs.Prelude.{◌≡◌, ◌≤◌, ◌∷◌, IfOk, drop, length, true};
+ghost use Rattle.std.specs.Prelude.{◌≡◌, ◌≤◌, ◌+◌, ◌∷◌, IfOk, drop, length, true};
 ghost use Rattle.md_tables.specs.Goes.{IsWithin, begins_body, ends_head, ends_text_row, in_all, in_table, is_between};
 ghost use Rattle.md_tables.specs.Goes.{is_ending, is_pair};
 ghost use Rattle.md_tables.specs.Cells.{is_divider, is_inner, is_white};
@@ -127,8 +127,8 @@ impl Walk {
         Ok((2, true))
     }
 
-    /// Goes on in a cell at a pipe, which ends the cell, and begins the next one if it is not the last of its row. Says
-    /// how many events that are, and whether the walk stays there.
+    /// Goes on in a cell at a pipe, which ends the cell, and begins the next one if it is not the last of its row: then
+    /// the end of the row is passed too. Says how many events that are, and whether the walk stays there.
     #[inline(always)]
     fn pipe_within(
         &mut self,
@@ -140,9 +140,9 @@ impl Walk {
         requires section { in_table self.old.section ≡ true }
         requires stage { self.old.rows.stage ≡ Within kind }
         requires pipe { is_pair is_divider begin.now end.now ≡ true }
-        ensures section { self.new.section ≡ self.old.section }
+        ensures section { in_table self.new.section ≡ true }
         ensures stays { IfOk result (λ part. part.1 ≡ true → IsWithin kind part.0 self.new.rows.stage) }
-        ensures within { IfOk result (λ part. part.0 ≤ 2) }
+        ensures within { IfOk result (λ part. part.0 ≤ 2 + length behind.now) }
         ensures in_all { IfOk result (λ part.
             in_all self.new (drop part.0 (begin.now ∷ end.now ∷ behind.now))
             ≡ in_all self.old (begin.now ∷ end.now ∷ behind.now)) }
@@ -151,7 +151,8 @@ impl Walk {
         if row_ends(behind) {
             give_two_last(&mut self.rows.given, begin, end, name)?;
             self.rows.stage = Stage::Behind;
-            return Ok((2, false));
+            let many = self.part_behind(behind)?;
+            return Ok((2 + many, false));
         }
         give_between(&mut self.rows.given, name, begin, end)?;
         Ok((2, true))
@@ -163,7 +164,7 @@ impl Walk {
     fn part_within(&mut self, kind: RowKind, events: &[Event]) -> Result<(usize, bool), Message>
         requires section { in_table self.old.section ≡ true }
         requires stage { self.old.rows.stage ≡ Within kind }
-        ensures section { self.new.section ≡ self.old.section }
+        ensures section { in_table self.new.section ≡ true }
         ensures stays { IfOk result (λ part. part.1 ≡ true → IsWithin kind part.0 self.new.rows.stage) }
         ensures within { IfOk result (λ part. part.0 ≤ length events.now) }
         ensures in_all { IfOk result
@@ -191,7 +192,7 @@ impl Walk {
     fn parts_within(&mut self, kind: RowKind, events: &[Event]) -> Result<usize, Message>
         requires section { in_table self.old.section ≡ true }
         requires stage { self.old.rows.stage ≡ Within kind }
-        ensures section { self.new.section ≡ self.old.section }
+        ensures section { in_table self.new.section ≡ true }
         ensures within { IfOk result (λ many. many ≤ length events.now) }
         ensures in_all { IfOk result (λ many. in_all self.new (drop many events.now) ≡ in_all self.old events.now) }
     {

@@ -1,6 +1,8 @@
-use Rattle.std.proofs.Common.{[], ◌∷◌, sym, ◌∙◌}
+use Rattle.std.proofs.Common.{[], ◌∷◌, sym, ◌∙◌, ap}
+use Rattle.std.proofs.lemmas.List.{drop-drop}
 use Rattle.md_seam.specs.Events.Nested.{enter, exit}
 use Rattle.md_tables.specs.Cells.{cell_name}
+use Rattle.md_tables.specs.Goes.{in_all}
 use Rattle.md_tables.specs.Tabled.{tabled_from}
 use Rattle.md_tables.specs.declared.cells.Stage.TheVariants.{Behind}
 use Rattle.md_tables.proofs.PartsWalk.{gives, last-goes, pipe-goes}
@@ -13,7 +15,9 @@ returns-then-row_ends-clause-in_all c =
     let begin = c.args.begin.now in
     let end = c.args.end.now in
     let rest = c.args.behind.now in
-    gives now.rows.given.items c.give_two_last.new.given.items (begin ∷ end ∷ exit (cell_name k) end.point ∷ [])
+    ap (in_all c.part_behind.new.self) (sym (drop-drop c.in_ok-many.many 2 (begin ∷ end ∷ rest)))
+    ∙ c.in_ok-many.ensures.in_all
+    ∙ gives now.rows.given.items c.give_two_last.new.given.items (begin ∷ end ∷ exit (cell_name k) end.point ∷ [])
     (tabled_from now.section now.rows.stage (begin ∷ end ∷ rest)) (tabled_from now.section Behind rest)
     (rw c.cell_name-name.ensures at c.in_ok-give_two_last.ensures)
     (rw c.requires.stage
