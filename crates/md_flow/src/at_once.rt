@@ -2,21 +2,24 @@
 //
 // The states of the document, of flow and of constructs are called one after another. Where one look tells what several
 // of them do (a prefix is taken as a whole, no container opens with a byte, a line is content), these functions do the
-// same in one call; each has in its contract that it is a run of those states (`RunsHere`). The pages of the states can be
-// read without them.
+// same in one call; each has in its contract that it is a run of those states (`RunsHere`). A line of content is
+// taken as a whole, the attempt at it is left, and it ends in the same call. The pages of the states can be read
+// without them.
 
-ghost use Rattle.std.specs.Prelude.{false, true, ◌≡◌, ◌≢◌};
+ghost use Rattle.std.specs.Prelude.{Bool, IfSome, false, true, ◌≡◌, ◌≢◌};
 ghost use Rattle.md_engine.specs.Going.{SeesOn};
-ghost use Rattle.md_engine.specs.Run.{RunsHere};
+ghost use Rattle.md_engine.specs.Run.{Runs, RunsHere};
 ghost use Rattle.md_engine.specs.Scheme.{stands};
-ghost use Rattle.md_engine.specs.World.{looks, world};
+ghost use Rattle.md_engine.specs.World.{World, looks, world};
 ghost use Rattle.md_engine.specs.declared.state.Name.{Name as StateName};
 ghost use Rattle.md_engine.specs.declared.state.State.{State};
 ghost use Rattle.md_engine.specs.declared.state.content.State.{State as ContentState};
 ghost use Rattle.md_engine.specs.declared.state.document.State.{State as DocumentState};
+ghost use Rattle.md_flow.specs.AtOnce.{GoesOn, IsTried};
 ghost use Rattle.md_registry.specs.AtOnce.{GoesAtOnce, asking_next, openers_passed};
 ghost use Rattle.md_containers.specs.PlainBullet.{IsPlainBullet};
 ghost use Rattle.md_registry.specs.Registry.{opener_front, openers};
+ghost use Rattle.md_registry.specs.Flow.{leaf_end};
 ghost use Rattle.md_registry.specs.States.{FlowStep, flow_table_scheme, is_flow_own};
 ghost use Rattle.md_seam.specs.Transition.{IsAt, NeedsNothing};
 ghost use Rattle.md_engine.specs.declared.state.flow.State.{State as FlowState};
@@ -32,6 +35,7 @@ use md_engine::state::gfm_table::State as TableState;
 use md_engine::state::heading_atx::State as HeadingState;
 use md_engine::state::space_or_tab::State as WhiteState;
 use md_engine::state::{Name as StateName, State};
+use md_engine::table::leave;
 use md_engine::tokenizer::{Container, Tokenizer};
 use md_leaves::{blank_line, heading_atx};
 use md_registry::choices;
@@ -101,7 +105,26 @@ pub fn opens_at_once(tokenizer: &mut Tokenizer) -> State
     document::container_new_after(tokenizer)
 }
 
-/// At the start of a chunk of content: its first byte is taken at once.
+/// In a chunk of content: the rest of its line is taken at once.
+#[inline(always)]
+fn chunk(tokenizer: &mut Tokenizer) -> State
+    requires { IsAt NeedsNothing (StateName.Content ContentState.ChunkInside) (world tokenizer.old) }
+    ensures runs { result ≢ State.Error →
+        RunsHere FlowStep
+        (StateName.Content ContentState.ChunkInside) (world tokenizer.old) result (world tokenizer.new) }
+    ensures sees { result ≢ State.Error → SeesOn result (world tokenizer.old) (world tokenizer.new) }
+{
+    if blank_line::ends_line(tokenizer.current) {
+        return content::chunk_inside(tokenizer);
+    }
+    tokenizer.see_line();
+    if tokenizer.see_or_wait(false) {
+        return State::Next(StateName::Content(ContentState::ChunkInside));
+    }
+    content::chunk_inside(tokenizer)
+}
+
+/// At the start of a chunk of content: its line is taken at once.
 #[inline(always)]
 fn chunk_begins(tokenizer: &mut Tokenizer) -> State
     requires { IsAt NeedsNothing (StateName.Content ContentState.ChunkStart) (world tokenizer.old) }
@@ -111,16 +134,14 @@ fn chunk_begins(tokenizer: &mut Tokenizer) -> State
     ensures sees { result ≢ State.Error → SeesOn result (world tokenizer.old) (world tokenizer.new) }
 {
     match content::chunk_start(tokenizer) {
-        State::Retry(StateName::Content(ContentState::ChunkInside)) => {
-            content::chunk_inside(tokenizer)
-        }
+        State::Retry(StateName::Content(ContentState::ChunkInside)) => chunk(tokenizer),
         state => state,
     }
 }
 
-/// Before content: its first byte is taken at once.
+/// Before content: its line is taken at once.
 #[inline(always)]
-fn content_begins(tokenizer: &mut Tokenizer) -> State
+fn content_taken(tokenizer: &mut Tokenizer) -> State
     requires { IsAt NeedsNothing (StateName.Flow FlowState.BeforeContent) (world tokenizer.old) }
     ensures runs { result ≢ State.Error →
         RunsHere FlowStep
@@ -131,6 +152,19 @@ fn content_begins(tokenizer: &mut Tokenizer) -> State
         State::Retry(StateName::Content(ContentState::ChunkStart)) => chunk_begins(tokenizer),
         state => state,
     }
+}
+
+/// Before content: its line is taken at once, and ends.
+#[inline(always)]
+fn content_begins(tokenizer: &mut Tokenizer) -> State
+    requires { IsAt NeedsNothing (StateName.Flow FlowState.BeforeContent) (world tokenizer.old) }
+    ensures runs { result ≢ State.Error →
+        RunsHere FlowStep
+        (StateName.Flow FlowState.BeforeContent) (world tokenizer.old) result (world tokenizer.new) }
+    ensures sees { result ≢ State.Error → SeesOn result (world tokenizer.old) (world tokenizer.new) }
+{
+    let to = content_taken(tokenizer);
+    end(tokenizer, to)
 }
 
 /// At the start of an ATX heading: it begins with its opening sequence in the same call.
@@ -263,7 +297,7 @@ fn leaf_end(tokenizer: &mut Tokenizer) -> State
     ensures runs { result ≢ State.Error →
         RunsHere FlowStep
         (StateName.Flow FlowState.LeafAfter) (world tokenizer.old) result (world tokenizer.new) }
-    ensures sees { result ≢ State.Error → SeesOn result (world tokenizer.old) (world tokenizer.new) }
+    ensures sees { result ≢ State.Error → (from : World) → SeesOn result from (world tokenizer.new) }
 {
     flow::leaf_after(tokenizer);
     document::flow_end(tokenizer)
@@ -276,10 +310,88 @@ fn line_end(tokenizer: &mut Tokenizer) -> State
     ensures runs { result ≢ State.Error →
         RunsHere FlowStep
         (StateName.Flow FlowState.After) (world tokenizer.old) result (world tokenizer.new) }
-    ensures sees { result ≢ State.Error → SeesOn result (world tokenizer.old) (world tokenizer.new) }
+    ensures sees { result ≢ State.Error → (from : World) → SeesOn result from (world tokenizer.new) }
 {
     flow::after(tokenizer);
     document::flow_end(tokenizer)
+}
+
+/// Behind a leaf, which is shut or may be open: the line ends.
+#[inline(always)]
+fn line_ends(tokenizer: &mut Tokenizer, shuts: bool) -> State
+    requires { IsAt NeedsNothing (StateName.Flow (leaf_end shuts)) (world tokenizer.old) }
+    ensures runs { result ≢ State.Error →
+        RunsHere FlowStep (StateName.Flow (leaf_end shuts)) (world tokenizer.old) result (world tokenizer.new) }
+    ensures sees { result ≢ State.Error → (from : World) → SeesOn result from (world tokenizer.new) }
+{
+    if shuts {
+        leaf_end(tokenizer)
+    } else {
+        line_end(tokenizer)
+    }
+}
+
+/// Whether a state is that behind a leaf, and then whether the leaf is shut there.
+#[inline(always)]
+fn behind_leaf(state: State) -> Option<bool>
+    ensures { IfSome result (λ shuts. state ≡ State.Next (StateName.Flow (leaf_end shuts))) }
+{
+    match state {
+        State::Next(StateName::Flow(FlowState::After)) => Some(false),
+        State::Next(StateName::Flow(FlowState::LeafAfter)) => Some(true),
+        _ => None,
+    }
+}
+
+/// Whether the innermost attempt is one at a leaf, and then whether the leaf is shut behind it.
+#[inline(always)]
+fn tried_leaf(tokenizer: &Tokenizer) -> Option<bool>
+    ensures { IfSome result (λ shuts. IsTried shuts (world tokenizer.now)) }
+{
+    match tokenizer.frames.last() {
+        None => None,
+        Some(frame) => {
+            if frame.is_check {
+                None
+            } else {
+                behind_leaf(frame.ok)
+            }
+        }
+    }
+}
+
+/// Where the leaf of a line accepts: the attempt at it is left, and the line ends.
+fn accepted(tokenizer: &mut Tokenizer, shuts: bool) -> State
+    requires { IsTried shuts (world tokenizer.old) }
+    ensures runs { result ≢ State.Error → (is_end : Bool) →
+        Runs FlowStep is_end State.Ok (world tokenizer.old) result (world tokenizer.new) }
+    ensures sees { result ≢ State.Error → (from : World) → SeesOn result from (world tokenizer.new) }
+{
+    match leave(tokenizer, State::Ok) {
+        None => State::Ok,
+        Some(next) => {
+            if tokenizer.see_or_wait(false) {
+                next
+            } else {
+                line_ends(tokenizer, shuts)
+            }
+        }
+    }
+}
+
+/// Ends a line whose leaf has accepted it.
+#[inline(always)]
+fn end(tokenizer: &mut Tokenizer, to: State) -> State
+    ensures fine { result ≢ State.Error → to ≢ State.Error }
+    ensures goes_on { result ≢ State.Error → GoesOn to (world tokenizer.old) result (world tokenizer.new) }
+{
+    let State::Ok = to else {
+        return to;
+    };
+    match tried_leaf(tokenizer) {
+        None => to,
+        Some(shuts) => accepted(tokenizer, shuts),
+    }
 }
 
 /// Calls a state of the containers of a line; prefixes are taken at once, and so is what refuses the byte behind them.

@@ -17,7 +17,7 @@ returns-in-LeafAfter c =
       runs = λ fine.
           subst (λ (x : FlowState). RunsHere FlowStep (n.Flow x) w c.leaf_end.result w')
           (sym c.in-LeafAfter.is) (c.leaf_end.ensures.runs fine);
-      sees = c.leaf_end.ensures.sees;
+      sees = λ fine. c.leaf_end.ensures.sees fine w;
     }
 
 pub returns-in-After : goal.returns-in-After
@@ -28,7 +28,7 @@ returns-in-After c =
       runs = λ fine.
           subst (λ (x : FlowState). RunsHere FlowStep (n.Flow x) w c.line_end.result w')
           (sym c.in-After.is) (c.line_end.ensures.runs fine);
-      sees = c.line_end.ensures.sees;
+      sees = λ fine. c.line_end.ensures.sees fine w;
     }
 
 pub returns-in-BeforeContent : goal.returns-in-BeforeContent

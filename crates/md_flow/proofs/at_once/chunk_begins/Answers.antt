@@ -9,8 +9,7 @@ use Rattle.md_engine.specs.declared.state.State.TheVariants.{Error, Retry}
 use Rattle.md_engine.proofs.StayLemmas.{within-world}
 use Rattle.md_engine.proofs.Walks.{Within}
 use Rattle.md_content.specs.Chunks.{chunk_start_transition}
-use Rattle.md_seam.specs.Spaces.{ends_line}
-use Rattle.md_registry.proofs.LinesAtOnce.{Goes, chunk-leaves, goes-through, leaves-once}
+use Rattle.md_registry.proofs.LinesAtOnce.{Goes, goes-through, leaves-once}
 use Rattle.md_flow.proofs.at_once.chunk_begins.Goals as goal
 
 starts : (w : World) (to : State) (new : World) → w.current ≡ looks w → Within w →
@@ -30,13 +29,10 @@ returns-in-Retry-Content-ChunkInside c =
     let w = world c.args.tokenizer.now in
     let u = world c.chunk_start.new.tokenizer in
     let at = c.in-Retry-Content-ChunkInside in
-    let all = λ (fine : c.chunk_inside.result ≢ Error).
+    let all = λ (fine : c.chunk.result ≢ Error).
     goes-through (n.Content content.ChunkStart) (n.Content content.ChunkInside) w u c.chunk_start.result
-    c.chunk_inside.result (world c.chunk_inside.new.tokenizer) c.requires.current
-    (named _ _ _ _ at.is at.field-0-is at.field-0-0-is)
+    c.chunk.result (world c.chunk.new.tokenizer) c.requires.current (named _ _ _ _ at.is at.field-0-is at.field-0-0-is)
     (starts w _ u c.requires.current (within-world c.args.tokenizer.now) c.chunk_start.ensures.to
     c.chunk_start.ensures.world)
-    (λ saw. leaves-once (n.Content content.ChunkInside) u c.chunk_inside.result (world c.chunk_inside.new.tokenizer)
-    (chunk-leaves u (ends_line u.current)) (c.chunk_inside.ensures.to fine) (c.chunk_inside.ensures.world fine) fine saw
-    (within-world c.chunk_start.new.tokenizer)) in
+    (λ saw. (c.chunk.ensures.runs fine, c.chunk.ensures.sees fine)) in
     record { runs = λ fine. (all fine).0; sees = λ fine. (all fine).1 }

@@ -8,6 +8,7 @@ use Rattle.md_engine.proofs.StayLemmas.{within-world}
 use Rattle.md_engine.proofs.Walks.{then-stays}
 use Rattle.md_registry.specs.States.{FlowStep}
 use Rattle.md_registry.proofs.LinesAtOnce.{ends-with, line-leaves}
+use Rattle.md_flow.proofs.LineEnds.{end-sees}
 use Rattle.md_flow.proofs.at_once.line_end.Goals as goal
 
 pub returns-clause-runs : goal.returns-clause-runs
@@ -25,3 +26,7 @@ returns-clause-runs c = λ fine.
     (ends-with (n.Flow flow.After) (n.Document document.FlowEnd) w u c.flow_end.result
     (world c.flow_end.new.tokenizer) came (line-leaves u) (c.flow_end.ensures.to fine) (c.flow_end.ensures.world fine)
     fine seen (within-world c.after.new._tokenizer) (ap (λ (x : World). x.point) same)).0
+
+pub returns-clause-sees : goal.returns-clause-sees
+returns-clause-sees c = λ fine from.
+    end-sees (world c.after.new._tokenizer) c.flow_end.result (c.flow_end.ensures.to fine) from (world c.flow_end.new.tokenizer)

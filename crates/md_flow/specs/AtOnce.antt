@@ -1,0 +1,28 @@
+-- What functions that take several states in one call know of the states in front of them and behind them.
+use Rattle.std.specs.Prelude.{◌≡◌, Bool, false, List, ◌∷◌}
+use Rattle.md_engine.specs.declared.state.Name.{Name as StateName}
+use Rattle.md_engine.specs.declared.state.Name.TheVariants as n
+use Rattle.md_engine.specs.declared.state.State.{State}
+use Rattle.md_engine.specs.declared.state.State.TheVariants.{Next}
+use Rattle.md_engine.specs.declared.tokenizer.Frame.{Frame}
+use Rattle.md_engine.specs.Going.{SeesOn}
+use Rattle.md_engine.specs.Run.{RunsHere}
+use Rattle.md_engine.specs.World.{World, looks}
+use Rattle.md_registry.specs.Flow.{leaf_end}
+use Rattle.md_registry.specs.States.{FlowStep}
+
+-- The innermost attempt is one at a leaf: where it holds, the line ends, and the leaf is shut or may be open behind it.
+pub record IsTried (shuts : Bool) (w : World) : Type 0 where
+  pub frame : Frame
+  pub outer : List Frame
+  pub frames : w.frames ≡ frame ∷ outer
+  pub moves_on : frame.is_check ≡ false
+  pub ok : frame.ok ≡ Next (n.Flow (leaf_end shuts))
+
+-- a run from a state to an answer, where it leaves the tokenizer so
+abbrev pub Goes : StateName → World → State → World → Type 0
+Goes name w to new = RunsHere FlowStep name w to new × SeesOn to w new
+
+-- each run that comes to an answer goes on to another
+abbrev pub GoesOn : State → World → State → World → Type 0
+GoesOn s w to new = (first : StateName) (old : World) → old.current ≡ looks old → Goes first old s w → Goes first old to new
