@@ -222,16 +222,6 @@ texted-other at text last es d here no_text no_run inside h = record {
         ≡ resolved (Within first (last_point text es) (last_point last es) h.closing (h.since ++ e ∷ [])) rest
     one first e rest i j k = rw (i, j, k) refl
 
--- behind all of them
-pub texted-done : (at text last : ℕ) (es : List Event) → IsTexted at text last es → drop at es ≡ [] → (first : Point) →
-    resolved (Within first None None [] []) es ≡ texted first text es
-texted-done at text last es h none first =
-    h.set first ∙ ap (resolved (Within first (last_point text es) (last_point last es) h.closing h.since)) none
-    ∙ append_assoc (text_between first (last_point text es)) h.closing h.since
-    ∙ ap (λ (l : List Event). text_between first (last_point text es) ++ l)
-    (sym (append-nil (h.closing ++ h.since)) ∙ ap (λ (l : List Event). h.closing ++ h.since ++ l) (sym none)
-    ∙ h.behind_text)
-
 -- The whole heading.
 
 -- no heading ends in front of its end
