@@ -16,37 +16,37 @@ pub trait Test {
         ensures { result ≡ passes self.now event.now };
 }
 
+/// How many of the events come before the first that fails, which is looked for one by one.
+#[inline(always)]
+fn passing_each<T: Test>(test: &T, events: &[Event]) -> usize
+    ensures value { result ≡ prefix_len (T.passes test.now) events.now }
+    ensures within { result ≤ length events.now }
+{
+    let mut at = 0;
+    while at < events.len() && test.passes(&events[at]) {
+        at += 1;
+    }
+    at
+}
+
+/// So many events are tested in a round.
+const ROUND: usize = 8;
+
 /// How many of the events come before the first that fails.
 ///
-/// Such walks go over all events of a text, so eight are tested before the next round.
+/// Such walks go over all events of a text, so the end of the events is looked for only once a round.
 #[inline(always)]
 pub fn passing<T: Test>(test: &T, events: &[Event]) -> usize
     ensures value { result ≡ prefix_len (T.passes test.now) events.now }
     ensures within { result ≤ length events.now }
 {
     let mut at = 0;
-    while events.len() - at >= 8
-        && test.passes(&events[at])
-        && test.passes(&events[at + 1])
-        && test.passes(&events[at + 2])
-        && test.passes(&events[at + 3])
-        && test.passes(&events[at + 4])
-        && test.passes(&events[at + 5])
-        && test.passes(&events[at + 6])
-        && test.passes(&events[at + 7])
-    {
-        at += 8;
+    while events.len() - at >= ROUND {
+        let many = passing_each(test, &events[at..][..ROUND]);
+        at += many;
+        if many < ROUND {
+            return at;
+        }
     }
-    if events.len() - at >= 4
-        && test.passes(&events[at])
-        && test.passes(&events[at + 1])
-        && test.passes(&events[at + 2])
-        && test.passes(&events[at + 3])
-    {
-        at += 4;
-    }
-    while at < events.len() && test.passes(&events[at]) {
-        at += 1;
-    }
-    at
+    at + passing_each(test, &events[at..])
 }

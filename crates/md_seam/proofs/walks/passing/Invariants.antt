@@ -9,11 +9,3 @@ invariant-loop-at g l =
 
 abbrev pub decreases-loop-at : goal.decreases-loop-at
 decreases-loop-at g l = length l.events - l.at
-
-abbrev pub invariant-loop-at-2 : goal.invariant-loop-at-2
-invariant-loop-at-2 g l =
-    (prefix_len (g.T.Test.passes l.test) l.events ≡ l.at + prefix_len (g.T.Test.passes l.test) (drop l.at l.events))
-    × (l.at ≤ length l.events)
-
-abbrev pub decreases-loop-at-2 : goal.decreases-loop-at-2
-decreases-loop-at-2 g l = length l.events - l.at
