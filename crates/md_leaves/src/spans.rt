@@ -28,14 +28,16 @@ use md_seam::rewriting::Rewriting;
 use md_seam::walks::{Test, passing};
 
 /// Whether these events are of a leaf block of several lines.
+///
+/// Names that are no neighbours are asked for apart: so this is a test of a bit, where one match is a jump by a table.
 #[inline(always)]
 fn has_lines(name: Name) -> bool
     ensures { result ≡ has_lines (role name) }
 {
-    matches!(
-        name,
-        Name::CodeIndented | Name::CodeFenced | Name::MathFlow | Name::HtmlFlow | Name::GfmTable
-    )
+    matches!(name, Name::CodeIndented | Name::CodeFenced)
+        || matches!(name, Name::MathFlow)
+        || matches!(name, Name::HtmlFlow)
+        || matches!(name, Name::GfmTable)
 }
 
 /// Whether these events are of an underline.

@@ -52,18 +52,16 @@ fn begins_table(event: &Event) -> bool
 }
 
 /// Whether events of this name are of an item, an ATX heading, a paragraph, an underline or a table; all others pass.
+///
+/// Names that are no neighbours are asked for apart: so this is a test of a bit, where one match is a jump by a table.
 #[inline(always)]
 fn is_set(name: Name) -> bool
     ensures { result ≡ is_set name }
 {
-    matches!(
-        name,
-        Name::ListItem
-            | Name::HeadingAtx
-            | Name::Paragraph
-            | Name::HeadingSetextUnderline
-            | Name::GfmTable
-    )
+    matches!(name, Name::ListItem)
+        || matches!(name, Name::HeadingAtx)
+        || matches!(name, Name::HeadingSetextUnderline)
+        || matches!(name, Name::Paragraph | Name::GfmTable)
 }
 
 /// Whether an event passes as it is outside of ATX headings.
