@@ -105,6 +105,7 @@ fn stay<T: Table>(tokenizer: &mut Tokenizer, state: State)
 }
 
 /// Calls the state of this name, and then each that stays at what stands here, which is seen already.
+#[inline(always)]
 fn call_here<T: Table>(tokenizer: &mut Tokenizer, first: StateName) -> State
     requires current { (world tokenizer.old).current ≡ looks (world tokenizer.old) }
     requires stands { stands T.scheme (world tokenizer.old) (State.Next first) }

@@ -219,6 +219,7 @@ impl Found {
     }
 
     /// Writes what belongs to the next chunk, which ends at the byte `end`.
+    #[inline(always)]
     fn place(&mut self, events: &mut Rewriting, end: usize) -> Result<(), Message>
         requires { 0 < self.old.chunks }
         ensures same { self.new.events ≡ self.old.events }
