@@ -56,7 +56,7 @@ reads-plain options bytes built small =
     let are : AreRows options bytes [] held_leaf.None p lines rows = text-are options bytes built small in
     let nests : Nests options bytes p (groups rows) = rows-nest options bytes p lines rows are in
     let nested : Nested events =
-    front-nested p front (groups_events options bytes (groups rows)) part.nested nests.balanced nests.forward in
+    front-nested p front (groups_events options bytes (groups rows)) part.stretch.nested nests.balanced nests.forward in
     let held : ItemsHeld [] events = events-held options bytes p front lines rows part are in
     let same : listed bytes events ≡ plain_read bytes (block_list options bytes) = read-is options bytes built small in
     record {

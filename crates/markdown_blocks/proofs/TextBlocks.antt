@@ -77,6 +77,7 @@ use Rattle.md_rows.proofs.TileParts.{blocks-chunks, blocks-nested, blocks-stand}
 use Rattle.md_rows.proofs.TileReads.{blocks-empty, end-unread, text-filled}
 use Rattle.md_container_rooms.proofs.ListedFront.{listed-front}
 use Rattle.markdown_blocks.proofs.TreeRows.{body-rows, body-shallow, body_of, tree-body}
+use Rattle.md_frame.proofs.LeafStands.{roles-unlisted}
 
 -- Then the lines of each leaf of several were joined, lists were put around items, and headings and tables were set.
 resolved-are : (options : ParseOptions) (bytes : List ℕ) → IsWithoutMdx options → length bytes < 2 ^ 61 →
@@ -173,10 +174,10 @@ read-listed options bytes built small =
     let rows : List Row = rows_of options bytes in
     let part = part-of options bytes in
     let are : AreRows options bytes [] held_leaf.None p lines rows = text-are options bytes built small in
-    ap (listed bytes) (text-filled options bytes p (front_events options bytes) lines part.filled are).read
+    ap (listed bytes) (text-filled options bytes p (front_events options bytes) lines part.stretch.filled are).read
     ∙ sym
     (listed-plain bytes bytes (blocks_of options bytes)
-    (blocks-chunks options bytes [] held_leaf.None p (front_events options bytes) lines rows part.parts (refl, refl) are
+    (blocks-chunks options bytes [] held_leaf.None p (front_events options bytes) lines rows part.stretch.parts (refl, refl) are
     (text-quiet options bytes p)))
 
 -- The blocks of a text, in front of the resolver of lists.
@@ -191,14 +192,14 @@ blocks-unlisted options bytes built small placed =
     let front : List Event = front_events options bytes in
     let are : AreRows options bytes [] held_leaf.None p lines rows = text-are options bytes built small in
     record {
-      nested = blocks-nested options bytes p front lines rows part.nested are;
+      nested = blocks-nested options bytes p front lines rows part.stretch.nested are;
       items = blocks-held options bytes p front lines rows part are;
       placed = placed;
       lines =
-          blocks-stand options bytes [] held_leaf.None p front lines rows part.parts (refl, refl) are
+          blocks-stand options bytes [] held_leaf.None p front lines rows part.stretch.parts (refl, refl) are
           (text-quiet options bytes p);
       chunks =
-          blocks-chunks options bytes [] held_leaf.None p front lines rows part.parts (refl, refl) are
+          blocks-chunks options bytes [] held_leaf.None p front lines rows part.stretch.parts (refl, refl) are
           (text-quiet options bytes p);
       grammar =
           blocks-grammar options bytes p front lines rows leaves (end-unread options bytes p small) are
@@ -228,7 +229,7 @@ pub front-listed : (options : ParseOptions) (bytes : List ℕ) →
 front-listed options bytes =
     sym
     (listed-front bytes (front_events options bytes) (tabled_groups options bytes (groups (rows_of options bytes)))
-    (part-of options bytes).unlisted)
+    (roles-unlisted (front_events options bytes) (part-of options bytes).stretch.roles))
     ∙ block_list-is options bytes
 
 pub blocks-read : (options : ParseOptions) (bytes : List ℕ) (start : Point) (found : Found) (new : World)
@@ -264,7 +265,7 @@ has-blocks options bytes built utf8 small placed =
     let begins = begun options bytes in
     let are : AreRows options bytes [] held_leaf.None p lines rows = text-are options bytes built small in
     let nests : Nests options bytes p (groups rows) = rows-nest options bytes p lines rows are in
-    let nested : Nested events = front-nested p front body part.nested nests.balanced nests.forward in
+    let nested : Nested events = front-nested p front body part.stretch.nested nests.balanced nests.forward in
     let stand : ItemsStand bytes root events = events-stand options bytes p front lines rows part are in
     let held : ItemsHeld [] events = events-held options bytes p front lines rows part are in
     let shows : spelled body bytes ≡ body_of options bytes p = body-rows options built bytes p rows are in
@@ -280,7 +281,7 @@ has-blocks options bytes built utf8 small placed =
       list = list;
       covers =
           subst (λ (l : List Event). Covers first_point (pieces l) (end_point bytes)) same
-          (listed-covers bytes blocks (blocks-cover options bytes p front lines rows part.tiled are));
+          (listed-covers bytes blocks (blocks-cover options bytes p front lines rows part.stretch.tiled are));
       spells =
           sym
           (spelled-filled bytes (block_list options bytes)

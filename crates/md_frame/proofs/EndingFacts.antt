@@ -20,10 +20,14 @@ use Rattle.md_frame.proofs.ChunkFacts.{ending-order, ending-stands, line-ending}
 use Rattle.md_frame.proofs.GrammarFronts.{blocks_behind}
 use Rattle.md_frame.proofs.LeafFacts.{spot_behind}
 use Rattle.md_frame.proofs.LeafStands.{between-unlisted}
+use Rattle.md_frame.proofs.BetweenFacts.{between-pair}
 use Rattle.md_frame.proofs.PartFacts.{NoLinks, NoParts}
+use Rattle.md_frame.proofs.PartedFacts.{Still, sits-still}
 use Rattle.md_frame.proofs.PieceFacts.{PiecesValid, stood-pair}
 use Rattle.md_seam.proofs.FeedLines.{IsEnding}
 use Rattle.md_frame.proofs.SpanLemmas.{Nested_in, around-nested}
+use Rattle.md_frame.proofs.PiecesLemmas.{tiled-pair}
+use Rattle.md_frame.proofs.Stretch.{Stretch, stretch-same}
 use Rattle.md_frame.proofs.Unmarked.{inline-unmarked}
 
 -- what holds of both names
@@ -68,6 +72,16 @@ pub ending-stood : (bytes : List ℕ) (blank : Bool) (p q : Point) → p.vs ≡ 
 ending-stood bytes blank p q whole is =
     stood-pair bytes (ending_name blank) p q
     (ending-stands bytes (ending_name blank) p q (ending-named blank) whole is)
+
+-- So it is a stretch.
+pub stretch-ended : (R : Role → Type 0) (bytes : List ℕ) (blank : Bool) (p q : Point) → R IsQuiet → R EndingRole →
+    p.vs ≡ 0 → IsEnding bytes p q → Stretch R bytes p q (pair (ending_name blank) p q) (pair (ending_name blank) p q)
+stretch-ended R bytes blank p q quiet ending whole is =
+    let name = ending_name blank in
+    stretch-same R bytes p q (pair name p q) (ended-roles R blank p q quiet ending) (ending-nested bytes name p q is)
+    (tiled-pair name p q) (ending-stood bytes blank p q whole is) (ending-no_parts blank p q)
+    (ending-unlinked blank p q) (between-pair bytes name p q)
+    (sits-still bytes (pair name p q) (ended-roles Still blank p q tt tt))
 
 -- Behind it blocks may stand, as behind one or not,
 pub ending-word : (text : Expression) (blank : Bool) (p q : Point) (block : Bool) →

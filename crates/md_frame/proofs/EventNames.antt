@@ -19,7 +19,8 @@ use Rattle.md_outline.specs.LinesStand.{HasLines}
 use Rattle.md_outline.specs.Roles.{is_plain, is_unlisted}
 use Rattle.md_seam.specs.Events.Prefix.{is_prefix}
 use Rattle.md_seam.specs.Events.Spelled.{AsCell, AsDelimiter, AsDestination, AsHeading, AsInfo, AsLabel, AsLine, AsMeta}
-use Rattle.md_seam.specs.Events.Spelled.{AsTitle, IsCell, IsFence, IsRow, IsTitle, LeafKind, LeafRole, OfCode}
+use Rattle.md_seam.specs.Events.Spelled.{AsTitle, ContainerRole, IsCell, IsFence, IsRow, IsTitle, LeafKind, LeafRole}
+use Rattle.md_seam.specs.Events.Spelled.{OfCode}
 use Rattle.md_seam.specs.Events.Spelled.{OfDefinition, OfFence, OfFrontmatter, OfHeadingSetext, OfHtml, OfMath, OfTable}
 use Rattle.md_seam.specs.Events.Spelled.{Role, TextRole, role}
 
@@ -128,13 +129,22 @@ lined-opened n.GfmTable h = cc
 lined-opened n.LineEnding h = cc
 lined-opened _ h = refl
 
--- Parts of a leaf: none is one around which, or in whose place, another is put.
+-- Names of no container: none is one around which, or in whose place, another is put.
 
-pub part-unlisted : (name : Name) → IsPart (role name) → in_place name ≡ name
-part-unlisted n.ListItem h = absurd h
-part-unlisted n.ListOrdered h = absurd h
-part-unlisted n.ListUnordered h = absurd h
-part-unlisted _ h = refl
+abbrev pub NoContainer : Role → Type 0
+NoContainer (ContainerRole shape) = ⊥
+NoContainer _ = Unit {0}
+
+pub name-unlisted : (name : Name) → NoContainer (role name) → in_place name ≡ name
+name-unlisted n.ListItem h = absurd h
+name-unlisted n.ListOrdered h = absurd h
+name-unlisted n.ListUnordered h = absurd h
+name-unlisted _ h = refl
+
+-- so it is with each part of a leaf
+pub part-no_container : (x : Role) → IsPart x → NoContainer x
+part-no_container (ContainerRole shape) h = absurd h
+part-no_container _ h = tt
 
 -- Roles: one that is plain is shown, and of nothing that is put around others,
 

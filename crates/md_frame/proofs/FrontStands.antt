@@ -21,11 +21,14 @@ use Rattle.md_frame.proofs.PieceFacts.{PiecesValid, stood-append, stood-none}
 use Rattle.md_frame.proofs.PrefixFacts.{Opens, Continues}
 use Rattle.md_outline.specs.Between.{is_between}
 use Rattle.md_frame.proofs.BetweenFacts.{AreBetween, between-append, between-more}
-use Rattle.md_seam.specs.Events.Spelled.{role}
+use Rattle.md_seam.specs.Events.Spelled.{IsPrefix, IsQuiet, IsQuoteMarker, Role, role}
 use Rattle.md_outline.specs.Outlined.{OpenTextSpan, are_parted}
 use Rattle.md_frame.proofs.PlainFacts.{ArePlain, Untold, plain-append, plain-nil, plain-untold}
 use Rattle.md_frame.proofs.PartedFacts.{PrefixesAtLineStart, Still, clear, clear-between, sits-append, sits-still}
+use Rattle.md_frame.proofs.FrontLemmas.{fronts-balanced, fronts-spans}
+use Rattle.md_frame.proofs.FrontNames.{fronts-no_parts, fronts-prefixes, fronts-unlinked}
 use Rattle.md_frame.proofs.Reached.{Reaches}
+use Rattle.md_frame.proofs.Stretch.{Stretch, stretch-same}
 use Rattle.md_frame.proofs.PrefixNames.{prefixes-roles}
 use Rattle.md_seam.specs.Events.Endings.{on_line}
 use Rattle.md_seam.proofs.EndingsLemmas.{AreOthers, others-append, is_other}
@@ -164,3 +167,14 @@ fronts-parted bytes opens p r _ span rest (Goes _ _ q _ es fs is more) e between
     (clear-between bytes q (fronts-clear bytes opens q r fs more at) behind)
     (λ next k. fronts-parted bytes opens q r fs next rest more e behind at k f)
 fronts-parted bytes _ p r _ span rest (Begins c opens _ q _ es fs is more) e between at reaches f = cc
+
+-- Where no container opens, it is a stretch.
+pub stretch-front : (R : Role → Type 0) (bytes : List ℕ) (p q : Point) (front : List Event) → R IsQuiet → R IsPrefix →
+    R IsQuoteMarker → LinePrefix bytes [] p q front → Stretch R bytes p q front front
+stretch-front R bytes p q front quiet prefix marker is =
+    stretch-same R bytes p q front
+    (prefixes-roles R front quiet prefix marker (fronts-prefixes bytes [] p q front refl is))
+    (fronts-balanced bytes [] p q front is refl, fronts-spans bytes [] p q front is)
+    (fronts-tiled bytes [] p q front is) (fronts-stood bytes [] p q front is) (fronts-no_parts bytes p q front is)
+    (fronts-unlinked bytes p q front is) (λ first last. (fronts-between bytes [] p q front first is).0)
+    (fronts-sit bytes [] p q front is)

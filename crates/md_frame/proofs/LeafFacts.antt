@@ -6,28 +6,24 @@ use Rattle.std.proofs.Common.{◌≡◌, ℕ, Bool, true, false, List, [], ◌�
 use Rattle.std.specs.Prelude.{Option, Some, None, slice_range}
 use Rattle.md_engine.specs.declared.event.Event.{Event}
 use Rattle.md_engine.specs.declared.event.Point.{Point}
-use Rattle.md_containers.proofs.UnlistedLemmas.{NoListing, StandsTo, among}
+use Rattle.md_containers.proofs.UnlistedLemmas.{StandsTo, among}
 use Rattle.md_seam.specs.Events.Endings.{EndingPlace, line_start}
 use Rattle.md_seam.specs.Events.Grammar.{blocks, plain_text, unread_text}
 use Rattle.md_seam.specs.Events.Places.{past_text}
 use Rattle.md_seam.specs.Events.Spelled.{Reading, add_block, read}
 use Rattle.md_meaning.specs.Rest.{Rest}
 use Rattle.md_meaning.specs.Tree.{Block}
-use Rattle.md_outline.specs.Between.{is_between}
 use Rattle.md_seam.proofs.EndingsLemmas as ending
 use Rattle.md_seam.proofs.GrammarLemmas as grammar
 use Rattle.md_seam.proofs.RestCells.{Cut}
 use Rattle.md_meaning.proofs.TextsLemmas.{NoEnding}
 use Rattle.md_frame.specs.RestLine.{rest_line}
-use Rattle.md_frame.proofs.BetweenFacts.{AreBetween}
-use Rattle.md_frame.proofs.FillFacts.{PartsRead}
 use Rattle.md_frame.proofs.GrammarFronts.{blocks_behind}
-use Rattle.md_frame.proofs.PartedFacts.{PrefixesAtLineStart, clear}
-use Rattle.md_frame.proofs.PartsStand.{PartsWhole}
-use Rattle.md_frame.proofs.PieceFacts.{CutsFirst, PiecesValid}
-use Rattle.md_frame.proofs.PiecesLemmas.{Covered}
+use Rattle.md_frame.proofs.PartedFacts.{clear}
+use Rattle.md_frame.proofs.PieceFacts.{CutsFirst}
+use Rattle.md_frame.proofs.EventNames.{NoContainer}
 use Rattle.md_frame.proofs.PlainFacts.{ArePlain}
-use Rattle.md_frame.proofs.SpanLemmas.{Nested_in}
+use Rattle.md_frame.proofs.Stretch.{Stretch}
 
 -- a rest of a line, as it stands in a text: its bytes, a tab that a prefix has cut among them, and where it begins and
 -- ends
@@ -53,117 +49,25 @@ abbrev pub shown : Option Block → Reading → Reading
 shown None r = r
 shown (Some block) r = add_block block r
 
--- These events stand from a point to a point before text parts are read, and those once they are; they show this block,
--- or none, and something stands on their last line, or nothing does.
+-- These events stand from a point to a point before text parts are read, and those once they are, as a leaf does
+-- whatever it is read as; something stands on their last line, or nothing does.
+pub record StandFacts (bytes : List ℕ) (full : Bool) (p q : Point) (unread done : List Event) : Type 0 where
+  pub stretch : Stretch NoContainer bytes p q unread done
+  -- whether the grammar stands behind a block there, or where blocks may begin as at first
+  pub behind : Bool
+  -- they keep the grammar
+  pub unread_word : grammar.Leads unread_text (blocks ∷ []) (blocks_behind behind ∷ []) unread
+  pub word : grammar.Leads plain_text (blocks ∷ []) (blocks_behind behind ∷ []) done
+  -- and where their line ends
+  pub unread_ending : ending.Leads line_start (spot_behind full) unread
+  pub ending : ending.Leads line_start (spot_behind full) done
+  -- they are where blocks may be, and may be outlined
+  pub stands : (held : List Bool) → StandsTo bytes (among held) (among held) done
+  pub plain : clear bytes p ≡ true → ArePlain bytes done
+
+-- They show this block, or none.
 pub record LeafFacts (bytes : List ℕ) (block : Option Block) (full : Bool) (p q : Point)
     (unread done : List Event) : Type 0 where
-  -- they nest, and go forward
-  pub unread_nested : Nested_in p q unread
-  pub nested : Nested_in p q done
-  -- they cover what stands there
-  pub tiled : Covered p q unread
-  -- their pieces are over what their names say
-  pub unread_stood : PiecesValid bytes unread
-  pub stood : PiecesValid bytes done
-  -- whether the grammar stands behind a block there, or where blocks may begin as at first
-  pub behind : Bool
-  -- they keep the grammar
-  pub unread_word : grammar.Leads unread_text (blocks ∷ []) (blocks_behind behind ∷ []) unread
-  pub word : grammar.Leads plain_text (blocks ∷ []) (blocks_behind behind ∷ []) done
-  -- and where their line ends
-  pub unread_ending : ending.Leads line_start (spot_behind full) unread
-  pub ending : ending.Leads line_start (spot_behind full) done
-  -- nothing is put around any of them, and they are where blocks may be
-  pub unread_unlisted : NoListing unread
-  pub unlisted : NoListing done
-  pub stands : (held : List Bool) → StandsTo bytes (among held) (among held) done
-  -- their text parts are whole, and are read in the places of their chunks
-  pub parts : PartsWhole bytes unread
-  pub filled : PartsRead bytes unread done
-  -- they stand between characters, and may be outlined
-  pub between : is_between bytes p.index ≡ true → is_between bytes q.index ≡ true → AreBetween bytes done
-  pub parted : PrefixesAtLineStart bytes done
-  pub plain : clear bytes p ≡ true → ArePlain bytes done
+  pub stand : StandFacts bytes full p q unread done
   -- they are read as their block
   pub reads : (r : Reading) → r.text ≡ None → r.leaf ≡ None → read bytes r done ≡ shown block r
-
--- The same, whatever they are read as.
-pub record StandFacts (bytes : List ℕ) (full : Bool) (p q : Point) (unread done : List Event) : Type 0 where
-  -- they nest, and go forward
-  pub unread_nested : Nested_in p q unread
-  pub nested : Nested_in p q done
-  -- they cover what stands there
-  pub tiled : Covered p q unread
-  -- their pieces are over what their names say
-  pub unread_stood : PiecesValid bytes unread
-  pub stood : PiecesValid bytes done
-  -- whether the grammar stands behind a block there, or where blocks may begin as at first
-  pub behind : Bool
-  -- they keep the grammar
-  pub unread_word : grammar.Leads unread_text (blocks ∷ []) (blocks_behind behind ∷ []) unread
-  pub word : grammar.Leads plain_text (blocks ∷ []) (blocks_behind behind ∷ []) done
-  -- and where their line ends
-  pub unread_ending : ending.Leads line_start (spot_behind full) unread
-  pub ending : ending.Leads line_start (spot_behind full) done
-  -- nothing is put around any of them, and they are where blocks may be
-  pub unread_unlisted : NoListing unread
-  pub unlisted : NoListing done
-  pub stands : (held : List Bool) → StandsTo bytes (among held) (among held) done
-  -- their text parts are whole, and are read in the places of their chunks
-  pub parts : PartsWhole bytes unread
-  pub filled : PartsRead bytes unread done
-  -- they stand between characters, and may be outlined
-  pub between : is_between bytes p.index ≡ true → is_between bytes q.index ≡ true → AreBetween bytes done
-  pub parted : PrefixesAtLineStart bytes done
-  pub plain : clear bytes p ≡ true → ArePlain bytes done
-
--- so it is for each leaf
-pub stand-of : (bytes : List ℕ) (block : Option Block) (full : Bool) (p q : Point) (unread done : List Event) →
-    LeafFacts bytes block full p q unread done → StandFacts bytes full p q unread done
-stand-of bytes block full p q unread done is = record {
-  unread_nested = is.unread_nested;
-  nested = is.nested;
-  tiled = is.tiled;
-  unread_stood = is.unread_stood;
-  stood = is.stood;
-  behind = is.behind;
-  unread_word = is.unread_word;
-  word = is.word;
-  unread_ending = is.unread_ending;
-  ending = is.ending;
-  unread_unlisted = is.unread_unlisted;
-  unlisted = is.unlisted;
-  stands = is.stands;
-  parts = is.parts;
-  filled = is.filled;
-  between = is.between;
-  parted = is.parted;
-  plain = is.plain;
-}
-
--- and with what it is read as
-pub leaf-of : (bytes : List ℕ) (block : Option Block) (full : Bool) (p q : Point) (unread done : List Event) →
-    StandFacts bytes full p q unread done →
-    ((r : Reading) → r.text ≡ None → r.leaf ≡ None → read bytes r done ≡ shown block r) →
-    LeafFacts bytes block full p q unread done
-leaf-of bytes block full p q unread done is reads = record {
-  unread_nested = is.unread_nested;
-  nested = is.nested;
-  tiled = is.tiled;
-  unread_stood = is.unread_stood;
-  stood = is.stood;
-  behind = is.behind;
-  unread_word = is.unread_word;
-  word = is.word;
-  unread_ending = is.unread_ending;
-  ending = is.ending;
-  unread_unlisted = is.unread_unlisted;
-  unlisted = is.unlisted;
-  stands = is.stands;
-  parts = is.parts;
-  filled = is.filled;
-  between = is.between;
-  parted = is.parted;
-  plain = is.plain;
-  reads = reads;
-}

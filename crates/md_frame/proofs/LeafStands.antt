@@ -17,7 +17,8 @@ use Rattle.md_seam.specs.Events.Spelled.{LeafRole, Role, TextRole}
 use Rattle.md_seam.specs.Events.Spelled.{role}
 use Rattle.md_seam.proofs.SpelledLemmas.{Between, Quiet, Roles}
 use Rattle.md_frame.specs.EndingName.{ending_name}
-use Rattle.md_frame.proofs.EventNames.{part-unlisted}
+use Rattle.md_frame.proofs.EventNames.{NoContainer, name-unlisted, part-no_container}
+use Rattle.md_frame.proofs.Stretch.{roles-as}
 use Rattle.md_frame.specs.Row.{Row, ending_events}
 
 -- What is open.
@@ -105,12 +106,15 @@ leaf-stands bytes held name kind p q inside is parts =
 
 -- Nothing is put around events in a leaf.
 
+pub roles-unlisted : (es : List Event) → Roles NoContainer es → NoListing es
+roles-unlisted [] h = tt
+roles-unlisted (e ∷ es) h = (name-unlisted e.name h.0, roles-unlisted es h.1)
+
 pub parts-unlisted : (es : List Event) → Roles IsPart es → NoListing es
-parts-unlisted [] h = tt
-parts-unlisted (e ∷ es) h = (part-unlisted e.name h.0, parts-unlisted es h.1)
+parts-unlisted es h = roles-unlisted es (roles-as part-no_container es h)
 
 -- nor does any stand between blocks
-between-part : (x : Role) → Between x → IsPart x
+pub between-part : (x : Role) → Between x → IsPart x
 between-part IsQuiet h = tt
 between-part IsPrefix h = tt
 between-part IsQuoteMarker h = tt
@@ -118,17 +122,23 @@ between-part IsEnding h = tt
 between-part _ h = absurd h
 
 pub between-parts : (es : List Event) → Roles Between es → Roles IsPart es
-between-parts [] h = tt
-between-parts (e ∷ es) h = (between-part (role e.name) h.0, between-parts es h.1)
+between-parts es h = roles-as between-part es h
 
 -- and what the tree does not show is such a part
-quiet-part : (x : Role) → Quiet x → IsPart x
+pub quiet-part : (x : Role) → Quiet x → IsPart x
 quiet-part IsQuiet h = tt
 quiet-part _ h = absurd h
 
 pub quiets-parts : (es : List Event) → Roles Quiet es → Roles IsPart es
-quiets-parts [] h = tt
-quiets-parts (e ∷ es) h = (quiet-part (role e.name) h.0, quiets-parts es h.1)
+quiets-parts es h = roles-as quiet-part es h
+
+-- and stands between blocks
+pub quiets-between : (es : List Event) → Roles Quiet es → Roles Between es
+quiets-between es h = roles-as one es h
+  where
+    one : (x : Role) → Quiet x → Between x
+    one IsQuiet h = tt
+    one _ h = absurd h
 
 pub between-unlisted : (es : List Event) → Roles Between es → NoListing es
 between-unlisted es h = parts-unlisted es (between-parts es h)

@@ -35,12 +35,13 @@ pub mod MarkRuns
 pub mod NestedEvents
 pub mod OneChunk
 pub mod OneLine
+pub mod OneText
 pub mod OtherNames
 pub mod OutsideFacts
 pub mod ParagraphLines
 pub mod PartFacts
 pub mod PartedFacts
-pub mod PartsAround
+pub mod PartsFacts
 pub mod PartsStand
 pub mod PassedFacts
 pub mod PieceFacts
@@ -63,6 +64,7 @@ pub mod LeafLines
 pub mod SpanLaws
 pub mod SpanLemmas
 pub mod SpannedFacts
+pub mod Stretch
 pub mod SubstitutedLemmas
 pub mod TextBehind
 pub mod TextLaws

@@ -1,4 +1,4 @@
--- Runs of one marker and of whitespace: how they nest and lie side by side, and what they are over.
+-- Runs of one marker and of whitespace: each is a piece over its bytes, and all of them are a stretch.
 use Rattle.std.proofs.Common.{◌≡◌, ◌≢◌, ℕ, ◌<◌, Bool, true, false, ◌&&◌, ◌||◌, List, [], ◌∷◌, ◌++◌, length, drop}
 use Rattle.std.proofs.Common.{refl, ap, sym, subst, ◌∙◌, append_assoc, arith}
 use Rattle.std.specs.Prelude.{◌==◌, IsTrue, nat_le}
@@ -7,24 +7,24 @@ use Rattle.std.proofs.lemmas.Bool.{and_from, eqb-true}
 use Rattle.std.proofs.lemmas.Bool.Decides.{nat_tests}
 use Rattle.std.proofs.lemmas.List.{length-append}
 use Rattle.std.proofs.lemmas.List.Folds.{list_all-append}
-use Rattle.md_engine.specs.declared.event.Event.{Event}
-use Rattle.md_engine.specs.declared.event.Kind.TheVariants.{Enter}
 use Rattle.md_engine.specs.declared.event.Name.{Name}
 use Rattle.md_engine.specs.declared.event.Name.TheVariants as n
 use Rattle.md_engine.specs.declared.event.Point.{Point}
-use Rattle.md_seam.specs.Events.Inline.{pieces, pieces_from}
-use Rattle.md_seam.specs.Events.Nested.{Matches, enter, exit, open_after}
-use Rattle.md_seam.specs.Events.Pieces.{is_run, piece_stands, pieces_stand, stands_over}
+use Rattle.md_outline.specs.Between.{is_between}
+use Rattle.md_seam.specs.Events.Nested.{enter, pair}
+use Rattle.md_seam.specs.Events.Pieces.{is_run, piece_stands, stands_over}
 use Rattle.md_seam.specs.Events.Places.{at_or_before, past_byte, past_text}
+use Rattle.md_seam.specs.Events.Spelled.{IsQuiet, Role}
 use Rattle.md_meaning.specs.Rest.{is_white}
-use Rattle.md_seam.proofs.FeedLines.{before-byte, drop-past}
-use Rattle.md_seam.proofs.InlineLemmas.{past-index, past_text-append, same-refl}
-use Rattle.md_seam.proofs.NestedLemmas.{at_or_before-refl, at_or_before-trans}
+use Rattle.md_seam.proofs.FeedLines.{drop-past}
+use Rattle.md_seam.proofs.InlineLemmas.{before-text, past-index, past_text-append}
+use Rattle.md_seam.proofs.PlacesLemmas.{at-next}
 use Rattle.md_frame.specs.MarkRuns.{Apart, Marks, Run, White, mark_runs}
-use Rattle.md_frame.proofs.PiecesLemmas.{Shut, Covered, shut-exit, tiled-enter, tiled-none}
-use Rattle.md_frame.proofs.SpanLemmas.{Nested_in, Spans, either}
+use Rattle.md_frame.proofs.BetweenFacts.{between-before, is_low, white-low}
+use Rattle.md_frame.proofs.SpanLemmas.{either}
 use Rattle.md_frame.proofs.PieceFacts.{CutsFirst, Over, Starts, begins-cut, begins-whole, over-front}
 use Rattle.md_frame.proofs.PieceFacts.{over-stands, span}
+use Rattle.md_frame.proofs.Stretch.{IsPiece, Stretch, stretch-append, stretch-none, stretch-pair}
 
 -- what a run is called
 abbrev run_name : Name → Run → Name
@@ -35,103 +35,6 @@ run_name name White = n.SpaceOrTab
 -- runs of some bytes begin with the begin of one
 pub runs-start : (name : Name) (m b : ℕ) (bs : List ℕ) (p : Point) → Starts (mark_runs name Apart m (b ∷ bs) p)
 runs-start name m b bs p = either Starts (b == m) _ _ refl refl
-
--- How they nest.
-
--- what is open in a run
-abbrev open_in : Name → Run → List Name
-open_in name Apart = []
-open_in name Marks = name ∷ []
-open_in name White = n.SpaceOrTab ∷ []
-
--- where these names are open, events end them, and nothing stays open
-abbrev Ends_all : List Name → List Event → Type 0
-Ends_all names es = Matches names es × (open_after names es ≡ [])
-
--- so the runs that are left do
-runs-end : (name : Name) (run : Run) (m : ℕ) (bs : List ℕ) (p : Point) →
-    Ends_all (open_in name run) (mark_runs name run m bs p)
-runs-end name Apart m [] p = (tt, refl)
-runs-end name Marks m [] p = ((refl, tt), refl)
-runs-end name White m [] p = ((refl, tt), refl)
-runs-end name Apart m (b ∷ bs) p =
-    let marks = runs-end name Marks m bs (past_byte b p) in
-    let white = runs-end name White m bs (past_byte b p) in
-    either (Ends_all []) (b == m) _ _ ((tt, marks.0), marks.1) ((tt, white.0), white.1)
-runs-end name Marks m (b ∷ bs) p =
-    let white = runs-end name White m bs (past_byte b p) in
-    either (Ends_all (name ∷ [])) (b == m) _ _ (runs-end name Marks m bs (past_byte b p))
-    ((refl, (tt, white.0)), white.1)
-runs-end name White m (b ∷ bs) p =
-    let marks = runs-end name Marks m bs (past_byte b p) in
-    either (Ends_all (n.SpaceOrTab ∷ [])) (b == m) _ _ ((refl, (tt, marks.0)), marks.1)
-    (runs-end name White m bs (past_byte b p))
-
--- from a point at or before the one where they are, up to the end of the bytes
-runs-span : (name : Name) (run : Run) (m : ℕ) (bs : List ℕ) (p q : Point) → IsTrue (at_or_before p q) →
-    Spans p (past_text bs q) (mark_runs name run m bs q)
-runs-span name Apart m [] p q h = (tt, h)
-runs-span name Marks m [] p q h = ((h, tt), at_or_before-refl q)
-runs-span name White m [] p q h = ((h, tt), at_or_before-refl q)
-runs-span name Apart m (b ∷ bs) p q h =
-    let on = before-byte q (past_byte b q) (omega arith) in
-    let marks = runs-span name Marks m bs q (past_byte b q) on in
-    let white = runs-span name White m bs q (past_byte b q) on in
-    either (Spans p (past_text bs (past_byte b q))) (b == m) _ _ ((h, marks.0), marks.1) ((h, white.0), white.1)
-runs-span name Marks m (b ∷ bs) p q h =
-    let on = before-byte q (past_byte b q) (omega arith) in
-    let white = runs-span name White m bs q (past_byte b q) on in
-    either (Spans p (past_text bs (past_byte b q))) (b == m) _ _
-    (runs-span name Marks m bs p (past_byte b q) (at_or_before-trans p q (past_byte b q) h on))
-    ((h, (at_or_before-refl q, white.0)), white.1)
-runs-span name White m (b ∷ bs) p q h =
-    let on = before-byte q (past_byte b q) (omega arith) in
-    let marks = runs-span name Marks m bs q (past_byte b q) on in
-    either (Spans p (past_text bs (past_byte b q))) (b == m) _ _ ((h, (at_or_before-refl q, marks.0)), marks.1)
-    (runs-span name White m bs p (past_byte b q) (at_or_before-trans p q (past_byte b q) h on))
-
--- all runs of some bytes nest between their begin and their end
-pub runs-nested : (name : Name) (m : ℕ) (bs : List ℕ) (p : Point) →
-    Nested_in p (past_text bs p) (mark_runs name Apart m bs p)
-runs-nested name m bs p =
-    let ends = runs-end name Apart m bs p in
-    (record { matches = ends.0; closed = ends.1 }, runs-span name Apart m bs p p (at_or_before-refl p))
-
--- How they lie side by side.
-
--- a run that has begun is shut, and others may follow
-runs-shut : (name : Name) (run : Run) (m : ℕ) (bs : List ℕ) (e : Event) (p : Point) → run ≢ Apart → e.kind ≡ Enter →
-    Shut e (past_text bs p) (mark_runs name run m bs p)
-runs-shut name Apart m bs e p ok h = absurd (ok refl)
-runs-shut name Marks m [] e p ok h = shut-exit e (exit name p) p [] h refl (tiled-none p p (same-refl p))
-runs-shut name White m [] e p ok h = shut-exit e (exit n.SpaceOrTab p) p [] h refl (tiled-none p p (same-refl p))
-runs-shut name Marks m (b ∷ bs) e p ok h =
-    let white : Event = enter n.SpaceOrTab p in
-    let end : Point = past_text bs (past_byte b p) in
-    let more : List Event = mark_runs name White m bs (past_byte b p) in
-    either (Shut e end) (b == m) _ _ (runs-shut name Marks m bs e (past_byte b p) ok h)
-    (shut-exit e (exit name p) end (white ∷ more) h refl
-    (tiled-enter white end more refl (runs-shut name White m bs white (past_byte b p) (λ k. cc) refl)))
-runs-shut name White m (b ∷ bs) e p ok h =
-    let marks : Event = enter name p in
-    let end : Point = past_text bs (past_byte b p) in
-    let more : List Event = mark_runs name Marks m bs (past_byte b p) in
-    either (Shut e end) (b == m) _ _
-    (shut-exit e (exit n.SpaceOrTab p) end (marks ∷ more) h refl
-    (tiled-enter marks end more refl (runs-shut name Marks m bs marks (past_byte b p) (λ k. cc) refl)))
-    (runs-shut name White m bs e (past_byte b p) ok h)
-
--- all runs of some bytes cover them
-pub runs-tiled : (name : Name) (m : ℕ) (bs : List ℕ) (p : Point) →
-    Covered p (past_text bs p) (mark_runs name Apart m bs p)
-runs-tiled name m [] p = tiled-none p p (same-refl p)
-runs-tiled name m (b ∷ bs) p =
-    let marks : Event = enter name p in
-    let white : Event = enter n.SpaceOrTab p in
-    let end : Point = past_text bs (past_byte b p) in
-    either (Covered p end) (b == m) _ _
-    (tiled-enter marks end _ refl (runs-shut name Marks m bs marks (past_byte b p) (λ k. cc) refl))
-    (tiled-enter white end _ refl (runs-shut name White m bs white (past_byte b p) (λ k. cc) refl))
 
 -- What they are over.
 
@@ -207,6 +110,12 @@ begun-over : (bytes : List ℕ) (run : Run) (m : ℕ) (p q : Point) (ys rest : L
     Over bytes p q ys
 begun-over bytes run m p q ys rest h = over-front bytes p q ys rest h.text h.some h.end
 
+-- it ends no earlier than it begins
+begun-order : (bytes : List ℕ) (run : Run) (m : ℕ) (p q : Point) (ys rest : List ℕ) → Begun bytes run m p q ys rest →
+    IsTrue (at_or_before p q)
+begun-order bytes run m p q ys rest h =
+    subst (λ (e : Point). IsTrue (at_or_before p e)) (sym h.end) (before-text ys p)
+
 -- its piece
 begun-marks : (bytes : List ℕ) (name : Name) (m : ℕ) (p q : Point) (ys rest : List ℕ) → IsMarker name m →
     Begun bytes Marks m p q ys rest → piece_stands bytes (span name p q) ≡ true
@@ -232,51 +141,93 @@ other-run m b h e = go (b == m) h e
     go true h e = cc
     go false h e = h
 
--- What is left of the runs stands, behind the begin of one.
-abbrev Left : List ℕ → Name → Run → ℕ → List ℕ → Point → Point → Type 0
-Left bytes name run m xs p q =
-    pieces_stand bytes (pieces_from (enter (run_name name run) p) (mark_runs name run m xs q)) ≡ true
+-- Runs that may stand in a text, where the role of each event is of this kind.
+pub record AreRuns (R : Role → Type 0) (bytes : List ℕ) (name : Name) (m : ℕ) : Type 0 where
+  pub marker : IsMarker name m
+  pub dark : is_white m ≡ false
+  pub low : is_low m ≡ true
+  pub marks : IsPiece R bytes name
+  pub white : R IsQuiet
+
+-- a run that has begun, as a stretch: its pair
+begun-stretch : (R : Role → Type 0) (bytes : List ℕ) (name : Name) (run : Run) (m : ℕ) (p q : Point)
+    (ys rest : List ℕ) →
+    AreRuns R bytes name m → run ≢ Apart → Begun bytes run m p q ys rest →
+    Stretch R bytes p q (pair (run_name name run) p q) (pair (run_name name run) p q)
+begun-stretch R bytes name Apart m p q ys rest is ok h = absurd (ok refl)
+begun-stretch R bytes name Marks m p q ys rest is ok h =
+    stretch-pair R bytes name p q is.marks (begun-order bytes Marks m p q ys rest h)
+    (begun-marks bytes name m p q ys rest is.marker h)
+begun-stretch R bytes name White m p q ys rest is ok h =
+    stretch-pair R bytes n.SpaceOrTab p q (record { role_is = is.white; no_part = refl; parted = λ a b zs k. k })
+    (begun-order bytes White m p q ys rest h) (begun-white bytes m p q ys rest h)
+
+-- in front of a byte of a run is a place between characters
+low-before : (bytes : List ℕ) (m b : ℕ) (q : Point) (rest : List ℕ) → is_low m ≡ true →
+    ((b == m) || is_white b) ≡ true → drop q.index bytes ≡ b ∷ rest → is_between bytes q.index ≡ true
+low-before bytes m b q rest low mark text =
+    between-before bytes q.index
+    (subst (λ (c : ℕ). is_low c ≡ true) (sym (at-next q.index bytes b rest text)) (go (b == m) refl mark))
+  where
+    go : (x : Bool) → (b == m) ≡ x → (x || is_white b) ≡ true → is_low b ≡ true
+    go true e h = subst (λ (c : ℕ). is_low c ≡ true) (sym (eqb-true b m e)) low
+    go false e h = white-low b h
+
+-- What is left of the runs, behind the begin of one, with this begin.
+abbrev Left : (Role → Type 0) → List ℕ → Name → Run → ℕ → List ℕ → Point → Point → Type 0
+Left R bytes name run m xs p q =
+    Stretch R bytes p (past_text xs q) (enter (run_name name run) p ∷ mark_runs name run m xs q)
+    (enter (run_name name run) p ∷ mark_runs name run m xs q)
 
 -- so it is in each run
-runs-left : (bytes : List ℕ) (name : Name) (run : Run) (m : ℕ) (xs rest ys : List ℕ) (p q : Point) → IsMarker name m →
-    run ≢ Apart → is_white m ≡ false → AreMarks m xs → Begun bytes run m p q ys (xs ++ rest) →
-    Left bytes name run m xs p q
-runs-left bytes name Apart m xs rest ys p q is ok apart marks h = absurd (ok refl)
-runs-left bytes name Marks m [] rest ys p q is ok apart marks h =
-    and_from _ true (begun-marks bytes name m p q ys rest is h) refl
-runs-left bytes name White m [] rest ys p q is ok apart marks h =
-    and_from _ true (begun-white bytes m p q ys rest h) refl
-runs-left bytes name Marks m (b ∷ xs) rest ys p q is ok apart marks h =
-    go (b == m) refl (λ k. runs-left bytes name Marks m xs rest (ys ++ b ∷ []) p (past_byte b q) is ok apart marks.1 k)
-    (λ k. runs-left bytes name White m xs rest (b ∷ []) q (past_byte b q) is (λ e. cc) apart marks.1 k)
+runs-left : (R : Role → Type 0) (bytes : List ℕ) (name : Name) (run : Run) (m : ℕ) (xs rest ys : List ℕ)
+    (p q : Point) →
+    AreRuns R bytes name m → run ≢ Apart → AreMarks m xs → Begun bytes run m p q ys (xs ++ rest) →
+    Left R bytes name run m xs p q
+runs-left R bytes name Apart m xs rest ys p q is ok marks h = absurd (ok refl)
+runs-left R bytes name Marks m [] rest ys p q is ok marks h =
+    begun-stretch R bytes name Marks m p q ys rest is ok h
+runs-left R bytes name White m [] rest ys p q is ok marks h =
+    begun-stretch R bytes name White m p q ys rest is ok h
+runs-left R bytes name Marks m (b ∷ xs) rest ys p q is ok marks h =
+    go (b == m) refl (λ k. runs-left R bytes name Marks m xs rest (ys ++ b ∷ []) p (past_byte b q) is ok marks.1 k)
+    (λ k. runs-left R bytes name White m xs rest (b ∷ []) q (past_byte b q) is (λ e. cc) marks.1 k)
   where
+    left : drop q.index bytes ≡ b ∷ xs ++ rest
+    left = begun-left bytes Marks m p q ys (b ∷ xs ++ rest) h
+
     go : (x : Bool) → (b == m) ≡ x →
         (Begun bytes Marks m p (past_byte b q) (ys ++ b ∷ []) (xs ++ rest) →
-        Left bytes name Marks m xs p (past_byte b q)) →
-        (Begun bytes White m q (past_byte b q) (b ∷ []) (xs ++ rest) → Left bytes name White m xs q (past_byte b q)) →
-        Left bytes name Marks m (b ∷ xs) p q
+        Left R bytes name Marks m xs p (past_byte b q)) →
+        (Begun bytes White m q (past_byte b q) (b ∷ []) (xs ++ rest) → Left R bytes name White m xs q (past_byte b q)) →
+        Left R bytes name Marks m (b ∷ xs) p q
     go true e same next = rw e (same (begun-next bytes Marks m p q ys b (xs ++ rest) h e))
     go false e same next =
         let over : Over bytes p q ys = begun-over bytes Marks m p q ys (b ∷ xs ++ rest) h in
-        rw e (and_from (piece_stands bytes (span name p q)) _ (begun-marks bytes name m p q ys (b ∷ xs ++ rest) is h)
+        rw e
+        (stretch-append (begun-stretch R bytes name Marks m p q ys (b ∷ xs ++ rest) is ok h)
         (next
-        (begun-first bytes White m q b (xs ++ rest) (begun-left bytes Marks m p q ys (b ∷ xs ++ rest) h)
-        (other-run m b marks.0 e) (begins-whole n.SpaceOrTab q over.whole))))
-runs-left bytes name White m (b ∷ xs) rest ys p q is ok apart marks h =
-    go (b == m) refl (λ k. runs-left bytes name White m xs rest (ys ++ b ∷ []) p (past_byte b q) is ok apart marks.1 k)
-    (λ k. runs-left bytes name Marks m xs rest (b ∷ []) q (past_byte b q) is (λ e. cc) apart marks.1 k)
+        (begun-first bytes White m q b (xs ++ rest) left (other-run m b marks.0 e)
+        (begins-whole n.SpaceOrTab q over.whole)))
+        (λ first last. low-before bytes m b q (xs ++ rest) is.low marks.0 left))
+runs-left R bytes name White m (b ∷ xs) rest ys p q is ok marks h =
+    go (b == m) refl (λ k. runs-left R bytes name White m xs rest (ys ++ b ∷ []) p (past_byte b q) is ok marks.1 k)
+    (λ k. runs-left R bytes name Marks m xs rest (b ∷ []) q (past_byte b q) is (λ e. cc) marks.1 k)
   where
+    left : drop q.index bytes ≡ b ∷ xs ++ rest
+    left = begun-left bytes White m p q ys (b ∷ xs ++ rest) h
+
     go : (x : Bool) → (b == m) ≡ x →
         (Begun bytes White m p (past_byte b q) (ys ++ b ∷ []) (xs ++ rest) →
-        Left bytes name White m xs p (past_byte b q)) →
-        (Begun bytes Marks m q (past_byte b q) (b ∷ []) (xs ++ rest) → Left bytes name Marks m xs q (past_byte b q)) →
-        Left bytes name White m (b ∷ xs) p q
+        Left R bytes name White m xs p (past_byte b q)) →
+        (Begun bytes Marks m q (past_byte b q) (b ∷ []) (xs ++ rest) → Left R bytes name Marks m xs q (past_byte b q)) →
+        Left R bytes name White m (b ∷ xs) p q
     go true e same next =
         let over : Over bytes p q ys = begun-over bytes White m p q ys (b ∷ xs ++ rest) h in
-        rw e (and_from (piece_stands bytes (span n.SpaceOrTab p q)) _ (begun-white bytes m p q ys (b ∷ xs ++ rest) h)
-        (next
-        (begun-first bytes Marks m q b (xs ++ rest) (begun-left bytes White m p q ys (b ∷ xs ++ rest) h) e
-        (ap (λ (x : ℕ). (x == 0) || false) over.whole))))
+        rw e
+        (stretch-append (begun-stretch R bytes name White m p q ys (b ∷ xs ++ rest) is ok h)
+        (next (begun-first bytes Marks m q b (xs ++ rest) left e (ap (λ (x : ℕ). (x == 0) || false) over.whole)))
+        (λ first last. low-before bytes m b q (xs ++ rest) is.low marks.0 left))
     go false e same next = rw e (same (begun-next bytes White m p q ys b (xs ++ rest) h (other-run m b marks.0 e)))
 
 -- where a byte is the marker no tab is cut
@@ -284,18 +235,21 @@ marker-whole : (p : Point) (m b : ℕ) → is_white m ≡ false → (b == m) ≡
     ((p.vs == 0) || false) ≡ true
 marker-whole p m b apart e cut = grind (arith, nat_tests)
 
--- All runs of some bytes stand.
-pub runs-stand : (bytes : List ℕ) (name : Name) (m : ℕ) (xs rest : List ℕ) (p : Point) → IsMarker name m →
-    is_white m ≡ false → AreMarks m xs → drop p.index bytes ≡ xs ++ rest → CutsFirst p xs →
-    pieces_stand bytes (pieces (mark_runs name Apart m xs p)) ≡ true
-runs-stand bytes name m [] rest p is apart marks e cut = refl
-runs-stand bytes name m (b ∷ xs) rest p is apart marks e cut = go (b == m) refl
+-- All runs of some bytes are a stretch.
+pub runs-stretch : (R : Role → Type 0) (bytes : List ℕ) (name : Name) (m : ℕ) (xs rest : List ℕ) (p : Point) →
+    AreRuns R bytes name m → AreMarks m xs → drop p.index bytes ≡ xs ++ rest → CutsFirst p xs →
+    Stretch R bytes p (past_text xs p) (mark_runs name Apart m xs p) (mark_runs name Apart m xs p)
+runs-stretch R bytes name m [] rest p is marks e cut = stretch-none R bytes p
+runs-stretch R bytes name m (b ∷ xs) rest p is marks e cut = go (b == m) refl
   where
-    go : (x : Bool) → (b == m) ≡ x → pieces_stand bytes (pieces (mark_runs name Apart m (b ∷ xs) p)) ≡ true
+    go : (x : Bool) → (b == m) ≡ x →
+        Stretch R bytes p (past_text (b ∷ xs) p) (mark_runs name Apart m (b ∷ xs) p)
+        (mark_runs name Apart m (b ∷ xs) p)
     go true k =
         rw k
-        (runs-left bytes name Marks m xs rest (b ∷ []) p (past_byte b p) is (λ h. cc) apart marks.1
-        (begun-first bytes Marks m p b (xs ++ rest) e k (marker-whole p m b apart k cut)))
+        (runs-left R bytes name Marks m xs rest (b ∷ []) p (past_byte b p) is (λ h. cc) marks.1
+        (begun-first bytes Marks m p b (xs ++ rest) e k (marker-whole p m b is.dark k cut)))
     go false k =
-        rw k (runs-left bytes name White m xs rest (b ∷ []) p (past_byte b p) is (λ h. cc) apart marks.1
+        rw k
+        (runs-left R bytes name White m xs rest (b ∷ []) p (past_byte b p) is (λ h. cc) marks.1
         (begun-first bytes White m p b (xs ++ rest) e (other-run m b marks.0 k) (begins-cut n.SpaceOrTab p refl)))

@@ -1,23 +1,18 @@
 -- ATX headings: what stands on their lines, and their laws.
-pub mod Between
 pub mod Cells
 pub mod Endings
 pub mod Found
 pub mod Hashes
 pub mod Laws
 pub mod Names
-pub mod Nested
 pub mod NoContent
 pub mod Outside
-pub mod Parted
-pub mod Pieces
 pub mod Places
 pub mod Plain
 pub mod Registers
 pub mod Runs
 pub mod Spelled
-pub mod Stands
 pub mod Texts
-pub mod Tiled
+pub mod Title
 pub mod Trial
 pub mod Words

@@ -34,6 +34,7 @@ use Rattle.md_front_rooms.proofs.Frontmatter.Found.{AtEnd, Ended, FrontMeans, He
 use Rattle.md_front_rooms.proofs.Frontmatter.Lines.{Closes, IsFront, IsRest, More}
 use Rattle.md_front_rooms.proofs.Frontmatter.Parts.{end-whole}
 use Rattle.md_front_rooms.proofs.Frontmatter.Whole.{FrontPart, IsFronted, block_first, front-fronted, mark-fronted}
+use Rattle.md_front_rooms.proofs.Frontmatter.Whole.{part-between}
 use Rattle.md_front_rooms.proofs.Frontmatter.Shifted.{read-behind}
 use Rattle.md_content_rooms.proofs.Labels.Trees.{defined_in, noted_in}
 use Rattle.md_front_rooms.proofs.MarkLemmas.{body-between, body-column, body-index, body-vs, without-mark}
@@ -216,10 +217,12 @@ pub front-unlisted : (bytes : List ℕ) (p : Point) (front es : List Event) → 
 front-unlisted bytes p front es part is = record {
   names = all-append has_unlisted_name front es part.plain.known.names is.names;
   text = is.text;
-  between = all-append (λ (e : Event). is_between bytes e.point.index) front es part.between is.between;
+  between = all-append (λ (e : Event). is_between bytes e.point.index) front es (part-between bytes first_point p front part)
+      is.between;
   texts =
-      all-append (tells_between bytes) front es (all-tell bytes front part.plain.known.texts part.between) is.texts;
-  parted = part.parted es is.parted;
+      all-append (tells_between bytes) front es (all-tell bytes front part.plain.known.texts
+      (part-between bytes first_point p front part)) is.texts;
+  parted = part.stretch.parted es is.parted;
   lines = part.plain.lines es is.lines;
 }
 

@@ -99,7 +99,7 @@ between-by_groups options bytes = record {
       (line-between bytes (group_ending group) (front_done bytes row) (group_done options bytes group)
       (final_row group) last
       (fronts-between bytes row.change.opens p row.first (front_done bytes row) from o.front_read.is).0
-      (o.leaf.1.between first.first last.end))
+      (o.leaf.1.stretch.between first.first last.end))
       (on last.behind h.1);
 }
 

@@ -34,6 +34,7 @@ use Rattle.md_rows.proofs.GroupFacts.{IsGroupLeaf}
 use Rattle.md_rows.specs.Rows.{group_ending, is_blank_group}
 use Rattle.md_front_rooms.proofs.Frontmatter.Whole.{IsText, Leaves, Plain, ToEnd, ToLine, Unread}
 use Rattle.std.proofs.Common.{◌≤◌, length, append-nil}
+use Rattle.md_frame.proofs.LeafStands.{roles-unlisted}
 
 -- Groups, whatever stands in text parts.
 
@@ -191,7 +192,8 @@ unread-reads options bytes group is =
         fronts = λ p o. o.front;
         leaf = leaf;
         leads =
-            unlists-same unread_text (blocks ∷ []) (blocks_behind is.1.behind ∷ []) leaf is.1.unread_unlisted
+            unlists-same unread_text (blocks ∷ []) (blocks_behind is.1.behind ∷ []) leaf
+            (roles-unlisted leaf is.1.stretch.unread_roles)
             is.1.unread_word;
         is = refl;
       },
@@ -227,7 +229,8 @@ group-reads options bytes group is =
         front = front_done bytes (first_row group);
         fronts = λ p o. o.front_read.is;
         leaf = leaf;
-        leads = unlists-same plain_text (blocks ∷ []) (blocks_behind is.1.behind ∷ []) leaf is.1.unlisted is.1.word;
+        leads = unlists-same plain_text (blocks ∷ []) (blocks_behind is.1.behind ∷ []) leaf
+            (roles-unlisted leaf is.1.stretch.roles) is.1.word;
         is = refl;
       },
     )

@@ -2,7 +2,7 @@
 use Rattle.std.proofs.Common.{◌≢◌, ℕ, List, ◌∷◌, Bool, true, false}
 use Rattle.md_rows.proofs.GroupLines.{AreSpan, Begins, IsUnder, behind-first, line-further, line-of, span-begins}
 use Rattle.md_registry.proofs.SpanLeaves.{span-laws}
-use Rattle.std.specs.Prelude.{not, Some}
+use Rattle.std.specs.Prelude.{not}
 use Rattle.md_engine.specs.declared.configuration.ParseOptions.{ParseOptions}
 use Rattle.md_meaning.specs.Tree.{Block}
 use Rattle.md_frame.specs.Row.{last_row, Row}
@@ -13,10 +13,10 @@ use Rattle.md_rows.specs.BlockList.{group_unread}
 use Rattle.md_rows.proofs.GroupLines.{AreGroups, AreLines}
 use Rattle.md_frame.proofs.FrontNames.{HasFront}
 use Rattle.md_rows.proofs.GroupLines.{IsHead, IsLeft}
-use Rattle.md_rows.proofs.HeadedTable.{IsHeaded, headed-facts, headed-is, headed_block}
-use Rattle.md_frame.proofs.LeafFacts.{StandFacts, stand-of}
+use Rattle.md_rows.proofs.HeadedTable.{headed-facts, headed-is}
+use Rattle.md_frame.proofs.LeafFacts.{StandFacts}
 use Rattle.md_rows.proofs.RowFacts.{IsRow}
-use Rattle.md_rows.proofs.RowLeaf.{EndsOnLine, block_of, row-facts}
+use Rattle.md_rows.proofs.RowLeaf.{EndsOnLine, row-facts}
 use Rattle.md_rows.proofs.Text.Stands.{text-stands}
 use Rattle.md_rows.proofs.Turned.Stands as turned
 
@@ -32,9 +32,7 @@ pub single-stands : (options : ParseOptions) (bytes line : List ℕ) (row : Row)
     StandFacts bytes (not (is_blank_row row)) row.first row.end (leaf_unread bytes row.kind row)
     (leaf_done bytes row.kind row)
 single-stands options bytes line row is other ends =
-    stand-of bytes (block_of row.kind is.rest) (not (is_blank_row row)) row.first row.end
-    (leaf_unread bytes row.kind row) (leaf_done bytes row.kind row)
-    (row-facts options bytes line row is other ends)
+    (row-facts options bytes line row is other ends).stand
 
 pub single-leaf : (options : ParseOptions) (bytes line : List ℕ) (row : Row) → IsRow options bytes line row →
     row.kind ≢ TextRow → EndsOnLine row.kind → IsGroupLeaf options bytes (Single row)
@@ -71,10 +69,8 @@ pub span-stands : (options : ParseOptions) (bytes : List ℕ) (row : Row) (rows 
     (group_unread options bytes (LeafLines row rows)) (group_done options bytes (LeafLines row rows))
 span-stands options bytes row rows are begins =
     let is = span-begins options bytes row rows are in
-    stand-of bytes (Some (span-block options bytes row rows are)) (not (last_row row rows).empty) row.first
-    (last_row row rows).end (group_unread options bytes (LeafLines row rows)) (group_done options bytes (LeafLines row rows))
     ((span-laws is.name is.open_leaf).facts options bytes row rows (line-of options bytes row is)
-    (line-further options bytes row is false begins) (behind-first options bytes row rows are))
+    (line-further options bytes row is false begins) (behind-first options bytes row rows are)).stand
 
 pub span-group : (options : ParseOptions) (bytes : List ℕ) (row : Row) (rows : List Row) →
     AreSpan options bytes row rows → Begins row → IsGroupLeaf options bytes (LeafLines row rows)
@@ -87,10 +83,7 @@ pub headed-stands : (options : ParseOptions) (bytes : List ℕ) (row next : Row)
     StandFacts bytes true row.first (last_row next rows).end (group_unread options bytes (Headed row next rows))
     (group_done options bytes (Headed row next rows))
 headed-stands options bytes row next rows head are =
-    let is : IsHeaded options bytes row next rows = headed-is options bytes row next rows head are in
-    stand-of bytes (Some (headed_block options bytes row next rows is)) true row.first (last_row next rows).end
-    (group_unread options bytes (Headed row next rows)) (group_done options bytes (Headed row next rows))
-    (headed-facts options bytes row next rows is)
+    (headed-facts options bytes row next rows (headed-is options bytes row next rows head are)).stand
 
 pub headed-leaf : (options : ParseOptions) (bytes : List ℕ) (row next : Row) (rows : List Row) →
     IsHead options bytes row next → AreSpan options bytes next rows → IsGroupLeaf options bytes (Headed row next rows)

@@ -37,6 +37,7 @@ use Rattle.md_rows.proofs.RowFacts.{AreRows}
 use Rattle.md_frame.proofs.SpanLemmas.{Nested_in}
 use Rattle.md_rows.specs.Rows.{group_ending, is_blank_group}
 use Rattle.md_front_rooms.proofs.Frontmatter.Whole.{FrontPart}
+use Rattle.md_frame.proofs.LeafStands.{roles-unlisted}
 
 -- What is open.
 
@@ -195,7 +196,8 @@ unread-by_groups options bytes = record {
   none = λ p blocks. tt;
   group = λ names kept p group gs o keeps on blocks.
       group-held options bytes names kept p group (first_row group).front (group_unread options bytes group)
-      (tabled_groups options bytes gs) o.front keeps blocks o.leaf.1.unread_nested o.leaf.1.unread_unlisted on;
+      (tabled_groups options bytes gs) o.front keeps blocks o.leaf.1.stretch.unread_nested
+      (roles-unlisted (group_unread options bytes group) o.leaf.1.stretch.unread_roles) on;
 }
 
 -- and once they are
@@ -207,7 +209,8 @@ read-by_groups options bytes = record {
   none = λ p blocks. tt;
   group = λ names kept p group gs o keeps on blocks.
       group-held options bytes names kept p group (front_done bytes (first_row group)) (group_done options bytes group)
-      (groups_events options bytes gs) o.front_read.is keeps blocks o.leaf.1.nested o.leaf.1.unlisted on;
+      (groups_events options bytes gs) o.front_read.is keeps blocks o.leaf.1.stretch.nested
+      (roles-unlisted (group_done options bytes group) o.leaf.1.stretch.roles) on;
 }
 
 -- The events of a text, with its front.
@@ -215,7 +218,8 @@ read-by_groups options bytes = record {
 front-held : (bytes : List ℕ) (p : Point) (front es : List Event) → FrontPart bytes first_point p front →
     ItemsHeld [] es → ItemsHeld [] (front ++ es)
 front-held bytes p front es part h =
-    held-through [] [] front es (unlisted-held [] front part.unlisted) part.nested.0.closed h
+    held-through [] [] front es (unlisted-held [] front (roles-unlisted front part.stretch.roles))
+    part.stretch.nested.0.closed h
 
 pub blocks-held : (options : ParseOptions) (bytes : List ℕ) (p : Point) (front : List Event) (lines : List (List ℕ))
     (rows : List Row) →

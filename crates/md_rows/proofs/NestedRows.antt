@@ -611,7 +611,7 @@ nests-by_groups options bytes = record {
   group =
       λ names kept p group gs o keeps on. under-group options bytes names kept p group
       (front_done bytes (first_row group)) (group_done options bytes group)
-      (groups_events options bytes gs) o.front_read.is o.ends keeps o.leaf.1.nested on;
+      (groups_events options bytes gs) o.front_read.is o.ends keeps o.leaf.1.stretch.nested on;
 }
 
 -- The groups of the lines of a text nest.

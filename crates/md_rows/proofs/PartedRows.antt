@@ -65,7 +65,7 @@ parted-by_groups options bytes = record {
       let front : PrefixesAtLineStart bytes (front_done bytes row) =
       fronts-sit bytes row.change.opens p row.first (front_done bytes row) o.front_read.is in
       line-sits bytes (group_ending group) (front_done bytes row) (group_done options bytes group) (final_row group)
-      (ending-still (is_blank_group group)) front o.leaf.1.parted (groups_events options bytes gs) on;
+      (ending-still (is_blank_group group)) front o.leaf.1.stretch.parted (groups_events options bytes gs) on;
 }
 
 -- no text of a whole text is parted but those of lines, where these begin

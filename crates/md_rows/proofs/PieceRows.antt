@@ -128,7 +128,7 @@ unread-by_groups options bytes = record {
   group = λ names kept p group gs o keeps on h.
       stood-append bytes (tabled_group options bytes group) (tabled_groups options bytes gs)
       (group-stood bytes p group (first_row group).front (group_unread options bytes group) o.front h.0
-      o.leaf.1.unread_stood) (on h.1);
+      o.leaf.1.stretch.unread_stood) (on h.1);
 }
 
 -- and once they are
@@ -141,7 +141,7 @@ stood-by_groups options bytes = record {
   group = λ names kept p group gs o keeps on h.
       stood-append bytes (group_events options bytes group) (groups_events options bytes gs)
       (group-stood bytes p group (front_done bytes (first_row group)) (group_done options bytes group) o.front_read.is
-      h.0 o.leaf.1.stood) (on h.1);
+      h.0 o.leaf.1.stretch.stood) (on h.1);
 }
 
 -- With the front of a text before them.
@@ -152,7 +152,7 @@ pub blocks-pieces : (options : ParseOptions) (bytes : List ℕ) (p : Point) (fro
     FrontPart bytes first_point p front → AreRows options bytes [] held_leaf.None p lines rows →
     pieces_stand bytes (pieces (front ++ tabled_groups options bytes (groups rows))) ≡ true
 blocks-pieces options bytes p front lines rows part are =
-    (stood-append bytes front (tabled_groups options bytes (groups rows)) part.stood
+    (stood-append bytes front (tabled_groups options bytes (groups rows)) part.stretch.stood
     (rows-hold options bytes (UnreadStood options bytes) (unread-by_groups options bytes) p
     lines rows are
     (groups-each (LineStands bytes) rows
@@ -164,7 +164,7 @@ pub events-pieces : (options : ParseOptions) (bytes : List ℕ) (p : Point) (fro
     FrontPart bytes first_point p front → AreRows options bytes [] held_leaf.None p lines rows →
     pieces_stand bytes (pieces (front ++ groups_events options bytes (groups rows))) ≡ true
 events-pieces options bytes p front lines rows part are =
-    (stood-append bytes front (groups_events options bytes (groups rows)) part.stood
+    (stood-append bytes front (groups_events options bytes (groups rows)) part.stretch.stood
     (rows-hold options bytes (GroupsStood options bytes) (stood-by_groups options bytes) p
     lines rows are
     (groups-each (LineStands bytes) rows

@@ -92,7 +92,7 @@ laid-by_groups options bytes = record {
       follows-append p (behind_row last) (behind_groups (behind_row last) gs) (tabled_group options bytes group)
       (tabled_groups options bytes gs)
       (line-covers (group_ending group) row last p (group_unread options bytes group)
-      (fronts-tiled bytes row.change.opens p row.first row.front o.front) o.leaf.1.tiled) more;
+      (fronts-tiled bytes row.change.opens p row.first row.front o.front) o.leaf.1.stretch.tiled) more;
 }
 
 -- a line in front of groups ends where they begin

@@ -70,7 +70,7 @@ stands-groups options bytes (group ∷ gs) are =
     stands-append bytes (tabled_group options bytes group) (tabled_groups options bytes gs)
     (stands-line bytes (group_ending group) (first_row group) (final_row group) (group_unread options bytes group)
     (ending-no_part (is_blank_group group)) (group-front options bytes group gs are)
-    (group-leaf options bytes group gs are).1.parts)
+    (group-leaf options bytes group gs are).1.stretch.parts)
     (stands-groups options bytes gs (more-groups options bytes group gs are))
 
 rows-stand : (options : ParseOptions) (bytes : List ℕ) (cs : List Container) (still : HeldLeaf) (p : Point)
@@ -124,7 +124,7 @@ listed-by_groups options bytes = record {
   group =
       λ names kept p group gs o keeps on. under-group options bytes names kept p group
       (first_row group).front (group_unread options bytes group)
-      (tabled_groups options bytes gs) o.front o.ends keeps o.leaf.1.unread_nested on;
+      (tabled_groups options bytes gs) o.front o.ends keeps o.leaf.1.stretch.unread_nested on;
 }
 
 listed-nest : (options : ParseOptions) (bytes : List ℕ) (p : Point) (lines : List (List ℕ)) (rows : List Row) →

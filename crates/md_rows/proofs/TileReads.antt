@@ -99,7 +99,7 @@ fill-groups options bytes (group ∷ gs) are =
     (groups_events options bytes gs)
     (fill-line bytes (group_ending group) (first_row group) (final_row group) (group_unread options bytes group)
     (group_done options bytes group) (ending-no_part (is_blank_group group)) (group-front options bytes group gs are)
-    (group-leaf options bytes group gs are).1.filled)
+    (group-leaf options bytes group gs are).1.stretch.filled)
     (fill-groups options bytes gs (more-groups options bytes group gs are))
 
 -- The same with the front of a text before them.

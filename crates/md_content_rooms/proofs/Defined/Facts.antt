@@ -5,12 +5,13 @@ use Rattle.md_engine.specs.declared.event.Point.{Point}
 use Rattle.md_seam.specs.Events.Tiles.{plain_read}
 use Rattle.md_content_rooms.proofs.Defined.Form.{Form, IsFilled, IsForm, IsStrand, IsText, IsTitle, LastLine, NoLine}
 use Rattle.md_content_rooms.proofs.Defined.Form.{OneLine, Strand, Titled, form_block, form_done, form_unread}
-use Rattle.md_content_rooms.proofs.Defined.Known.Leaf.{done-by, facts-by}
+use Rattle.md_content_rooms.proofs.Defined.Known.Leaf.{facts-by}
 use Rattle.md_content_rooms.proofs.Defined.Known.Plain.{form-plain}
 use Rattle.md_content_rooms.proofs.Defined.Known.Texts.{FormStrings, TextString, TitleString, form-texts}
 use Rattle.md_content_rooms.proofs.Defined.Strings.Facts.{AreFilled, FurtherFilled}
 use Rattle.md_content_rooms.proofs.Defined.Strings.Whole.{label-facts, target-facts, title-facts}
 use Rattle.md_frame.proofs.LeafFacts.{LeafFacts}
+use Rattle.md_frame.proofs.FillFacts.{filled-read}
 
 -- Its texts.
 
@@ -56,8 +57,9 @@ pub defined-facts : (bytes : List ℕ) (x : Form) (behind_gap behind_target : Po
     LeafFacts bytes (Some (form_block x)) true x.first x.last (form_unread x) (form_done bytes x)
 defined-facts bytes x g t is =
     let known : FormStrings bytes x = form-strings bytes x g t is in
-    facts-by bytes x g t is (form-texts bytes x known) (λ first. form-plain bytes x g t is known)
+    facts-by bytes x g t is (form-texts bytes x known) (form-plain bytes x g t is known)
 
 pub defined-done : (bytes : List ℕ) (x : Form) (behind_gap behind_target : Point) →
     IsForm bytes x behind_gap behind_target → plain_read bytes (form_unread x) ≡ form_done bytes x
-defined-done bytes x g t is = done-by bytes x g t is (form-texts bytes x (form-strings bytes x g t is))
+defined-done bytes x g t is =
+    filled-read bytes (form_unread x) (form_done bytes x) (defined-facts bytes x g t is).stand.stretch.filled

@@ -6,7 +6,6 @@ pub mod Label
 pub mod Leaf
 pub mod Left
 pub mod Marks
-pub mod Parts
 pub mod Passes
 pub mod Plain
 pub mod Target

@@ -18,67 +18,46 @@ use Rattle.md_seam.specs.Events.Spelled.{IsEnding as EndingRole, IsPrefix, IsQui
 use Rattle.md_seam.proofs.EndingsLemmas as ending
 use Rattle.md_seam.proofs.EndingsLemmas.{others-lead}
 use Rattle.md_seam.proofs.GrammarLemmas as grammar
-use Rattle.md_seam.proofs.SpelledLemmas.{Between, Roles, Unmarked, read-between, read-from, roles-append}
+use Rattle.md_seam.proofs.SpelledLemmas.{Between, Roles, Unmarked, read-between, read-from}
 use Rattle.md_seam.proofs.SpelledLemmas.{unmarked-append}
 use Rattle.md_frame.specs.EndingName.{ending_name}
 use Rattle.md_frame.specs.Row.{Row, is_blank_row, last_row, span_behind}
-use Rattle.md_frame.proofs.BetweenFacts.{AreBetween, between-append, between-pair, ending-before, ending-behind}
-use Rattle.md_frame.proofs.EachEvent.{each-append}
-use Rattle.md_frame.proofs.EndingFacts.{ended-roles, ended-unmarked, ending-leads, ending-nested, ending-no_parts}
-use Rattle.md_frame.proofs.EndingFacts.{ending-stood, ending-unlinked, ending-word}
-use Rattle.md_frame.proofs.FillFacts.{fill-append, fill-same}
+use Rattle.md_frame.proofs.BetweenFacts.{ending-before, ending-behind}
+use Rattle.md_frame.proofs.EndingFacts.{ended-unmarked, ending-leads, ending-word, stretch-ended}
+use Rattle.md_frame.proofs.EventNames.{part-no_container}
 use Rattle.md_frame.proofs.FrontFacts.{LinePrefix}
-use Rattle.md_frame.proofs.FrontLemmas.{fronts-balanced, fronts-spans}
-use Rattle.md_frame.proofs.FrontNames.{fronts-no_parts, fronts-prefixes, fronts-unlinked, fronts-unmarked}
-use Rattle.md_frame.proofs.FrontStands.{fronts-between, fronts-others, fronts-stood, fronts-tiled}
+use Rattle.md_frame.proofs.FrontNames.{fronts-unmarked}
+use Rattle.md_frame.proofs.FrontStands.{fronts-between, fronts-others, stretch-front}
 use Rattle.md_frame.proofs.GrammarFronts.{blocks_behind, front-stays}
-use Rattle.md_frame.proofs.LeafFacts.{LeafFacts, StandFacts, leaf-of, shown, spot_behind, stand-of}
-use Rattle.md_frame.proofs.LeafStands.{between-stand, between-unlisted, unlisted-both}
-use Rattle.md_frame.proofs.PartFacts.{IsNoPart, IsUnlinked, NoLinks, NoParts}
-use Rattle.md_frame.proofs.PartedFacts.{Still, clear, sits-append, sits-still}
-use Rattle.md_frame.proofs.PartsStand.{stands-append, stands-outside}
-use Rattle.md_frame.proofs.PieceFacts.{PiecesValid, stood-append}
-use Rattle.md_frame.proofs.PiecesLemmas.{Covered, tiled-append, tiled-pair}
-use Rattle.md_frame.proofs.PlainFacts.{Untold, plain-append, plain-untold}
-use Rattle.md_frame.proofs.PrefixNames.{prefixes-roles}
+use Rattle.md_frame.proofs.LeafFacts.{LeafFacts, StandFacts, shown, spot_behind}
+use Rattle.md_frame.proofs.LeafStands.{between-part, between-stand}
+use Rattle.md_frame.proofs.PartedFacts.{clear}
+use Rattle.md_frame.proofs.PlainFacts.{ArePlain, Untold, plain-append, plain-untold}
+use Rattle.md_frame.proofs.Stretch.{Stretch, roles-as, stretch-append, stretch-as}
 use Rattle.md_seam.proofs.FeedLines.{IsEnding}
 use Rattle.md_frame.proofs.LeafLines.Cuts.{ending-is}
-use Rattle.md_frame.proofs.SpanLemmas.{Nested_in, nested_in-append}
 
 -- What stands between two lines, from the end of one to the begin of the other: the ending of the first, by whether this
 -- is blank to its ending, and prefixes.
 pub record GapFacts (bytes : List ℕ) (blank : Bool) (p q : Point) (gap : List Event) : Type 0 where
-  -- it nests, goes forward, and covers what stands there
-  pub nested : Nested_in p q gap
-  pub tiled : Covered p q gap
-  pub stood : PiecesValid bytes gap
+  -- it stands between blocks
+  pub stretch : Stretch Between bytes p q gap gap
   -- behind it blocks may stand, and a line begins
   pub word : (text : Expression) (block : Bool) → grammar.Leads text (blocks_behind block ∷ []) (blocks ∷ []) gap
   pub ending : ending.Leads (spot_behind (not blank)) line_start gap
-  -- it stands between blocks, gives no quote a kind, and is no text
-  pub roles : Roles Between gap
+  -- it gives no quote a kind
   pub unmarked : Unmarked bytes gap
-  pub still : Roles Still gap
-  pub untold : Roles Untold gap
-  pub no_parts : NoParts gap
-  pub unlinked : NoLinks gap
-  -- and between characters
+  -- it begins and ends between characters
   pub before : is_between bytes p.index ≡ true
-  pub between : AreBetween bytes gap
   pub behind : is_between bytes q.index ≡ true
 
 pub gap-facts : (bytes : List ℕ) (blank : Bool) (p at q : Point) (front : List Event) → p.vs ≡ 0 →
     IsEnding bytes p at → LinePrefix bytes [] at q front →
     GapFacts bytes blank p q (pair (ending_name blank) p at ++ front)
 gap-facts bytes blank p at q front whole is fronts = record {
-  nested =
-      nested_in-append p at q ended front (ending-nested bytes (ending_name blank) p at is)
-      (fronts-balanced bytes [] at q front fronts refl, fronts-spans bytes [] at q front fronts);
-  tiled =
-      tiled-append p at q ended front (tiled-pair (ending_name blank) p at) (fronts-tiled bytes [] at q front fronts);
-  stood =
-      stood-append bytes ended front (ending-stood bytes blank p at whole is)
-      (fronts-stood bytes [] at q front fronts);
+  stretch =
+      stretch-append (stretch-ended Between bytes blank p at tt tt whole is)
+      (stretch-front Between bytes at q front tt tt tt fronts) (λ first last. ending-behind bytes p at is);
   word = λ text block.
       grammar.leads-append text (blocks_behind block ∷ []) (blocks ∷ []) (blocks ∷ []) ended front
       (ending-word text blank p at block)
@@ -86,79 +65,50 @@ gap-facts bytes blank p at q front whole is fronts = record {
   ending =
       ending.leads-append (spot_behind (not blank)) line_start line_start ended front (ending-leads blank p at)
       (others-lead line_start front refl (fronts-others bytes [] at q front fronts));
-  roles = both Between tt tt tt tt;
   unmarked =
       unmarked-append bytes ended front (ended-unmarked bytes blank p at) (fronts-unmarked bytes at q front fronts);
-  still = both Still tt tt tt tt;
-  untold = both Untold (refl, refl) (refl, refl) (refl, refl) (refl, refl);
-  no_parts =
-      each-append IsNoPart ended front (ending-no_parts blank p at) (fronts-no_parts bytes at q front fronts);
-  unlinked =
-      each-append IsUnlinked ended front (ending-unlinked blank p at) (fronts-unlinked bytes at q front fronts);
   before = ending-before bytes p at is;
-  between =
-      between-append bytes ended front
-      (between-pair bytes (ending_name blank) p at (ending-before bytes p at is) (ending-behind bytes p at is)) line.0;
-  behind = line.1;
+  behind = (fronts-between bytes [] at q front (ending-behind bytes p at is) fronts).1;
 }
   where
     ended : List Event
     ended = pair (ending_name blank) p at
 
-    line : AreBetween bytes front × (is_between bytes q.index ≡ true)
-    line = fronts-between bytes [] at q front (ending-behind bytes p at is) fronts
+-- what stands between blocks is shown, and tells no text
+between-untold : (x : Role) → Between x → Untold x
+between-untold IsQuiet h = (refl, refl)
+between-untold IsPrefix h = (refl, refl)
+between-untold IsQuoteMarker h = (refl, refl)
+between-untold EndingRole h = (refl, refl)
+between-untold _ h = absurd h
 
-    both : (P : Role → Type 0) → P EndingRole → P IsQuiet → P IsPrefix → P IsQuoteMarker →
-        Roles P (pair (ending_name blank) p at ++ front)
-    both P end quiet prefix marker =
-        roles-append P ended front (ended-roles P blank p at quiet end)
-        (prefixes-roles P front quiet prefix marker (fronts-prefixes bytes [] at q front refl fronts))
+pub gap-plain : (bytes : List ℕ) (gap : List Event) → Roles Between gap → ArePlain bytes gap
+gap-plain bytes gap roles = plain-untold bytes gap (roles-as between-untold gap roles)
 
 -- Events with others behind them, and what stands between two lines between them: all of them stand from the begin of
 -- the first to the end of the last. No tab of a character is cut where the others begin.
-pub stand-behind : (bytes : List ℕ) (blank full : Bool) (p e at q : Point)
-    (unread done gap unread_line line : List Event) →
-    StandFacts bytes (not blank) p e unread done → GapFacts bytes blank e at gap → clear bytes at ≡ true →
-    StandFacts bytes full at q unread_line line →
-    StandFacts bytes full p q (unread ++ (gap ++ unread_line)) (done ++ (gap ++ line))
-stand-behind bytes blank full p e at q us ds gap vs ws h g whole k = record {
-  unread_nested =
-      nested_in-append p e q us (gap ++ vs) h.unread_nested (nested_in-append e at q gap vs g.nested k.unread_nested);
-  nested = nested_in-append p e q ds (gap ++ ws) h.nested (nested_in-append e at q gap ws g.nested k.nested);
-  tiled = tiled-append p e q us (gap ++ vs) h.tiled (tiled-append e at q gap vs g.tiled k.tiled);
-  unread_stood =
-      stood-append bytes us (gap ++ vs) h.unread_stood (stood-append bytes gap vs g.stood k.unread_stood);
-  stood = stood-append bytes ds (gap ++ ws) h.stood (stood-append bytes gap ws g.stood k.stood);
-  behind = k.behind;
-  unread_word = word unread_text us vs h.unread_word k.unread_word;
-  word = word plain_text ds ws h.word k.word;
-  unread_ending = ends us vs h.unread_ending k.unread_ending;
-  ending = ends ds ws h.ending k.ending;
-  unread_unlisted =
-      unlisted-both us (gap ++ vs) h.unread_unlisted
-      (unlisted-both gap vs (between-unlisted gap g.roles) k.unread_unlisted);
-  unlisted =
-      unlisted-both ds (gap ++ ws) h.unlisted (unlisted-both gap ws (between-unlisted gap g.roles) k.unlisted);
-  stands = λ held.
-      places-append bytes (among held) (among held) (among held) ds (gap ++ ws) (h.stands held)
-      (places-append bytes (among held) (among held) (among held) gap ws (between-stand bytes held gap g.roles)
-      (k.stands held));
-  parts =
-      stands-append bytes us (gap ++ vs) h.parts
-      (stands-append bytes gap vs (stands-outside bytes gap g.no_parts g.unlinked) k.parts);
-  filled =
-      fill-append bytes us ds (gap ++ vs) (gap ++ ws) h.filled
-      (fill-append bytes gap gap vs ws (fill-same bytes gap g.unlinked g.no_parts) k.filled);
-  between = λ first last.
-      between-append bytes ds (gap ++ ws) (h.between first g.before)
-      (between-append bytes gap ws g.between (k.between g.behind last));
-  parted =
-      sits-append bytes ds (gap ++ ws) h.parted
-      (sits-append bytes gap ws (sits-still bytes gap g.still) k.parted);
-  plain = λ first.
-      plain-append bytes ds (gap ++ ws) (h.plain first)
-      (plain-append bytes gap ws (plain-untold bytes gap g.untold) (k.plain whole));
-}
+pub stand-behind : {bytes : List ℕ} {blank full : Bool} {p e at q : Point} {us ds gap vs ws : List Event} →
+    StandFacts bytes (not blank) p e us ds → GapFacts bytes blank e at gap → clear bytes at ≡ true →
+    StandFacts bytes full at q vs ws → StandFacts bytes full p q (us ++ (gap ++ vs)) (ds ++ (gap ++ ws))
+stand-behind {bytes = bytes} {blank = blank} {full = full} {us = us} {ds = ds} {gap = gap} {vs = vs} {ws = ws}
+    h g whole k = record {
+      stretch =
+          stretch-append h.stretch
+          (stretch-append (stretch-as (λ x b. part-no_container x (between-part x b)) g.stretch) k.stretch
+          (λ first last. g.behind)) (λ first last. g.before);
+      behind = k.behind;
+      unread_word = word unread_text us vs h.unread_word k.unread_word;
+      word = word plain_text ds ws h.word k.word;
+      unread_ending = ends us vs h.unread_ending k.unread_ending;
+      ending = ends ds ws h.ending k.ending;
+      stands = λ held.
+          places-append bytes (among held) (among held) (among held) ds (gap ++ ws) (h.stands held)
+          (places-append bytes (among held) (among held) (among held) gap ws
+          (between-stand bytes held gap g.stretch.roles) (k.stands held));
+      plain = λ first.
+          plain-append bytes ds (gap ++ ws) (h.plain first)
+          (plain-append bytes gap ws (gap-plain bytes gap g.stretch.roles) (k.plain whole));
+    }
   where
     word : (text : Expression) (es fs : List Event) →
         grammar.Leads text (blocks ∷ []) (blocks_behind h.behind ∷ []) es →
@@ -178,21 +128,20 @@ stand-behind bytes blank full p e at q us ds gap vs ws h g whole k = record {
         (ending.leads-append (spot_behind (not blank)) line_start (spot_behind full) gap fs g.ending then)
 
 -- The leaf with the line behind it shows what the leaf does; behind it one stands as behind the line.
-pub facts-behind : (bytes : List ℕ) (block : Option Block) (blank full : Bool) (p e at q : Point)
-    (unread done gap unread_line line : List Event) →
-    LeafFacts bytes block (not blank) p e unread done → GapFacts bytes blank e at gap → clear bytes at ≡ true →
-    LeafFacts bytes None full at q unread_line line →
-    LeafFacts bytes block full p q (unread ++ (gap ++ unread_line)) (done ++ (gap ++ line))
-facts-behind bytes block blank full p e at q us ds gap vs ws h g whole k =
-    leaf-of bytes block full p q (us ++ (gap ++ vs)) (ds ++ (gap ++ ws))
-    (stand-behind bytes blank full p e at q us ds gap vs ws (stand-of bytes block (not blank) p e us ds h) g whole
-    (stand-of bytes None full at q vs ws k))
-    (λ r text shut.
-    let s = shown block r in
-    let same = still block r in
-    read-from bytes r s ds (gap ++ ws) (h.reads r text shut)
-    ∙ read-from bytes s s gap ws (read-between bytes s gap (same.0 ∙ text) (same.1 ∙ shut) g.roles g.unmarked)
-    ∙ k.reads s (same.0 ∙ text) (same.1 ∙ shut))
+pub facts-behind : {bytes : List ℕ} {block : Option Block} {blank full : Bool} {p e at q : Point}
+    {us ds gap vs ws : List Event} →
+    LeafFacts bytes block (not blank) p e us ds → GapFacts bytes blank e at gap → clear bytes at ≡ true →
+    LeafFacts bytes None full at q vs ws → LeafFacts bytes block full p q (us ++ (gap ++ vs)) (ds ++ (gap ++ ws))
+facts-behind {bytes = bytes} {block = block} {ds = ds} {gap = gap} {ws = ws} h g whole k = record {
+  stand = stand-behind h.stand g whole k.stand;
+  reads = λ r text shut.
+      let s = shown block r in
+      let same = still block r in
+      read-from bytes r s ds (gap ++ ws) (h.reads r text shut)
+      ∙ read-from bytes s s gap ws
+      (read-between bytes s gap (same.0 ∙ text) (same.1 ∙ shut) g.stretch.roles g.unmarked)
+      ∙ k.reads s (same.0 ∙ text) (same.1 ∙ shut);
+}
   where
     -- a block more leaves what is open as it is
     still : (block : Option Block) (r : Reading) →
@@ -235,9 +184,8 @@ rows-behind bytes block f p row (next ∷ rows) us ds whole h are =
     LeafFacts bytes block (not (is_blank_row (last_row next rows))) p (last_row next rows).end xs ys) (apart us)
     (apart ds)
     (rows-behind bytes block f p next rows (us ++ (gap ++ line)) (ds ++ (gap ++ line)) are.4.whole
-    (facts-behind bytes block (is_blank_row row) (not (is_blank_row next)) p row.end next.first next.end us ds gap line
-    line h (gap-facts bytes (is_blank_row row) row.end are.0 next.first next.front whole are.2 are.3) are.4.clear
-    are.4.facts) are.5)
+    (facts-behind h (gap-facts bytes (is_blank_row row) row.end are.0 next.first next.front whole are.2 are.3)
+    are.4.clear are.4.facts) are.5)
   where
     gap : List Event
     gap = pair (ending_name (is_blank_row row)) row.end are.0 ++ next.front

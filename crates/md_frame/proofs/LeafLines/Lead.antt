@@ -10,46 +10,29 @@ use Rattle.md_seam.specs.Events.Pieces.{piece_stands}
 use Rattle.md_seam.specs.Events.Places.{at_or_before}
 use Rattle.md_seam.proofs.EndingsLemmas.{AreOthers}
 use Rattle.md_seam.proofs.GrammarLemmas as grammar
-use Rattle.md_seam.proofs.InlineLemmas.{same-refl}
-use Rattle.md_seam.proofs.NestedLemmas.{at_or_before-refl, balanced-none}
-use Rattle.md_seam.proofs.SpelledLemmas.{Quiet, Roles}
+use Rattle.md_seam.proofs.SpelledLemmas.{Quiet}
 use Rattle.md_outline.specs.Between.{is_between}
-use Rattle.md_frame.proofs.BetweenFacts.{AreBetween, between-pair}
-use Rattle.md_frame.proofs.PartFacts.{NoLinks}
 use Rattle.md_frame.proofs.PartedFacts.{clear}
-use Rattle.md_frame.proofs.PieceFacts.{PiecesValid, span, stood-none, stood-pair}
-use Rattle.md_frame.proofs.PiecesLemmas.{Covered, tiled-none, tiled-pair}
-use Rattle.md_frame.proofs.SpanLemmas.{Nested_in}
+use Rattle.md_frame.proofs.PieceFacts.{span}
+use Rattle.md_frame.proofs.Stretch.{Stretch, stretch-none, stretch-pair}
 
 -- It stands from a point to a point, and tells nothing.
 pub record LeadFacts (bytes : List ℕ) (p q : Point) (lead : List Event) : Type 0 where
-  -- it nests, and goes forward
-  pub nested : Nested_in p q lead
-  -- it covers what stands there
-  pub tiled : Covered p q lead
-  pub stood : PiecesValid bytes lead
+  pub stretch : Stretch Quiet bytes p q lead lead
   -- it may stand in front of a block
   pub word : (text : Expression) → grammar.Leads text (blocks ∷ []) (blocks ∷ []) lead
   -- no ending stands in it, and no begin or end of a leaf
   pub others : AreOthers lead
-  pub quiet : Roles Quiet lead
-  pub unlinked : NoLinks lead
-  -- it stands between characters, and where no tab of one is cut, if it begins so
-  pub between : is_between bytes p.index ≡ true → AreBetween bytes lead
+  -- it ends between characters, and where no tab of one is cut, if it begins so
   pub behind : is_between bytes p.index ≡ true → is_between bytes q.index ≡ true
   pub clear : clear bytes p ≡ true → clear bytes q ≡ true
 
 -- none
 pub lead-none : (bytes : List ℕ) (p : Point) → LeadFacts bytes p p []
 lead-none bytes p = record {
-  nested = (balanced-none, (tt, at_or_before-refl p));
-  tiled = tiled-none p p (same-refl p);
-  stood = stood-none bytes;
+  stretch = stretch-none Quiet bytes p;
   word = λ text outer. refl;
   others = refl;
-  quiet = tt;
-  unlinked = tt;
-  between = λ first. refl;
   behind = λ first. first;
   clear = λ first. first;
 }
@@ -60,17 +43,11 @@ pub lead-white : (bytes : List ℕ) (p q : Point) → IsTrue (at_or_before p q) 
     (is_between bytes p.index ≡ true → is_between bytes q.index ≡ true) →
     (clear bytes p ≡ true → clear bytes q ≡ true) → LeadFacts bytes p q (pair n.SpaceOrTab p q)
 lead-white bytes p q order stands behind whole = record {
-  nested = (
-    record { matches = (tt, (refl, tt)); closed = refl },
-    ((at_or_before-refl p, (order, tt)), at_or_before-refl q),
-  );
-  tiled = tiled-pair n.SpaceOrTab p q;
-  stood = stood-pair bytes n.SpaceOrTab p q stands;
+  stretch =
+      stretch-pair Quiet bytes n.SpaceOrTab p q
+      (record { role_is = tt; no_part = refl; parted = λ a b ys h. h }) order stands;
   word = λ text outer. refl;
   others = refl;
-  quiet = (tt, (tt, tt));
-  unlinked = (refl, (refl, tt));
-  between = λ first. between-pair bytes n.SpaceOrTab p q first (behind first);
   behind = behind;
   clear = whole;
 }

@@ -23,10 +23,12 @@ use Rattle.md_frame.proofs.PieceFacts.{Starts, starts-append}
 use Rattle.md_seam.proofs.FeedLines.{IsEnding}
 use Rattle.md_frame.proofs.LeafLines.Cuts.{end-is, ending-is, span-is}
 use Rattle.md_frame.proofs.LeafLines.Framed.{framed_by, framed_rest}
-use Rattle.md_frame.proofs.LeafLines.Inside.{InsideFacts, Meets, behind_ending, ending-inside, front-inside}
-use Rattle.md_frame.proofs.LeafLines.Inside.{inside-append, inside-none}
+use Rattle.md_frame.proofs.LeafLines.Inside.{InsideFacts, Meets, ending-inside, front-inside, inside-append}
+use Rattle.md_frame.proofs.LeafLines.Inside.{inside-none}
+use Rattle.md_frame.proofs.PartsFacts.{behind_ending}
+use Rattle.md_seam.proofs.EndingsLemmas.{Leads, in_leaf}
 use Rattle.md_frame.proofs.LeafLines.Lead.{LeadFacts}
-use Rattle.md_frame.proofs.LeafLines.Leaf.{IsLeafName, around-plain, inside-leaf}
+use Rattle.md_frame.proofs.LeafLines.Leaf.{IsLeafName, around-plain, facts-behind_lead, inside-leaf}
 
 -- A line.
 
@@ -151,14 +153,8 @@ next-inside bytes unread done name left leaf to site row next rows whole are res
       (es ++ next.front ++ but_ends (unread next) ++ framed_rest unread next rows)
       (es ++ next.front ++ but_ends (done next) ++ framed_rest done next rows))
       (sym (ending-is n.LineEnding row q are.1))
-      (inside-append bytes row.end next.end last left line.left rest.left leaf line.leaf to site line.site rest.site
-      (ended ++ next.front ++ but_ends (unread next)) (ended ++ next.front ++ but_ends (done next))
-      (framed_rest unread next rows) (framed_rest done next rows)
-      (meets-end bytes unread done name line.left line.leaf to line.site next rows line.ends.whole are.7)
-      (inside-append bytes row.end next.first next.end left again line.left leaf opened line.leaf site start line.site
-      (ended ++ next.front) (ended ++ next.front) (but_ends (unread next)) (but_ends (done next))
-      (record { between = λ end. begin; clear = line.clear }) front line.facts)
-      rest.facts);
+      (inside-append (inside-append front line.facts (record { between = λ end. begin; clear = line.clear }))
+      rest.facts (meets-end bytes unread done name line.left line.leaf to line.site next rows line.ends.whole are.7));
 }
   where
     q : Point
@@ -189,14 +185,12 @@ next-inside bytes unread done name left leaf to site row next rows whole are res
         InsideFacts bytes row.end next.first left again leaf opened site start (ended ++ next.front)
         (ended ++ next.front)
     front =
-        inside-append bytes row.end q next.first left again again leaf opened opened site start start ended ended
-        next.front next.front
+        inside-append (ending-inside bytes row.end q left leaf site whole are.2 are.5)
+        (front-inside bytes q next.first again opened start next.front are.4 (on-ended bytes q site are.5) are.3)
         (record {
           between = λ end. ending-behind bytes row.end q are.2;
           clear = fronts-clear bytes [] q next.first next.front are.3 line.clear;
         })
-        (ending-inside bytes row.end q left leaf site whole are.2 are.5)
-        (front-inside bytes q next.first again opened start next.front are.4 (on-ended bytes q site are.5) are.3)
 
 pub rest-inside : (bytes : List ℕ) (unread done : Row → List Event) (name : Name) (left : Expression)
     (leaf to : OpenLeaf) (site : Site) (row : Row) (rows : List Row) →
@@ -226,11 +220,8 @@ pub span-inside : (bytes : List ℕ) (unread done : Row → List Event) (name : 
     InsideFacts bytes first.at (last_row row rows).end named.begin rest.left (fresh kind) to (begun_site kind) rest.site
     (first.unread_inside ++ framed_rest unread row rows) (first.inside ++ framed_rest done row rows)
 span-inside bytes unread done name kind to row rows named first are =
-    inside-append bytes first.at row.end (last_row row rows).end named.begin first.left rest.left (fresh kind)
-    first.leaf to (begun_site kind) first.site rest.site first.unread_inside first.inside (framed_rest unread row rows)
-    (framed_rest done row rows)
-    (meets-end bytes unread done name first.left first.leaf to first.site row rows first.ends.whole are) first.facts
-    rest.facts
+    inside-append first.facts rest.facts
+    (meets-end bytes unread done name first.left first.leaf to first.site row rows first.ends.whole are)
   where
     rest :
         RestInside bytes row.end (last_row row rows).end first.left first.leaf to first.site
@@ -243,11 +234,11 @@ pub span-facts : (bytes : List ℕ) (unread done : Row → List Event) (name : N
     (named : IsLeafName name kind) → HasLines kind →
     (first : SpanFirst bytes unread done name named.begin (fresh kind) (begun_site kind) row) →
     (are : AreFurther bytes unread done name first.left first.leaf to first.site row rows) →
-    ((span-inside bytes unread done name kind to row rows named first are).unread_stays true).0 ≡ filled →
-    ((span-inside bytes unread done name kind to row rows named first are).stays true).0 ≡ filled →
+    Leads (in_leaf true) (in_leaf filled) (first.unread_inside ++ framed_rest unread row rows) →
+    Leads (in_leaf true) (in_leaf filled) (first.inside ++ framed_rest done row rows) →
     LeafFacts bytes (Some (block_of to)) filled row.first (last_row row rows).end (framed_by unread row rows)
     (framed_by done row rows)
-span-facts bytes unread done name kind to row rows filled named lined first are unread_is is =
+span-facts bytes unread done name kind to row rows filled named lined first are unread_leads leads =
     subst
     (λ (es : List Event).
     LeafFacts bytes (Some (block_of to)) filled row.first last es (framed_by done row rows))
@@ -257,13 +248,13 @@ span-facts bytes unread done name kind to row rows filled named lined first are 
     LeafFacts bytes (Some (block_of to)) filled row.first last
     (first.lead ++ around name first.at last (first.unread_inside ++ framed_rest unread row rows)) es)
     (sym (span-is done name first.at first.lead first.inside row rows first.is ends.end))
-    (inside-leaf bytes name kind row.first first.at last rest.left to rest.site filled first.lead
-    (first.unread_inside ++ framed_rest unread row rows) (first.inside ++ framed_rest done row rows) named first.lead_is
+    (facts-behind_lead first.lead_is
+    (inside-leaf name kind named
     (starts-append first.unread_inside (framed_rest unread row rows) first.unread_starts)
     (starts-append first.inside (framed_rest done row rows) first.starts)
-    inside unread_is is rest.end
-    (λ whole. around-plain bytes name kind first.at last rest.site (first.inside ++ framed_rest done row rows) named.is
-    lined rest.leave (inside.plain whole))))
+    inside unread_leads leads rest.end
+    (λ whole. around-plain bytes name kind first.at last rest.site (first.inside ++ framed_rest done row rows)
+    named.named.is lined rest.leave (inside.plain whole)))))
   where
     last : Point
     last = (last_row row rows).end

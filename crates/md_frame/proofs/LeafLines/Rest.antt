@@ -39,7 +39,8 @@ use Rattle.md_frame.proofs.PrefixFacts.{is_bare}
 use Rattle.md_seam.proofs.FeedLines.{IsEnding}
 use Rattle.md_frame.proofs.LeafLines.Cuts.{but_ends-is, ending-is}
 use Rattle.md_frame.proofs.LeafLines.Framed.{AreFramed, framed_rest}
-use Rattle.md_frame.proofs.LeafLines.Inside.{InsideFacts, behind_ending}
+use Rattle.md_frame.proofs.LeafLines.Inside.{InsideFacts}
+use Rattle.md_frame.proofs.PartsFacts.{behind_ending}
 use Rattle.md_frame.proofs.LeafLines.Lines.{AreFurther, SpanLine, ends-by}
 
 -- What is read of a line: a further one, which is linked to the one in front, has no text parts.

@@ -1,37 +1,18 @@
 -- A leaf whose lines all have a begin and an end: its first line and its further lines, joined.
-use Rattle.std.proofs.Common.{◌≡◌, ℕ, Bool, true, false, not, List, [], ◌∷◌, ◌++◌, refl, sym, ◌∙◌, subst}
+use Rattle.std.proofs.Common.{◌≡◌, ℕ, Bool, true, not, List, ◌++◌, refl, sym, subst}
 use Rattle.std.specs.Prelude.{Some}
 use Rattle.md_engine.specs.declared.event.Event.{Event}
 use Rattle.md_engine.specs.declared.event.Name.{Name}
-use Rattle.md_engine.specs.declared.event.Name.TheVariants as n
 use Rattle.md_meaning.specs.Leaves.{LeafResult}
 use Rattle.md_outline.specs.LinesStand.{HasLines, begun_site}
-use Rattle.md_seam.specs.Events.Endings.{endings_stand_from}
-use Rattle.md_seam.specs.Events.Nested.{enter, exit}
-use Rattle.md_seam.specs.Events.Places.{first_point}
 use Rattle.md_seam.specs.Events.Spelled.{LeafKind, block_of, fresh}
-use Rattle.md_seam.proofs.EndingsLemmas.{AreOthers, Leads, Stays, in_leaf, leads-append, others-lead}
+use Rattle.md_seam.proofs.EndingsLemmas.{AreOthers, Leads, in_leaf, leads-append, others-lead}
 use Rattle.md_frame.specs.Row.{Row, last_row, span_by}
 use Rattle.md_frame.proofs.LeafFacts.{LeafFacts}
 use Rattle.md_frame.proofs.LeafLines.Framed.{framed_by, framed_rest, span-framed}
 use Rattle.md_frame.proofs.LeafLines.Leaf.{IsLeafName}
-use Rattle.md_frame.proofs.LeafLines.Lines.{SpanFirst, span-facts, span-inside}
+use Rattle.md_frame.proofs.LeafLines.Lines.{SpanFirst, span-facts}
 use Rattle.md_frame.proofs.LeafLines.Rest.{HasRest, full-last, full_behind, row_done, row_unread}
-
--- Where events lead that stay in a leaf is told by them alone.
-pub stays-same : (es : List Event) (h : Stays es) (full : Bool) → Leads (in_leaf true) (in_leaf full) es →
-    (h true).0 ≡ full
-stays-same es h full leads = told (h true).0 full (sym ((h true).1 ending) ∙ leads ending)
-  where
-    -- behind a leaf stands its ending, if its last line is filled
-    ending : List Event
-    ending = exit n.Paragraph first_point ∷ enter n.LineEnding first_point ∷ []
-
-    told : (a b : Bool) → endings_stand_from (in_leaf a) ending ≡ endings_stand_from (in_leaf b) ending → a ≡ b
-    told true true e = refl
-    told false false e = refl
-    told true false e = cc
-    told false true e = cc
 
 -- All that the frame asks of the lines of such a leaf, on the first of which something stands.
 pub rest-facts : (bytes : List ℕ) (name : Name) (kind : LeafKind) (row : Row) (rows : List Row) (c : LeafResult) →
@@ -47,14 +28,10 @@ rest-facts bytes name kind row rows c named lined first rest unread_others other
     LeafFacts bytes (Some (block_of rest.to)) full row.first (last_row row rows).end joined
     (framed_by (row_done bytes) row rows)) (sym (span-framed row_unread row rows rest.framed))
     (span-facts bytes row_unread (row_done bytes) name kind rest.to row rows full named lined first rest.further
-    (stays-same (us ++ framed_rest row_unread row rows)
-    (span-inside bytes row_unread (row_done bytes) name kind rest.to row rows named first rest.further).unread_stays
-    full (filled us (framed_rest row_unread row rows) unread_others rest.fills))
-    (stays-same (es ++ framed_rest (row_done bytes) row rows)
-    (span-inside bytes row_unread (row_done bytes) name kind rest.to row rows named first rest.further).stays full
+    (filled us (framed_rest row_unread row rows) unread_others rest.fills)
     (filled es (framed_rest (row_done bytes) row rows) others
     (λ x.
-    subst (λ (l : List Event). Leads (in_leaf x) (in_leaf (full_behind x rows)) l) (sym rest.same) (rest.fills x)))))
+    subst (λ (l : List Event). Leads (in_leaf x) (in_leaf (full_behind x rows)) l) (sym rest.same) (rest.fills x))))
   where
     us : List Event
     us = first.unread_inside

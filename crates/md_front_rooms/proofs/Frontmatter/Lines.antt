@@ -24,7 +24,8 @@ use Rattle.md_front_rooms.proofs.Frontmatter.Parts.{fence-fills, fence_over, fro
 use Rattle.md_front_rooms.proofs.Frontmatter.Parts.{text_line}
 use Rattle.md_frame.proofs.IndentRemoved.Shown.{whole-clear}
 use Rattle.md_seam.proofs.FeedLines.{IsEnding}
-use Rattle.md_frame.proofs.LeafLines.Inside.{InsideFacts, Meets, behind_ending, ending-inside, inside-append}
+use Rattle.md_frame.proofs.LeafLines.Inside.{InsideFacts, Meets, ending-inside, inside-append}
+use Rattle.md_frame.proofs.PartsFacts.{behind_ending}
 
 -- a line between the fences, and its ending
 abbrev pub line_over : List ℕ → Point → Point → List Event
@@ -103,13 +104,10 @@ line-inside bytes (b ∷ line) markers lines p q r is ending goes =
     InsideFacts bytes p r in_line in_line (front_leaf markers (lines ++ empty_line ∷ []) false) l (AtLine OfFrontmatter)
     (AtLine OfFrontmatter) (es ++ pair n.LineEnding q r) (es ++ pair n.LineEnding q r))
     (ended-leaf bytes markers told r goes)
-    (inside-append bytes p q r in_line behind_chunk in_line (front_leaf markers (lines ++ empty_line ∷ []) false)
-    (front_leaf markers told false) (behind_ending bytes r (front_leaf markers told false)) (AtLine OfFrontmatter)
-    (AtEnding OfFrontmatter) (AtLine OfFrontmatter) es es (pair n.LineEnding q r) (pair n.LineEnding q r)
-    (meets-ending bytes (b ∷ line) p q r is ending) (chunk-inside bytes b line markers lines p q is)
+    (inside-append (chunk-inside bytes b line markers lines p q is)
     (at-line
     (ending-inside bytes q r behind_chunk (front_leaf markers told false) (AtEnding OfFrontmatter)
-    (end-whole bytes (b ∷ line) p q is) ending tt)))
+    (end-whole bytes (b ∷ line) p q is) ending tt)) (meets-ending bytes (b ∷ line) p q r is ending))
   where
     with_this : List Line
     with_this = lines ++ text_line (b ∷ line) ∷ []
@@ -150,12 +148,8 @@ rest-inside bytes m markers lines p _ _ z some (More line _ q r _ texts es is en
     InsideFacts bytes p z in_line Nothing (front_leaf markers (lines ++ empty_line ∷ []) false)
     (front_leaf markers ls true) (AtLine OfFrontmatter) (AtEnd OfFrontmatter) (front ++ es) (front ++ es))
     (append_assoc lines (text_line line ∷ []) (map text_line texts))
-    (inside-append bytes p r z in_line in_line Nothing (front_leaf markers (lines ++ empty_line ∷ []) false)
-    (front_leaf markers (told ++ empty_line ∷ []) false) (front_leaf markers (told ++ map text_line texts) true)
-    (AtLine OfFrontmatter) (AtLine OfFrontmatter) (AtEnd OfFrontmatter) front front es es
-    (meets-line bytes q r z ending)
-    (line-inside bytes line markers lines p q r is ending (rest-goes bytes m r texts es z more))
-    (rest-inside bytes m markers told r texts es z some more))
+    (inside-append (line-inside bytes line markers lines p q r is ending (rest-goes bytes m r texts es z more))
+    (rest-inside bytes m markers told r texts es z some more) (meets-line bytes q r z ending))
 
 -- it ends on a line that is filled
 rest-fills : (bytes : List ℕ) (m : ℕ) (p : Point) (texts : List (List ℕ)) (es : List Event) (z : Point) →
@@ -164,7 +158,7 @@ rest-fills bytes m p _ _ z (Closes line _ _ h) = fence-fills line p z
 rest-fills bytes m p _ _ z (More line _ q r _ texts es is ending more) =
     let front = line_over line p q ++ pair n.LineEnding q r in
     filling-append front es
-    (line-inside bytes line [] [] p q r is ending (rest-goes bytes m r texts es z more)).stays
+    (line-inside bytes line [] [] p q r is ending (rest-goes bytes m r texts es z more)).parts.stays
     (rest-fills bytes m r texts es z more)
 
 -- Frontmatter: its opening fence, and the lines behind that.
@@ -190,11 +184,8 @@ front-inside bytes p texts es z is =
     InsideFacts bytes p z (inside plain_text n.Frontmatter) Nothing (fresh OfFrontmatter)
     (front_leaf markers (map text_line texts) true) (AtMarkers OfFrontmatter) (AtEnd OfFrontmatter) l l)
     (sym is.all)
-    (inside-append bytes p is.r z (inside plain_text n.Frontmatter) in_line Nothing (fresh OfFrontmatter)
-    (front_leaf markers (empty_line ∷ []) false) (front_leaf markers (map text_line texts) true)
-    (AtMarkers OfFrontmatter) (AtLine OfFrontmatter) (AtEnd OfFrontmatter) front front is.rest is.rest
-    (meets-line bytes is.q is.r z is.ending) first
-    (rest-inside bytes is.m markers [] is.r texts is.rest z some is.lines))
+    (inside-append first (rest-inside bytes is.m markers [] is.r texts is.rest z some is.lines)
+    (meets-line bytes is.q is.r z is.ending))
   where
     markers : List ℕ
     markers = take 3 is.line
@@ -216,15 +207,10 @@ front-inside bytes p texts es z is =
         InsideFacts bytes p is.r (inside plain_text n.Frontmatter) in_line (fresh OfFrontmatter)
         (cond x (front_leaf markers (empty_line ∷ []) false) (front_leaf markers [] false)) (AtMarkers OfFrontmatter)
         (cond x (AtLine OfFrontmatter) (AtEnding OfFrontmatter)) front front) goes
-        (inside-append bytes p is.q is.r (inside plain_text n.Frontmatter) behind_open in_line (fresh OfFrontmatter)
-        (front_leaf markers [] false) (behind_ending bytes is.r (front_leaf markers [] false)) (AtMarkers OfFrontmatter)
-        (AtEnding OfFrontmatter)
-        (cond (nat_lt is.r.index (length bytes)) (AtLine OfFrontmatter) (AtEnding OfFrontmatter))
-        (fence_over is.line p is.q) (fence_over is.line p is.q) (pair n.LineEnding is.q is.r)
-        (pair n.LineEnding is.q is.r) (meets-ending bytes is.line p is.q is.r is.opens.is is.ending)
-        (open-inside bytes is.line is.m p is.q is.opens)
+        (inside-append (open-inside bytes is.line is.m p is.q is.opens)
         (ending-inside bytes is.q is.r behind_open (front_leaf markers [] false) (AtEnding OfFrontmatter)
-        (end-whole bytes is.line p is.q is.opens.is) is.ending tt))
+        (end-whole bytes is.line p is.q is.opens.is) is.ending tt)
+        (meets-ending bytes is.line p is.q is.r is.opens.is is.ending))
 
 -- and that it ends on a line that is filled
 pub front-fills : (bytes : List ℕ) (p : Point) (texts : List (List ℕ)) (es : List Event) (z : Point) →
@@ -234,5 +220,5 @@ front-fills bytes p texts es z is =
     subst Filling (sym is.all)
     (filling-append front is.rest
     (stays-append (fence_over is.line p is.q) (pair n.LineEnding is.q is.r)
-    (open-inside bytes is.line is.m p is.q is.opens).stays (λ b. (false, λ ys. refl)))
+    (open-inside bytes is.line is.m p is.q is.opens).parts.stays (λ b. (false, λ ys. refl)))
     (rest-fills bytes is.m is.r texts is.rest z is.lines))

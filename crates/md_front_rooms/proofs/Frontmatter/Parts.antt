@@ -41,7 +41,6 @@ use Rattle.md_frame.proofs.BetweenFacts.{AreBetween, between-append, between-beh
 use Rattle.md_frame.proofs.BetweenFacts.{low-at}
 use Rattle.md_frame.proofs.BetweenFacts.{around-between}
 use Rattle.md_frame.proofs.WhiteQuiet.{white-quiet}
-use Rattle.md_frame.proofs.FillFacts.{fill-same}
 use Rattle.md_frame.proofs.IndentRemoved.Placed.{Placed, in-line, over-onward, over-placed, placed-append}
 use Rattle.md_frame.proofs.IndentRemoved.Placed.{placed-around}
 use Rattle.md_frame.proofs.IndentRemoved.Placed.{placed-pair}
@@ -49,10 +48,12 @@ use Rattle.md_frame.proofs.IndentRemoved.Reads.{empty-joined, leaf-told, on-last
 use Rattle.md_frame.proofs.IndentRemoved.Shown.{whole-clear}
 use Rattle.md_frame.proofs.PartFacts.{NoLinks, NoParts}
 use Rattle.md_frame.proofs.PartedFacts.{PrefixesAtLineStart}
-use Rattle.md_frame.proofs.PartsStand.{stands-outside}
 use Rattle.md_frame.proofs.PieceFacts.{begins-cut, begins-whole, over-front, over-stands}
 use Rattle.md_frame.proofs.PlainFacts.{AreKnown, known-append, known-around, known-none, plain-quiet}
-use Rattle.md_frame.proofs.LeafLines.Inside.{InsideFacts, ReadsLeaf}
+use Rattle.md_frame.proofs.LeafLines.Inside.{InsideFacts}
+use Rattle.md_frame.proofs.PartsFacts.{ReadsLeaf}
+use Rattle.md_frame.proofs.PartsFacts.{PartsFacts}
+use Rattle.md_frame.proofs.Stretch.{stretch-same}
 
 -- A line, where it stands: it begins at a byte, and ends behind its bytes.
 pub record HasText (bytes line : List ℕ) (p q : Point) : Type 0 where
@@ -125,26 +126,20 @@ chunk-inside bytes b line markers lines p q is =
     let begin = whole-clear bytes p is.whole in
     let end = whole-clear bytes q (end-whole bytes (b ∷ line) p q is) in
     record {
-      unread_nested = placed.nested;
-      nested = placed.nested;
-      tiled = placed.tiled;
-      unread_stood = placed.stood;
-      stood = placed.stood;
-      unread_word = leads-pair unread_text in_line n.FrontmatterChunk p q refl;
-      word = leads-pair plain_text in_line n.FrontmatterChunk p q refl;
-      unread_stays = stays-others es refl;
-      stays = stays-others es refl;
-      unread_roles = (tt, (tt, tt));
-      roles = (tt, (tt, tt));
-      parts = stands-outside bytes es (refl, (refl, tt)) (refl, (refl, tt));
-      filled = fill-same bytes es (refl, (refl, tt)) (refl, (refl, tt));
-      between = λ first last. between-pair bytes n.FrontmatterChunk p q first last;
-      parted = λ ys h. h;
+      parts = record {
+        stretch =
+            stretch-same IsPart bytes p q es (tt, (tt, tt)) placed.nested placed.tiled placed.stood (refl, (refl, tt))
+            (refl, (refl, tt)) (between-pair bytes n.FrontmatterChunk p q) (λ ys h. h);
+        unread_word = leads-pair unread_text in_line n.FrontmatterChunk p q refl;
+        word = leads-pair plain_text in_line n.FrontmatterChunk p q refl;
+        unread_stays = stays-others es refl;
+        stays = stays-others es refl;
+        reads = chunk-reads bytes b line markers lines p q is;
+      };
       plain = λ first. record {
         known = known-around bytes n.FrontmatterChunk p q [] refl begin end (known-none bytes);
         lines = passes-front_chunk bytes p q;
       };
-      reads = chunk-reads bytes b line markers lines p q is;
     }
 
 -- A fence.
@@ -377,6 +372,25 @@ fence-told bytes line m p q leaf h r none opened =
     let x : Reading = record r { leaf = Some (noted AsMarkers l (at_fence leaf)) } in x)
     (told-text bytes (take 3 line) (drop 3 line ++ drop q.index bytes) p end h.is.whole marks.stands refl)
 
+-- what is known of either fence, which is read so
+fence-facts : (bytes line : List ℕ) (m : ℕ) (p q : Point) (x : Expression) (from to : OpenLeaf) →
+    HasFence bytes line m p q → ReadsLeaf bytes from to (fence_over line p q) →
+    PartsFacts bytes p q x (behind n.FrontmatterFence x) from to (fence_over line p q) (fence_over line p q)
+fence-facts bytes line m p q x from to h reads =
+    let placed = fence-placed bytes line m p q h in
+    let es = fence_over line p q in
+    record {
+      stretch =
+          stretch-same IsPart bytes p q es (fence-parts line p q) placed.nested placed.tiled placed.stood
+          (fence-no_parts line p q) (fence-no_links line p q) (fence-between bytes line m p q h)
+          (fence-sits bytes line p q);
+      unread_word = fence-word unread_text x line p q;
+      word = fence-word plain_text x line p q;
+      unread_stays = stays-others es (fence-others line p q);
+      stays = stays-others es (fence-others line p q);
+      reads = reads;
+    }
+
 -- The opening fence.
 
 marks-some : (bytes line : List ℕ) (m : ℕ) (p q : Point) → HasFence bytes line m p q →
@@ -404,31 +418,16 @@ pub open-inside : (bytes line : List ℕ) (m : ℕ) (p q : Point) → HasFence b
     InsideFacts bytes p q (inside plain_text n.Frontmatter) behind_open (fresh OfFrontmatter)
     (front_leaf (take 3 line) [] false) (AtMarkers OfFrontmatter) (AtEnding OfFrontmatter) (fence_over line p q)
     (fence_over line p q)
-open-inside bytes line m p q h =
-    let placed = fence-placed bytes line m p q h in
-    let es = fence_over line p q in
-    record {
-      unread_nested = placed.nested;
-      nested = placed.nested;
-      tiled = placed.tiled;
-      unread_stood = placed.stood;
-      stood = placed.stood;
-      unread_word = fence-word unread_text (inside plain_text n.Frontmatter) line p q;
-      word = fence-word plain_text (inside plain_text n.Frontmatter) line p q;
-      unread_stays = stays-others es (fence-others line p q);
-      stays = stays-others es (fence-others line p q);
-      unread_roles = fence-parts line p q;
-      roles = fence-parts line p q;
-      parts = stands-outside bytes es (fence-no_parts line p q) (fence-no_links line p q);
-      filled = fill-same bytes es (fence-no_links line p q) (fence-no_parts line p q);
-      between = λ first last. fence-between bytes line m p q h first last;
-      parted = fence-sits bytes line p q;
-      plain = λ first. record {
-        known = fence-known bytes line m p q h;
-        lines = open-passes bytes line m p q h;
-      };
-      reads = fence-told bytes line m p q (fresh OfFrontmatter) h;
-    }
+open-inside bytes line m p q h = record {
+  parts =
+      fence-facts bytes line m p q (inside plain_text n.Frontmatter) (fresh OfFrontmatter)
+      (front_leaf (take 3 line) [] false) h
+      (fence-told bytes line m p q (fresh OfFrontmatter) h);
+  plain = λ first. record {
+    known = fence-known bytes line m p q h;
+    lines = open-passes bytes line m p q h;
+  };
+}
 
 -- The closing fence.
 
@@ -465,31 +464,16 @@ pub close-inside : (bytes line : List ℕ) (m : ℕ) (markers : List ℕ) (lines
     InsideFacts bytes p q in_line Nothing (front_leaf markers (lines ++ empty_line ∷ []) false)
     (front_leaf markers lines true) (AtLine OfFrontmatter) (AtEnd OfFrontmatter) (fence_over line p q)
     (fence_over line p q)
-close-inside bytes line m markers lines p q h some =
-    let placed = fence-placed bytes line m p q h in
-    let es = fence_over line p q in
-    record {
-      unread_nested = placed.nested;
-      nested = placed.nested;
-      tiled = placed.tiled;
-      unread_stood = placed.stood;
-      stood = placed.stood;
-      unread_word = fence-word unread_text in_line line p q;
-      word = fence-word plain_text in_line line p q;
-      unread_stays = stays-others es (fence-others line p q);
-      stays = stays-others es (fence-others line p q);
-      unread_roles = fence-parts line p q;
-      roles = fence-parts line p q;
-      parts = stands-outside bytes es (fence-no_parts line p q) (fence-no_links line p q);
-      filled = fill-same bytes es (fence-no_links line p q) (fence-no_parts line p q);
-      between = λ first last. fence-between bytes line m p q h first last;
-      parted = fence-sits bytes line p q;
-      plain = λ first. record {
-        known = fence-known bytes line m p q h;
-        lines = close-passes bytes line p q;
-      };
-      reads = λ r none opened.
-          fence-told bytes line m p q (front_leaf markers (lines ++ empty_line ∷ []) false) h r none opened
-          ∙ ap (λ (l : OpenLeaf). let x : Reading = record r { leaf = Some l } in x)
-          (closing-noted markers lines (text_line (take 3 line)) some);
-    }
+close-inside bytes line m markers lines p q h some = record {
+  parts =
+      fence-facts bytes line m p q in_line (front_leaf markers (lines ++ empty_line ∷ []) false)
+      (front_leaf markers lines true) h
+      (λ r none opened.
+      fence-told bytes line m p q (front_leaf markers (lines ++ empty_line ∷ []) false) h r none opened
+      ∙ ap (λ (l : OpenLeaf). let x : Reading = record r { leaf = Some l } in x)
+      (closing-noted markers lines (text_line (take 3 line)) some));
+  plain = λ first. record {
+    known = fence-known bytes line m p q h;
+    lines = close-passes bytes line p q;
+  };
+}

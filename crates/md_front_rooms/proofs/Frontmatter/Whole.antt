@@ -11,7 +11,7 @@ use Rattle.md_engine.specs.declared.event.Name.TheVariants as n
 use Rattle.md_engine.specs.declared.event.Point.{Point}
 use Rattle.md_engine.specs.Place.{first_point}
 use Rattle.md_containers.specs.Unlisted.{keeps_unlisted, unlisted_left}
-use Rattle.md_containers.proofs.UnlistedLemmas.{NoListing, StandsTo, Unlists, among, stands-append, unlists-append}
+use Rattle.md_containers.proofs.UnlistedLemmas.{StandsTo, Unlists, among, stands-append, unlists-append}
 use Rattle.md_containers.proofs.UnlistedLemmas.{unlists-rest, unlists-same}
 use Rattle.md_meaning.specs.Preamble.{has_mark}
 use Rattle.md_meaning.specs.Texts.{first_byte}
@@ -29,71 +29,54 @@ use Rattle.md_seam.specs.Events.Spelled.{next_line, on_leaf, read, unread}
 use Rattle.md_seam.proofs.EndingsLemmas.{Leads, behind_leaf, leads-append, leaf-leads}
 use Rattle.md_seam.proofs.GrammarLemmas as grammar
 use Rattle.md_seam.proofs.GrammarLemmas.{leads-around}
-use Rattle.md_seam.proofs.NestedLemmas.{at_or_before-refl, balanced-none}
-use Rattle.md_seam.proofs.InlineLemmas.{same-refl}
 use Rattle.md_seam.proofs.SpelledLemmas.{read-from, read-quiet}
 use Rattle.md_front_rooms.specs.Front.{mark_end, mark_events, mark_point}
-use Rattle.md_frame.proofs.BetweenFacts.{AreBetween, around-between, between-append, between-end, between-pair}
+use Rattle.md_frame.proofs.BetweenFacts.{AreBetween, between-end}
 use Rattle.md_frame.proofs.BetweenFacts.{ending-before, ending-behind}
-use Rattle.md_frame.proofs.ChunkFacts.{ending-stands, line-ending}
-use Rattle.md_frame.proofs.EndingFacts.{ending-nested}
-use Rattle.md_frame.proofs.FillFacts.{PartsRead, fill-append, fill-around, fill-same}
 use Rattle.md_front_rooms.proofs.Frontmatter.Found.{AtEnd, Ended, Tail}
 use Rattle.md_front_rooms.proofs.Frontmatter.Lines.{IsFront, front-fills, front-inside}
 use Rattle.md_front_rooms.proofs.Frontmatter.Parts.{front_leaf, text_line}
-use Rattle.md_frame.proofs.LeafStands.{around-unlisted, between-stand, leaf-stands, unlisted-both}
+use Rattle.md_frame.proofs.LeafStands.{around-unlisted, between-stand, leaf-stands}
 use Rattle.md_frame.proofs.IndentRemoved.Shown.{whole-clear}
 use Rattle.md_front_rooms.proofs.MarkLemmas.{between-mark, body-between, body-vs}
-use Rattle.md_frame.proofs.PartedFacts.{PrefixesAtLineStart, around-sits, clear, sits-append}
-use Rattle.md_frame.proofs.PartsStand.{PartsWhole, stands-around, stands-outside}
+use Rattle.md_frame.proofs.PartedFacts.{clear}
 use Rattle.md_frame.proofs.PartsStand as parts
-use Rattle.md_frame.proofs.PieceFacts.{Starts, PiecesValid, over-stands, stood-append, stood-around, stood-none}
-use Rattle.md_frame.proofs.PieceFacts.{stood-pair}
-use Rattle.md_frame.proofs.PiecesLemmas.{Covered, tiled-append, tiled-around, tiled-none, tiled-pair}
+use Rattle.md_frame.proofs.PieceFacts.{Starts, over-stands}
 use Rattle.md_frame.proofs.PlainFacts.{ArePlain, known-around, plain-append, plain-nil, plain-quiet}
 use Rattle.md_frame.proofs.PlainFacts.{plain-untold}
 use Rattle.md_seam.proofs.FeedLines.{IsEnding}
-use Rattle.md_frame.proofs.SpanLemmas.{Nested_in, around-nested, nested_in-append}
+use Rattle.md_frame.proofs.EndingFacts.{stretch-ended}
+use Rattle.md_frame.proofs.EventNames.{NoContainer, part-no_container}
+use Rattle.md_frame.proofs.Stretch.{Stretch, stretch-append, stretch-around, stretch-as, stretch-none, stretch-pair}
 
 -- Events in front of the lines, from a point to a point, whatever they are read as.
 pub record FrontPart (bytes : List ℕ) (p q : Point) (es : List Event) : Type 0 where
-  pub nested : Nested_in p q es
-  pub tiled : Covered p q es
-  pub stood : PiecesValid bytes es
-  pub unlisted : NoListing es
+  pub stretch : Stretch NoContainer bytes p q es es
+  pub first : is_between bytes p.index ≡ true
+  pub last : is_between bytes q.index ≡ true
   pub stands : StandsTo bytes (among []) (among []) es
-  pub parts : PartsWhole bytes es
-  pub filled : PartsRead bytes es es
-  pub between : AreBetween bytes es
-  pub parted : PrefixesAtLineStart bytes es
   pub plain : ArePlain bytes es
 
-pub part-none : (bytes : List ℕ) (p : Point) → FrontPart bytes p p []
-part-none bytes p = record {
-  nested = (balanced-none, (tt, at_or_before-refl p));
-  tiled = tiled-none p p (same-refl p);
-  stood = stood-none bytes;
-  unlisted = tt;
+-- it stands between characters
+pub part-between : (bytes : List ℕ) (p q : Point) (es : List Event) → FrontPart bytes p q es → AreBetween bytes es
+part-between bytes p q es h = h.stretch.between h.first h.last
+
+pub part-none : (bytes : List ℕ) (p : Point) → is_between bytes p.index ≡ true → FrontPart bytes p p []
+part-none bytes p first = record {
+  stretch = stretch-none NoContainer bytes p;
+  first = first;
+  last = first;
   stands = record { stand = tt; behind = refl };
-  parts = stands-outside bytes [] tt tt;
-  filled = fill-same bytes [] tt tt;
-  between = refl;
-  parted = λ ys h. h;
   plain = plain-nil bytes;
 }
 
 pub part-append : (bytes : List ℕ) (p q r : Point) (xs ys : List Event) → FrontPart bytes p q xs →
     FrontPart bytes q r ys → FrontPart bytes p r (xs ++ ys)
 part-append bytes p q r xs ys h k = record {
-  nested = nested_in-append p q r xs ys h.nested k.nested;
-  tiled = tiled-append p q r xs ys h.tiled k.tiled;
-  stood = stood-append bytes xs ys h.stood k.stood;
-  unlisted = unlisted-both xs ys h.unlisted k.unlisted;
+  stretch = stretch-append h.stretch k.stretch (λ first last. h.last);
+  first = h.first;
+  last = k.last;
   stands = stands-append bytes (among []) (among []) (among []) xs ys h.stands k.stands;
-  parts = parts.stands-append bytes xs ys h.parts k.parts;
-  filled = fill-append bytes xs xs ys ys h.filled k.filled;
-  between = between-append bytes xs ys h.between k.between;
-  parted = sits-append bytes xs ys h.parted k.parted;
   plain = plain-append bytes xs ys h.plain k.plain;
 }
 
@@ -101,15 +84,10 @@ part-append bytes p q r xs ys h k = record {
 ending-part : (bytes : List ℕ) (p q : Point) → p.vs ≡ 0 → is_between bytes p.index ≡ true →
     is_between bytes q.index ≡ true → IsEnding bytes p q → FrontPart bytes p q (pair n.LineEnding p q)
 ending-part bytes p q whole first last is = record {
-  nested = ending-nested bytes n.LineEnding p q is;
-  tiled = tiled-pair n.LineEnding p q;
-  stood = stood-pair bytes n.LineEnding p q (ending-stands bytes n.LineEnding p q line-ending whole is);
-  unlisted = (refl, (refl, tt));
+  stretch = stretch-ended NoContainer bytes false p q tt tt whole is;
+  first = first;
+  last = last;
   stands = between-stand bytes [] (pair n.LineEnding p q) (tt, (tt, tt));
-  parts = stands-outside bytes (pair n.LineEnding p q) (refl, (refl, tt)) (refl, (refl, tt));
-  filled = fill-same bytes (pair n.LineEnding p q) (refl, (refl, tt)) (refl, (refl, tt));
-  between = between-pair bytes n.LineEnding p q first last;
-  parted = λ ys h. h;
   plain = plain-untold bytes (pair n.LineEnding p q) ((refl, refl), ((refl, refl), tt));
 }
 
@@ -119,16 +97,14 @@ front-part : (bytes : List ℕ) (p : Point) (texts : List (List ℕ)) (es : List
     IsFront bytes p texts es z → FrontPart bytes p z (around n.Frontmatter p z es)
 front-part bytes p texts es z free first last is =
     let h = front-inside bytes p texts es z is in
+    let starts : Starts es = subst Starts (sym is.all) refl in
     record {
-      nested = around-nested n.Frontmatter p z es h.nested;
-      tiled = tiled-around n.Frontmatter p z es h.tiled;
-      stood = stood-around bytes n.Frontmatter p z es (subst Starts (sym is.all) refl) h.stood;
-      unlisted = around-unlisted n.Frontmatter p z es refl h.roles;
-      stands = leaf-stands bytes [] n.Frontmatter OfFrontmatter p z es refl h.roles;
-      parts = stands-around bytes n.Frontmatter p z es refl h.parts;
-      filled = fill-around bytes n.Frontmatter p z es es refl h.filled;
-      between = around-between bytes n.Frontmatter p z es first last (h.between first last);
-      parted = around-sits bytes n.Frontmatter p z es tt h.parted;
+      stretch =
+          stretch-around n.Frontmatter (record { role_is = tt; no_part = refl; still = tt }) starts starts
+          (stretch-as part-no_container h.parts.stretch);
+      first = first;
+      last = last;
+      stands = leaf-stands bytes [] n.Frontmatter OfFrontmatter p z es refl h.parts.stretch.roles;
       plain = record {
         known = known-around bytes n.Frontmatter p z es refl refl refl (h.plain free).known;
         lines = passes-front bytes p z es (h.plain free).lines;
@@ -143,7 +119,7 @@ front-reads bytes p texts es z is r none shut =
     let h = front-inside bytes p texts es z is in
     let to = front_leaf (take 3 is.line) (map text_line texts) true in
     read-from bytes (record r { leaf = Some (fresh OfFrontmatter) }) (record r { leaf = Some to }) es
-    (exit n.Frontmatter z ∷ []) (h.reads (record r { leaf = Some (fresh OfFrontmatter) }) none refl)
+    (exit n.Frontmatter z ∷ []) (h.parts.reads (record r { leaf = Some (fresh OfFrontmatter) }) none refl)
     ∙ ap (λ (o : Option OpenLeaf). add_block (block_of to) (record r { leaf = o })) (sym shut)
     ∙ ap (λ (b : Block). add_block b r)
     (ap₂ Frontmatter (ap first_byte is.opens.markers) (texts-same texts))
@@ -167,10 +143,10 @@ front-word : (bytes : List ℕ) (text x : Expression) (p : Point) (texts : List 
     grammar.Leads text (x ∷ []) (behind n.Frontmatter x ∷ []) (around n.Frontmatter p z es)
 front-word bytes _ x p texts es z Unread is =
     leads-around unread_text x n.Frontmatter p z es
-    (record { left = Nothing; leads = (front-inside bytes p texts es z is).unread_word; ends = refl })
+    (record { left = Nothing; leads = (front-inside bytes p texts es z is).parts.unread_word; ends = refl })
 front-word bytes _ x p texts es z Plain is =
     leads-around plain_text x n.Frontmatter p z es
-    (record { left = Nothing; leads = (front-inside bytes p texts es z is).word; ends = refl })
+    (record { left = Nothing; leads = (front-inside bytes p texts es z is).parts.word; ends = refl })
 
 -- The mark.
 
@@ -180,28 +156,24 @@ mark-part bytes = go (has_mark bytes) refl
     go : (x : Bool) → has_mark bytes ≡ x →
         FrontPart bytes first_point (cond x mark_end first_point)
         (cond x (pair n.ByteOrderMark first_point mark_end) [])
-    go false e = part-none bytes first_point
+    go false e = part-none bytes first_point refl
     go true e =
         let mark = pair n.ByteOrderMark first_point mark_end in
         let slice : slice_range bytes 0 3 ≡ 239 ∷ 187 ∷ 191 ∷ [] =
         ap (λ (l : List ℕ). slice_range l 0 3) (mark-bytes bytes e) in
         record {
-          nested = around-nested n.ByteOrderMark first_point mark_end [] (balanced-none, (tt, refl));
-          tiled = tiled-pair n.ByteOrderMark first_point mark_end;
-          stood =
-              stood-pair bytes n.ByteOrderMark first_point mark_end
+          stretch =
+              stretch-pair NoContainer bytes n.ByteOrderMark first_point mark_end
+              (record { role_is = tt; no_part = refl; parted = λ p q ys h. h }) refl
               (over-stands bytes n.ByteOrderMark first_point mark_end (239 ∷ 187 ∷ 191 ∷ [])
               (record {
                 slice = slice;
                 some = omega arith;
                 whole = refl;
               }) refl refl);
-          unlisted = (refl, (refl, tt));
+          first = refl;
+          last = between-mark bytes e;
           stands = between-stand bytes [] mark (tt, (tt, tt));
-          parts = stands-outside bytes mark (refl, (refl, tt)) (refl, (refl, tt));
-          filled = fill-same bytes mark (refl, (refl, tt)) (refl, (refl, tt));
-          between = between-pair bytes n.ByteOrderMark first_point mark_end refl (between-mark bytes e);
-          parted = λ ys h. h;
           plain = plain-quiet bytes mark (tt, (tt, tt));
         }
 
@@ -327,7 +299,7 @@ front-unlists bytes text texts es z kind is =
     unlists-append text (cond (has_mark bytes) (Then (one n.ByteOrderMark) form) form ∷ []) (form ∷ [])
     (behind_block ∷ []) (mark_events bytes) (around n.Frontmatter p z es) (mark-unlists text form bytes refl)
     (unlists-same text (form ∷ []) (behind_block ∷ []) (around n.Frontmatter p z es)
-    (around-unlisted n.Frontmatter p z es refl h.roles) (front-word bytes text form p texts es z kind is))
+    (around-unlisted n.Frontmatter p z es refl h.parts.stretch.roles) (front-word bytes text form p texts es z kind is))
 
 ending-unlists : (text : Expression) (z r : Point) →
     Unlists text (behind_block ∷ []) (blocks ∷ []) (pair n.LineEnding z r)

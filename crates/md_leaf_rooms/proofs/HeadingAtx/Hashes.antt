@@ -1,5 +1,6 @@
 -- The runs around the text of a heading stand over their bytes.
-use Rattle.std.proofs.Common.{◌≡◌, ℕ, Bool, true, false, ◌||◌, List, [], ◌∷◌, ◌++◌, length, drop, refl, ap, ◌∙◌, arith}
+use Rattle.std.proofs.Common.{◌≡◌, ℕ, Bool, true, false, ◌||◌, List, [], ◌∷◌, ◌++◌, length, drop, refl, ap, sym, subst}
+use Rattle.std.proofs.Common.{arith}
 use Rattle.std.specs.Prelude.{◌==◌, nat_le}
 use Rattle.std.specs.List.{AllPass, list_all}
 use Rattle.std.proofs.lemmas.Bool.{and_from}
@@ -7,18 +8,18 @@ use Rattle.std.proofs.lemmas.Bool.Decides.{nat_tests}
 use Rattle.md_engine.specs.declared.event.Event.{Event}
 use Rattle.md_engine.specs.declared.event.Name.TheVariants as n
 use Rattle.md_engine.specs.declared.event.Point.{Point}
+use Rattle.md_containers.specs.ItemsStand.{IsPart}
 use Rattle.md_leaves.specs.HeadingRule as heading
 use Rattle.md_leaves.specs.HeadingTitle.{line_runs}
 use Rattle.md_leaves.proofs.TitleLemmas.{is_mark}
 use Rattle.md_leaves.proofs.TitleRuns.{pass-first, pass-rest}
-use Rattle.md_seam.specs.Events.Inline.{pieces}
 use Rattle.md_seam.specs.Events.Nested.{enter, exit}
-use Rattle.md_seam.specs.Events.Pieces.{pieces_stand}
-use Rattle.md_seam.specs.Events.Places.{past_byte}
+use Rattle.md_seam.specs.Events.Places.{past_byte, past_text}
 use Rattle.md_meaning.specs.Rest.{is_white}
 use Rattle.md_frame.proofs.PieceFacts.{CutsFirst}
 use Rattle.md_frame.specs.MarkRuns.{Apart, Marks, Run, White, mark_runs}
-use Rattle.md_frame.proofs.PieceRuns.{AreMarks, IsMarker, other-run, runs-stand}
+use Rattle.md_frame.proofs.PieceRuns.{AreMarks, AreRuns, IsMarker, other-run, runs-stretch}
+use Rattle.md_frame.proofs.Stretch.{Stretch}
 
 -- the runs of a heading, where the marker is `#`
 abbrev heading_run : Run → heading.Run
@@ -81,9 +82,20 @@ marks-are (b ∷ bs) h =
 hash-marker : IsMarker n.HeadingAtxSequence 35
 hash-marker ys some all = and_from (nat_le 1 (length ys)) (list_all (λ b. b == 35) ys) (grind (arith, nat_tests)) all
 
--- The runs around the text of a heading stand.
-pub hashes-stand : (bytes xs rest : List ℕ) (p : Point) → AllPass is_mark xs → drop p.index bytes ≡ xs ++ rest →
-    CutsFirst p xs → pieces_stand bytes (pieces (line_runs heading.Apart xs p)) ≡ true
-hashes-stand bytes xs rest p marks e cut =
-    ap (λ (es : List Event). pieces_stand bytes (pieces es)) (hashes-are Apart xs p (marks-are xs marks))
-    ∙ runs-stand bytes n.HeadingAtxSequence 35 xs rest p hash-marker refl (marks-are xs marks) e cut
+hash-runs : (bytes : List ℕ) → AreRuns IsPart bytes n.HeadingAtxSequence 35
+hash-runs bytes = record {
+  marker = hash-marker;
+  dark = refl;
+  low = refl;
+  marks = record { role_is = tt; no_part = refl; parted = λ p q ys h. h };
+  white = tt;
+}
+
+-- The runs around the text of a heading are a stretch.
+pub hashes-stretch : (bytes xs rest : List ℕ) (p : Point) → AllPass is_mark xs → drop p.index bytes ≡ xs ++ rest →
+    CutsFirst p xs →
+    Stretch IsPart bytes p (past_text xs p) (line_runs heading.Apart xs p) (line_runs heading.Apart xs p)
+hashes-stretch bytes xs rest p marks e cut =
+    subst (λ (es : List Event). Stretch IsPart bytes p (past_text xs p) es es)
+    (sym (hashes-are Apart xs p (marks-are xs marks)))
+    (runs-stretch IsPart bytes n.HeadingAtxSequence 35 xs rest p (hash-runs bytes) (marks-are xs marks) e cut)

@@ -1,43 +1,37 @@
 -- The laws of ATX headings.
 use Rattle.md_engine.specs.declared.tokenizer.held_leaf.HeldLeaf.TheVariants as held_leaf
-use Rattle.std.proofs.Common.{◌≡◌, ℕ, true, List, ◌&&◌, refl, sym, ap, ◌∙◌, subst}
-use Rattle.std.specs.Prelude.{Some}
+use Rattle.std.proofs.Common.{◌≡◌, ℕ, true, List, ◌++◌, ◌&&◌, refl, sym, ap, ◌∙◌, subst}
+use Rattle.std.specs.Prelude.{Option, Some}
 use Rattle.std.proofs.lemmas.Bool.{and_parts}
 use Rattle.md_engine.specs.declared.configuration.ParseOptions.{ParseOptions}
 use Rattle.md_engine.specs.declared.event.Event.{Event}
 use Rattle.md_engine.specs.declared.event.Name.TheVariants as n
 use Rattle.md_engine.specs.declared.event.Point.{Point}
 use Rattle.md_leaves.specs.HeadingRule.{is_heading}
-use Rattle.md_leaves.specs.HeadingTitle.{title_of, unread_title}
+use Rattle.md_leaves.specs.HeadingText.{linked_text}
+use Rattle.md_leaves.specs.HeadingTitle.{title_of}
+use Rattle.md_seam.specs.declared.inline.Chunk.{Chunk}
 use Rattle.md_seam.specs.Events.Places.{past_text}
 use Rattle.md_seam.specs.Events.Spelled.{OfHeadingAtx}
+use Rattle.md_seam.proofs.EndingsLemmas.{AreOthers, Leads, in_leaf, others-lead}
 use Rattle.md_meaning.specs.Rest.{Rest, has_small_indent, trim_start}
 use Rattle.md_frame.specs.RestLine.{rest_line}
-use Rattle.md_leaf_rooms.specs.Leaf.HeadingAtx.{heading_leaf, read_title}
-use Rattle.md_frame.proofs.FillFacts.{fill-around}
+use Rattle.md_leaf_rooms.specs.Leaf.HeadingAtx.{heading_leaf, read_text}
 use Rattle.md_leaf_rooms.proofs.HeadingAtx.Outside.{heading_resolver}
-use Rattle.md_leaf_rooms.proofs.HeadingAtx.Between.{heading-between}
 use Rattle.md_leaf_rooms.proofs.HeadingAtx.Cells.{heading-adds, heading-fits}
-use Rattle.md_leaf_rooms.proofs.HeadingAtx.Endings.{read-ending, unread-ending}
-use Rattle.md_leaf_rooms.proofs.HeadingAtx.Nested.{read-nested, unread-nested}
+use Rattle.md_leaf_rooms.proofs.HeadingAtx.Endings.{linked-others, title-others}
 use Rattle.md_leaf_rooms.proofs.HeadingAtx.NoContent.{heading-no_content}
-use Rattle.md_leaf_rooms.proofs.HeadingAtx.Parted.{heading-sits}
-use Rattle.md_leaf_rooms.proofs.HeadingAtx.Pieces.{read-stood, unread-stood}
 use Rattle.md_leaf_rooms.proofs.HeadingAtx.Plain.{heading-plain}
 use Rattle.md_leaf_rooms.proofs.HeadingAtx.Spelled.{heading-reads}
-use Rattle.md_leaf_rooms.proofs.HeadingAtx.Stands.{read-parts, unread-parts}
-use Rattle.md_leaf_rooms.proofs.HeadingAtx.Texts.{fill-title, heading-resolved, stands-title}
-use Rattle.md_leaf_rooms.proofs.HeadingAtx.Tiled.{heading-tiled}
+use Rattle.md_leaf_rooms.proofs.HeadingAtx.Texts.{heading-resolved}
+use Rattle.md_leaf_rooms.proofs.HeadingAtx.Title.{TitleFacts, title-facts}
 use Rattle.md_leaf_rooms.proofs.HeadingAtx.Trial.{trial-looked, trial-refused, trial-shrinks, trial-took}
 use Rattle.md_leaf_rooms.proofs.HeadingAtx.Names.{heading-alone, heading-unjoined, heading-unspanned, heading-unturned}
 use Rattle.md_leaf_rooms.proofs.HeadingAtx.Words.{read-word, unread-word}
 use Rattle.md_frame.proofs.LeafFacts.{LeafFacts, LineAt}
 use Rattle.md_frame.proofs.LeafLaws.{LeafLaws}
-use Rattle.md_frame.proofs.LeafStands.{around-unlisted, leaf-stands}
-use Rattle.md_frame.proofs.PartsStand.{stands-around}
-use Rattle.md_frame.proofs.PiecesLemmas.{Covered}
+use Rattle.md_frame.proofs.LeafLines.Leaf.{leaf-around}
 use Rattle.md_frame.proofs.RestFacts.{rest-trim}
-use Rattle.md_frame.proofs.SpanLemmas.{Nested_in}
 
 -- the line of a heading begins with its markers, behind whitespace
 line-begins : (options : ParseOptions) (r : Rest) → heading_leaf.starts options held_leaf.None r ≡ true →
@@ -52,48 +46,40 @@ heading-facts : (options : ParseOptions) (bytes : List ℕ) (r : Rest) (p q : Po
     heading_leaf.starts options held_leaf.None r ≡ true → LineAt bytes r (rest_line r) p q →
     LeafFacts bytes (Some (heading_leaf.block r)) true p q (heading_leaf.unread (rest_line r) p)
     (heading_leaf.done bytes (rest_line r) p)
-heading-facts options bytes r p q starts is = record {
-  unread_nested = subst (λ (e : Point). Nested_in p e unread) (sym is.end) (unread-nested line p);
-  nested = subst (λ (e : Point). Nested_in p e done) (sym is.end) (read-nested bytes line p);
-  tiled = subst (λ (e : Point). Covered p e unread) (sym is.end) (heading-tiled line p);
-  unread_stood = unread-stood bytes r line p q is begins;
-  stood = read-stood bytes r line p q is begins;
-  behind = true;
-  unread_word = unread-word line p begins;
-  word = read-word bytes line p begins;
-  unread_ending = unread-ending line p;
-  ending = read-ending bytes r line p q is;
-  unread_unlisted =
-      around-unlisted n.HeadingAtx p (past_text line p) (unread_title (title_of line p)) refl (unread-parts line p);
-  unlisted =
-      around-unlisted n.HeadingAtx p (past_text line p) (read_title bytes (title_of line p)) refl
-      (read-parts bytes line p);
-  stands =
-      λ held. leaf-stands bytes held n.HeadingAtx OfHeadingAtx p (past_text line p)
-      (read_title bytes (title_of line p)) refl (read-parts bytes line p);
-  parts =
-      stands-around bytes n.HeadingAtx p (past_text line p) (unread_title (title_of line p)) refl
-      (stands-title bytes r line p q is);
-  filled =
-      fill-around bytes n.HeadingAtx p (past_text line p) (unread_title (title_of line p))
-      (read_title bytes (title_of line p)) refl (fill-title bytes line p);
-  between = λ first last. heading-between bytes r line p q is first last;
-  parted = heading-sits bytes line p;
-  plain = λ h. heading-plain bytes line p h;
-  reads = λ o text leaf. heading-reads bytes r line p q o is begins text leaf;
-}
+heading-facts options bytes r p q starts is =
+    subst
+    (λ (e : Point).
+    LeafFacts bytes (Some (heading_leaf.block r)) true p e (heading_leaf.unread line p)
+    (heading_leaf.done bytes line p)) (sym is.end)
+    (leaf-around n.HeadingAtx OfHeadingAtx (record { is = refl; leaf = refl; no_part = refl; block = refl }) (record {
+      unread_starts = title.unread_starts;
+      starts = title.starts;
+      stretch = title.stretch;
+      unread_word = unread-word line p begins;
+      word = read-word bytes line p begins;
+      unread_ending = ends (linked_text text) (linked-others text);
+      ending = ends (read_text bytes text) title.others;
+      plain = λ h. heading-plain bytes line p h;
+      reads = λ o none shut. heading-reads bytes r line p q o is begins none shut;
+    }))
   where
     line : List ℕ
     line = rest_line r
 
-    unread : List Event
-    unread = heading_leaf.unread line p
-
-    done : List Event
-    done = heading_leaf.done bytes line p
+    text : Option Chunk
+    text = (title_of (rest_line r) p).text
 
     begins : is_heading (trim_start (rest_line r)) ≡ true
     begins = line-begins options r starts
+
+    title : TitleFacts bytes (rest_line r) p
+    title = title-facts bytes r (rest_line r) p q is begins
+
+    ends : (es : List Event) → AreOthers es →
+        Leads (in_leaf true) (in_leaf true) ((title_of (rest_line r) p).front ++ es ++ (title_of (rest_line r) p).back)
+    ends es others =
+        let title = title_of (rest_line r) p in
+        others-lead (in_leaf true) (title.front ++ es ++ title.back) refl (title-others (rest_line r) p es others)
 
 -- All that the frame asks of headings.
 pub heading-laws : LeafLaws heading_resolver heading_leaf

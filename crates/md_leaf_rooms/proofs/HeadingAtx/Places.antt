@@ -1,21 +1,17 @@
 -- Where the parts of a heading stand, on its line and in a text.
-use Rattle.std.proofs.Common.{◌≡◌, ℕ, ◌+◌, List, [], ◌∷◌, ◌++◌, length, take, drop, refl, ap, sym, ◌∙◌, subst, take-add}
-use Rattle.std.proofs.Common.{true, ◌<◌, slice_range, arith}
-use Rattle.std.specs.Prelude.{IsTrue}
-use Rattle.std.proofs.lemmas.Bool.{and_from}
+use Rattle.std.proofs.Common.{◌≡◌, ℕ, ◌+◌, List, ◌++◌, length, take, drop, ap, sym, ◌∙◌, subst, take-add}
+use Rattle.std.proofs.Common.{slice_range, arith}
 use Rattle.std.proofs.lemmas.List.{length-take-le, take-append-drop}
 use Rattle.md_engine.specs.declared.event.Point.{Point}
 use Rattle.md_leaves.specs.HeadingTitle.{front_len, text_of}
 use Rattle.md_leaves.proofs.TitleLemmas.{title-fits, title-text}
-use Rattle.md_seam.specs.Events.Inline.{are_lines, is_one_line}
-use Rattle.md_seam.specs.Events.Places.{at_or_before, past_text, same_place}
+use Rattle.md_seam.specs.Events.Places.{past_text}
 use Rattle.md_meaning.specs.Rest.{Rest}
-use Rattle.md_meaning.specs.Texts.{split_lines}
 use Rattle.md_seam.proofs.FeedLines.{slice-inside}
-use Rattle.md_seam.proofs.InlineLemmas.{before-text, past-index, past_text-append, same-refl}
+use Rattle.md_seam.proofs.InlineLemmas.{past-index, past_text-append}
 use Rattle.md_meaning.proofs.TextsLemmas.{NoEnding, no_ending-drop}
 use Rattle.md_frame.proofs.LeafFacts.{LineAt}
-use Rattle.md_frame.proofs.LineTexts.{no_ending-parts, one-last}
+use Rattle.md_frame.proofs.LineTexts.{no_ending-parts}
 
 -- On its line.
 
@@ -44,12 +40,6 @@ line-end-is line p =
     let size : ℕ = front_len line + length (text_of line) in
     ap (λ (l : List ℕ). past_text l p) (sym (take-append-drop size line))
     ∙ past_text-append (take size line) (drop size line) p
-
--- the text ends no earlier than it begins
-pub text-order : (line : List ℕ) (p : Point) → IsTrue (at_or_before (text_begin line p) (text_end line p))
-text-order line p =
-    subst (λ (q : Point). IsTrue (at_or_before (text_begin line p) q)) (sym (text-end-is line p))
-    (before-text (text_bytes line) (text_begin line p))
 
 -- In a text.
 
@@ -82,15 +72,3 @@ title-is bytes r line p q is =
           ∙ title-text line;
       no_ending = (no_ending-parts text (drop size (drop first line)) (subst NoEnding parts behind)).0;
     }
-
--- and it is a line
-pub title-lines : (bytes : List ℕ) (r : Rest) (line : List ℕ) (p q : Point) → LineAt bytes r line p q →
-    0 < length (text_of line) →
-    are_lines bytes (text_end line p) (record { first = text_begin line p; after = text_end line p } ∷ []) ≡ true
-title-lines bytes r line p q is some =
-    let end : Point = text_end line p in
-    let title : IsTitle bytes line p = title-is bytes r line p q is in
-    and_from _ _
-    (ap (λ (l : List ℕ). is_one_line (split_lines l) (same_place end end)) title.slice
-    ∙ one-last (text_of line) some title.no_ending (same_place end end) (same-refl end))
-    refl

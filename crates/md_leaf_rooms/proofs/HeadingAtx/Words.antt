@@ -8,12 +8,11 @@ use Rattle.md_leaves.specs.HeadingRule.{is_heading}
 use Rattle.md_leaves.specs.HeadingText.{linked_text}
 use Rattle.md_leaves.specs.HeadingTitle.{title_of, unread_title}
 use Rattle.md_seam.specs.declared.inline.Chunk.{Chunk}
-use Rattle.md_seam.specs.Events.Grammar.{Expression, behind_block, blocks, plain_text, unread_text}
+use Rattle.md_seam.specs.Events.Grammar.{Expression, inside, plain_text, unread_text}
 use Rattle.md_seam.specs.Events.Inline.{plain_chunk}
-use Rattle.md_seam.specs.Events.Places.{past_text}
 use Rattle.md_meaning.specs.Rest.{trim_start}
 use Rattle.md_seam.proofs.GrammarLemmas.{IsWord, Leads, leads-around, maybe}
-use Rattle.md_leaf_rooms.specs.Leaf.HeadingAtx.{heading_around, read_text, read_title}
+use Rattle.md_leaf_rooms.specs.Leaf.HeadingAtx.{read_text, read_title}
 use Rattle.md_frame.proofs.ChunkFacts.{chunk-word}
 use Rattle.md_leaves.proofs.HeadingGrammar.{title-word}
 
@@ -38,21 +37,15 @@ read-text bytes (Some chunk) =
       λ x. leads-around plain_text x n.HeadingAtxText chunk.first chunk.after (plain_chunk bytes chunk ++ []) words,
     )
 
--- so the heading is a block, before its text is read and once it is
-heading-leads : (text : Expression) (line : List ℕ) (p : Point) (inside : List Event) →
-    is_heading (trim_start line) ≡ true → IsHeadingText text inside →
-    Leads text (blocks ∷ []) (behind_block ∷ [])
-    (heading_around line p ((title_of line p).front ++ inside ++ (title_of line p).back))
-heading-leads text line p inside h words =
-    leads-around text blocks n.HeadingAtx p (past_text line p)
-    ((title_of line p).front ++ inside ++ (title_of line p).back) (title-word text line p words.0 inside h words.1)
-
+-- so what stands in the heading is a word of it, before its text is read and once it is
 pub unread-word : (line : List ℕ) (p : Point) → is_heading (trim_start line) ≡ true →
-    Leads unread_text (blocks ∷ []) (behind_block ∷ []) (heading_around line p (unread_title (title_of line p)))
+    IsWord unread_text (inside unread_text n.HeadingAtx ∷ []) (unread_title (title_of line p))
 unread-word line p h =
-    heading-leads unread_text line p (linked_text (title_of line p).text) h (linked-text (title_of line p).text)
+    let words = linked-text (title_of line p).text in
+    title-word unread_text line p words.0 (linked_text (title_of line p).text) h words.1
 
 pub read-word : (bytes line : List ℕ) (p : Point) → is_heading (trim_start line) ≡ true →
-    Leads plain_text (blocks ∷ []) (behind_block ∷ []) (heading_around line p (read_title bytes (title_of line p)))
+    IsWord plain_text (inside plain_text n.HeadingAtx ∷ []) (read_title bytes (title_of line p))
 read-word bytes line p h =
-    heading-leads plain_text line p (read_text bytes (title_of line p).text) h (read-text bytes (title_of line p).text)
+    let words = read-text bytes (title_of line p).text in
+    title-word plain_text line p words.0 (read_text bytes (title_of line p).text) h words.1

@@ -23,20 +23,19 @@ use Rattle.md_seam.specs.Events.Grammar.{Expression, inside}
 use Rattle.md_seam.specs.Events.Nested.{enter, exit, pair}
 use Rattle.md_seam.specs.Events.Pieces.{is_run, stands_over}
 use Rattle.md_seam.specs.Events.Places.{past_text}
-use Rattle.md_seam.specs.Events.Spelled.{AsMarkers, IsQuiet, Reading, Role, TextRole, byte_at, columns_left, read}
-use Rattle.md_seam.specs.Events.Spelled.{role, told}
+use Rattle.md_seam.specs.Events.Spelled.{AsMarkers, Reading, byte_at, columns_left, read}
+use Rattle.md_seam.specs.Events.Spelled.{told}
 use Rattle.md_seam.proofs.BlocksLemmas.{read-around, read-told}
 use Rattle.md_seam.proofs.EndingsLemmas.{AreOthers, is_other}
 use Rattle.md_seam.proofs.GrammarLemmas.{IsWord}
 use Rattle.md_seam.proofs.SpelledLemmas.{Quiet, Roles, read-append, read-quiet}
-use Rattle.md_outline.specs.Between.{is_between}
 use Rattle.md_outline.specs.LinesStand.{BehindTitle, BehindUnderline}
 use Rattle.md_outline.proofs.LinesPass.{passes-underline}
 use Rattle.md_frame.specs.RestLine.{rest_line}
 use Rattle.md_leaf_rooms.specs.Leaf.HeadingSetext.{setext_leaf, underline_line}
 use Rattle.md_frame.specs.MarkRuns.{Apart, mark_runs}
 use Rattle.md_frame.specs.Row.{blank_line}
-use Rattle.md_frame.proofs.BetweenFacts.{AreBetween, around-between, is_low, low-between}
+use Rattle.md_frame.proofs.BetweenFacts.{is_low}
 use Rattle.md_order.specs.Alone.{InUnderline, closed_by, is_set}
 use Rattle.md_frame.proofs.ClosedFacts.{IsBlock, IsClosed, IsUnset, closed-around, stays-open}
 use Rattle.md_frame.proofs.EachEvent.{Each}
@@ -44,20 +43,18 @@ use Rattle.md_leaf_rooms.proofs.HeadingSetext.Bytes.{underline-dark, underline-r
 use Rattle.md_leaf_rooms.proofs.HeadingSetext.Kinds.{setext-starts, underline-first}
 use Rattle.md_frame.proofs.LeafFacts.{LineAt}
 use Rattle.md_frame.proofs.LineTexts.{line-stands}
-use Rattle.md_frame.proofs.MarkRuns.Each.{Holds, each-others, each-roles, line-holds, runs-hold}
-use Rattle.md_leaf_rooms.proofs.MarkRuns.Line.{HasRun, run-first, run-low, run-marks, run-text, run-whole}
+use Rattle.md_frame.proofs.MarkRuns.Each.{Holds, each-others, line-holds, runs-hold}
+use Rattle.md_leaf_rooms.proofs.MarkRuns.Line.{HasRun, run-first, run-marks, run-text, run-whole}
 use Rattle.md_leaf_rooms.proofs.MarkRuns.Line.{run_parts, runs-are}
 use Rattle.md_frame.proofs.OutsideFacts.{AreOutside, IsOutside}
-use Rattle.md_frame.proofs.PartFacts.{IsNoPart, IsUnlinked, NoLinks, NoParts}
-use Rattle.md_frame.proofs.PartedFacts.{PrefixesAtLineStart, around-sits, clear, quiets-still, sits-append, sits-still}
-use Rattle.md_frame.proofs.PieceFacts.{Starts, PiecesValid, stood-around}
-use Rattle.md_frame.proofs.PieceRuns.{IsMarker, marker-run, runs-nested, runs-stand, runs-start}
-use Rattle.md_frame.proofs.PieceRuns.{runs-tiled}
-use Rattle.md_frame.proofs.PiecesLemmas.{Covered, tiled-around}
+use Rattle.md_frame.proofs.PartedFacts.{clear}
+use Rattle.md_frame.proofs.PieceFacts.{Starts}
+use Rattle.md_frame.proofs.PieceRuns.{IsMarker, marker-run, runs-start, runs-stretch}
+use Rattle.md_frame.proofs.Stretch.{Stretch, stretch-around}
+use Rattle.md_containers.specs.ItemsStand.{IsPart}
 use Rattle.md_frame.proofs.PlainFacts.{ArePlainFrom, known-around, known-none, past-clear, plain-through}
 use Rattle.md_frame.proofs.PlainFacts.{quiet-from}
 use Rattle.md_frame.proofs.RestFacts.{rest-trim}
-use Rattle.md_frame.proofs.SpanLemmas.{Nested_in, around-nested}
 use Rattle.md_frame.proofs.SpannedFacts.{AreUnspanned, IsUnspanned}
 
 -- what stands in it
@@ -86,24 +83,6 @@ pub underline-each : (P : Event → Type 0) → Holds P n.HeadingSetextUnderline
 underline-each P around_it space mark line p =
     line-holds P n.HeadingSetextUnderline n.HeadingSetextUnderlineSequence around_it space mark
     (first_byte (trim_start line)) line p (past_text line p)
-
--- the tree shows its markers alone
-pub underline-roles : (P : Role → Type 0) → P IsQuiet → P (TextRole AsMarkers) → (line : List ℕ) (p : Point) →
-    Roles P (underline_line line p)
-underline-roles P quiet markers line p =
-    each-roles P (underline_line line p)
-    (underline-each (λ (e : Event). P (role e.name)) (λ q. quiet, λ q. quiet) (λ q. quiet, λ q. quiet)
-    (λ q. markers, λ q. markers) line p)
-
--- none has a link
-pub underline-unlinked : (line : List ℕ) (p : Point) → NoLinks (underline_line line p)
-underline-unlinked line p =
-    underline-each IsUnlinked (λ q. refl, λ q. refl) (λ q. refl, λ q. refl) (λ q. refl, λ q. refl) line p
-
--- none is of a text part
-pub underline-no_parts : (line : List ℕ) (p : Point) → NoParts (underline_line line p)
-underline-no_parts line p =
-    underline-each IsNoPart (λ q. refl, λ q. refl) (λ q. refl, λ q. refl) (λ q. refl, λ q. refl) line p
 
 -- none ends a line, or begins or ends a leaf
 pub underline-others : (line : List ℕ) (p : Point) → AreOthers (underline_line line p)
@@ -155,19 +134,7 @@ underline-unturned line p =
     each-unturned [] h = tt
     each-unturned (e ∷ es) h = (h.0, each-unturned es h.1)
 
--- Its places.
-
--- they nest on their line
-pub underline-nested : (line : List ℕ) (p : Point) → Nested_in p (past_text line p) (underline_line line p)
-underline-nested line p =
-    around-nested n.HeadingSetextUnderline p (past_text line p) (underline_parts line p)
-    (runs-nested n.HeadingSetextUnderlineSequence (first_byte (trim_start line)) line p)
-
--- and cover it
-pub underline-tiled : (line : List ℕ) (p : Point) → Covered p (past_text line p) (underline_line line p)
-underline-tiled line p =
-    tiled-around n.HeadingSetextUnderline p (past_text line p) (underline_parts line p)
-    (runs-tiled n.HeadingSetextUnderlineSequence (first_byte (trim_start line)) line p)
+-- It is a stretch.
 
 -- a marker of underlines
 run-marker : (m : ℕ) → is_marker m ≡ true → IsMarker n.HeadingSetextUnderlineSequence m
@@ -182,52 +149,37 @@ run-marker m e ys some all = go (m == 61) refl (m == 45) refl e
     go false f true g e = or_right (is_run 1 61 ys) (is_run 1 45 ys) (run 45 g)
     go false f false g e = cc
 
--- their pieces are over what their names say
-pub underline-stood : (bytes : List ℕ) (r : Rest) (line : List ℕ) (p q : Point) → LineAt bytes r line p q →
-    is_underline (trim_start line) ≡ true → PiecesValid bytes (underline_line line p)
-underline-stood bytes r line p q at is =
-    stood-around bytes n.HeadingSetextUnderline p (past_text line p) (underline_parts line p) (first line is m)
+-- of ASCII
+marker-low : (m : ℕ) → is_marker m ≡ true → is_low m ≡ true
+marker-low m e = grind (arith, nat_tests)
+
+-- all of it, on its line
+pub underline-stretch : (bytes : List ℕ) (r : Rest) (line : List ℕ) (p q : Point) → LineAt bytes r line p q →
+    is_underline (trim_start line) ≡ true →
+    Stretch IsPart bytes p q (underline_line line p) (underline_line line p)
+underline-stretch bytes r line p q at is =
+    subst (λ (e : Point). Stretch IsPart bytes p e (underline_line line p) (underline_line line p)) (sym at.end)
+    (stretch-around n.HeadingSetextUnderline (record { role_is = tt; no_part = refl; still = tt }) (first line is m)
+    (first line is m)
+    (runs-stretch IsPart bytes n.HeadingSetextUnderlineSequence m line (drop q.index bytes) p
     (record {
-      ends = tiled.ends;
-      stand =
-          runs-stand bytes n.HeadingSetextUnderlineSequence m line (drop q.index bytes) p
-          (run-marker m (underline-first (trim_start line) is)) (underline-dark line is)
-          (run-marks m line (underline-run line is)) (line-stands bytes r line p q at) at.cut_first;
-    })
+      marker = run-marker m mark;
+      dark = underline-dark line is;
+      low = marker-low m mark;
+      marks = record { role_is = tt; no_part = refl; parted = λ a b ys h. h };
+      white = tt;
+    }) (run-marks m line (underline-run line is)) (line-stands bytes r line p q at) at.cut_first))
   where
     m : ℕ
     m = first_byte (trim_start line)
 
-    tiled : Covered p (past_text line p) (underline_parts line p)
-    tiled = runs-tiled n.HeadingSetextUnderlineSequence m line p
+    mark : is_marker m ≡ true
+    mark = underline-first (trim_start line) is
 
     first : (line : List ℕ) → is_underline (trim_start line) ≡ true → (m : ℕ) →
         Starts (mark_runs n.HeadingSetextUnderlineSequence Apart m line p)
     first [] e m = absurd (cc)
     first (b ∷ bs) e m = runs-start n.HeadingSetextUnderlineSequence m b bs p
-
--- of ASCII
-marker-low : (m : ℕ) → is_marker m ≡ true → is_low m ≡ true
-marker-low m e = grind (arith, nat_tests)
-
--- they stand between characters
-pub underline-between : (bytes : List ℕ) (r : Rest) (line : List ℕ) (p q : Point) → LineAt bytes r line p q →
-    is_underline (trim_start line) ≡ true → is_between bytes p.index ≡ true → is_between bytes q.index ≡ true →
-    AreBetween bytes (underline_line line p)
-underline-between bytes r line p q at is first last =
-    around-between bytes n.HeadingSetextUnderline p (past_text line p) (underline_parts line p) first
-    (subst (λ (x : Point). is_between bytes x.index ≡ true) at.end last)
-    (low-between bytes line p q (underline_parts line p) at.text at.size
-    (run-low m line (marker-low m (underline-first (trim_start line) is)) (underline-run line is)) nested.1.0 nested.1.1
-    last)
-  where
-    m : ℕ
-    m = first_byte (trim_start line)
-
-    nested : Nested_in p q (underline_parts line p)
-    nested =
-        subst (λ (x : Point). Nested_in p x (underline_parts line p)) (sym at.end)
-        (runs-nested n.HeadingSetextUnderlineSequence m line p)
 
 -- The grammar.
 
@@ -248,37 +200,12 @@ underline-word text line p is =
     subst (IsWord text (inside text n.HeadingSetextUnderline ∷ [])) (sym (parts-are line p is))
     (parts-word text run.front run.marks run.back p)
 
--- What an outline asks: it parts no text, and tells the markers of a heading behind its text.
+-- What an outline asks: it tells the markers of a heading behind its text.
 
 -- whitespace is not shown
 blank-quiet : (bs : List ℕ) (p : Point) → Roles Quiet (blank_line bs p)
 blank-quiet [] p = tt
 blank-quiet (b ∷ bs) p = (tt, (tt, tt))
-
--- so it parts no text
-blank-sits : (bytes bs : List ℕ) (p : Point) → PrefixesAtLineStart bytes (blank_line bs p)
-blank-sits bytes bs p = sits-still bytes (blank_line bs p) (quiets-still (blank_line bs p) (blank-quiet bs p))
-
--- nor does the underline
-pub underline-sits : (bytes line : List ℕ) (p : Point) → is_underline (trim_start line) ≡ true →
-    PrefixesAtLineStart bytes (underline_line line p)
-underline-sits bytes line p is =
-    around-sits bytes n.HeadingSetextUnderline p (past_text line p) (underline_parts line p) tt
-    (subst (PrefixesAtLineStart bytes) (sym (parts-are line p is))
-    (sits-append bytes (blank_line run.front p) (marks ++ blank_line run.back b) (blank-sits bytes run.front p)
-    (sits-append bytes marks (blank_line run.back b) (λ ys h. h) (blank-sits bytes run.back b))))
-  where
-    run : HasRun (first_byte (trim_start line)) line
-    run = underline-run line is
-
-    a : Point
-    a = past_text run.front p
-
-    b : Point
-    b = past_text run.marks (past_text run.front p)
-
-    marks : List Event
-    marks = pair n.HeadingSetextUnderlineSequence a b
 
 -- all of it may be outlined
 pub underline-plain : (bytes line : List ℕ) (p : Point) → is_underline (trim_start line) ≡ true →

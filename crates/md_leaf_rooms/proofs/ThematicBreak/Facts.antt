@@ -3,48 +3,40 @@ use Rattle.std.proofs.Common.{◌≡◌, ℕ, suc, ◌+◌, Bool, true, false, c
 use Rattle.std.proofs.Common.{refl, ap, sym, ◌∙◌, subst, arith}
 use Rattle.std.specs.Prelude.{◌==◌, nat_le, count_by, Some}
 use Rattle.std.specs.List.{list_all, prefix_len}
-use Rattle.std.proofs.lemmas.Bool.{and_from, and_parts, eq-eqb, eqb-true, or_left, or_right}
+use Rattle.std.proofs.lemmas.Bool.{and_parts, eq-eqb, or_left, or_right}
 use Rattle.std.proofs.lemmas.Bool.Decides.{nat_tests}
 use Rattle.md_engine.specs.declared.configuration.ParseOptions.{ParseOptions}
 use Rattle.md_engine.specs.declared.event.Event.{Event}
 use Rattle.md_engine.specs.declared.event.Name.TheVariants as n
 use Rattle.md_engine.specs.declared.event.Point.{Point}
-use Rattle.md_containers.proofs.UnlistedLemmas.{NoListing}
-use Rattle.md_seam.specs.Events.Endings.{line_start, on_line}
-use Rattle.md_seam.specs.Events.Grammar.{Expression, Nothing, behind, blocks, inside, plain_text, unread_text}
-use Rattle.md_seam.specs.Events.Nested.{around}
+use Rattle.md_containers.specs.ItemsStand.{IsPart}
+use Rattle.md_seam.specs.Events.Endings.{on_line}
+use Rattle.md_seam.specs.Events.Grammar.{Expression, Nothing, behind, inside, plain_text, unread_text}
 use Rattle.md_seam.specs.Events.Pieces.{is_run, stands_over}
 use Rattle.md_seam.specs.Events.Places.{past_byte, past_text}
 use Rattle.md_seam.specs.Events.Spelled.{OfBreak, role}
 use Rattle.md_meaning.specs.Leaves.{is_rule, is_rule_marker}
 use Rattle.md_meaning.specs.Rest.{Rest, is_white, trim_start}
 use Rattle.md_meaning.specs.Tree.{Break}
-use Rattle.md_seam.proofs.EndingsLemmas as ending
-use Rattle.md_seam.proofs.EndingsLemmas.{AreOthers, behind_leaf, in_leaf, is_other, leaf-leads, others-lead}
-use Rattle.md_seam.proofs.GrammarLemmas.{IsWord, leads-around}
+use Rattle.md_seam.proofs.EndingsLemmas.{AreOthers, Leads, in_leaf, is_other, others-lead}
+use Rattle.md_seam.proofs.GrammarLemmas.{IsWord}
 use Rattle.md_seam.proofs.SpelledLemmas.{Quiet, Roles}
 use Rattle.md_frame.proofs.EachEvent.{Each}
 use Rattle.md_frame.specs.RestLine.{rest_line}
 use Rattle.md_leaf_rooms.specs.Leaf.ThematicBreak.{break_line, first_byte}
 use Rattle.md_leaf_rooms.specs.Leaf.ThematicBreak.{is_ruled}
 use Rattle.md_frame.specs.MarkRuns.{Apart, Marks, Run, White, mark_runs}
-use Rattle.md_frame.proofs.BetweenFacts.{all-more, around-between, is_low, low-between, trim-low, white-low}
-use Rattle.md_frame.proofs.FillFacts.{fill-around, fill-same}
+use Rattle.md_frame.proofs.BetweenFacts.{is_low}
 use Rattle.md_frame.proofs.LeafFacts.{LeafFacts, LineAt}
-use Rattle.md_frame.proofs.LeafStands.{around-unlisted, leaf-stands, quiets-parts}
+use Rattle.md_frame.proofs.LeafLines.Leaf.{leaf-around}
 use Rattle.md_frame.proofs.LineTexts.{line-stands}
 use Rattle.md_frame.proofs.MarkRuns.Each.{Holds, each-others, each-roles, line-holds, runs-hold}
 use Rattle.md_frame.proofs.OutsideFacts.{IsOutside, LineResolver}
-use Rattle.md_frame.proofs.PartFacts.{NoLinks, NoParts, quiet-no_parts, IsUnlinked}
-use Rattle.md_frame.proofs.PartedFacts.{around-sits, quiets-still, sits-still}
-use Rattle.md_frame.proofs.PartsStand.{stands-around, stands-outside}
-use Rattle.md_frame.proofs.PieceFacts.{Starts, PiecesValid, stood-around}
-use Rattle.md_frame.proofs.PieceRuns.{AreMarks, IsMarker, marker-run, runs-nested, runs-stand, runs-start}
-use Rattle.md_frame.proofs.PieceRuns.{runs-tiled}
-use Rattle.md_frame.proofs.PiecesLemmas.{Covered, tiled-around}
+use Rattle.md_frame.proofs.PieceFacts.{Starts}
+use Rattle.md_frame.proofs.PieceRuns.{AreMarks, AreRuns, IsMarker, marker-run, runs-start, runs-stretch}
 use Rattle.md_frame.proofs.PlainFacts.{plain-around, plain-quiet}
 use Rattle.md_frame.proofs.RestFacts.{rest-trim}
-use Rattle.md_frame.proofs.SpanLemmas.{Nested_in, around-nested, either}
+use Rattle.md_frame.proofs.SpanLemmas.{either}
 use Rattle.md_frame.proofs.SpannedFacts.{AreUnspanned, IsUnspanned}
 use Rattle.md_leaf_rooms.proofs.ThematicBreak.Kinds.{break-mark, first-behind, rule-first}
 use Rattle.md_seam.proofs.BreakReads.{read-break}
@@ -72,10 +64,6 @@ runs-quiet : (m : ℕ) (bs : List ℕ) (p : Point) → Roles Quiet (marks_of Apa
 runs-quiet m bs p =
     each-roles Quiet (marks_of Apart m bs p)
     (parts-hold (λ (e : Event). Quiet (role e.name)) (λ q. tt, λ q. tt) (λ q. tt, λ q. tt) m bs p)
-
--- none has a link
-runs-unlinked : (m : ℕ) (bs : List ℕ) (p : Point) → NoLinks (marks_of Apart m bs p)
-runs-unlinked m bs p = parts-hold IsUnlinked (λ q. refl, λ q. refl) (λ q. refl, λ q. refl) m bs p
 
 -- none ends a line
 runs-others : (m : ℕ) (bs : List ℕ) (p : Point) → AreOthers (marks_of Apart m bs p)
@@ -146,27 +134,15 @@ indent-marks m (b ∷ line) h = go (is_white b) refl (indent-marks m line) h
 marker-low : (b : ℕ) → is_rule_marker b ≡ true → is_low b ≡ true
 marker-low b h = grind (arith, nat_tests)
 
--- and so are all bytes of a rule
-rule-low : (bytes : List ℕ) → is_rule bytes ≡ true → list_all is_low bytes ≡ true
-rule-low [] h = refl
-rule-low (m ∷ bytes) h =
-    let outer : (is_rule_marker m && list_all (λ (b : ℕ). (b == m) || is_white b) bytes ≡ true) ×
-    (nat_le 2 (count_by (λ (b : ℕ). b == m) bytes) ≡ true) =
-    and_parts (is_rule_marker m && list_all (λ (b : ℕ). (b == m) || is_white b) bytes)
-    (nat_le 2 (count_by (λ (b : ℕ). b == m) bytes)) h in
-    let inner : (is_rule_marker m ≡ true) ×
-    (list_all (λ (b : ℕ). (b == m) || is_white b) bytes ≡ true) = and_parts (is_rule_marker m)
-    (list_all (λ (b : ℕ). (b == m) || is_white b) bytes) outer.0 in
-    let low : is_low m ≡ true = marker-low m inner.0 in
-    and_from (is_low m) (list_all is_low bytes) low
-    (all-more (λ (b : ℕ). (b == m) || is_white b) is_low bytes (either low) inner.1)
-  where
-    either : is_low m ≡ true → (b : ℕ) → ((b == m) || is_white b) ≡ true → is_low b ≡ true
-    either low b h = go (b == m) refl h
-      where
-        go : (x : Bool) → (b == m) ≡ x → (x || is_white b) ≡ true → is_low b ≡ true
-        go true e h = subst (λ (c : ℕ). is_low c ≡ true) (sym (eqb-true b m e)) low
-        go false e h = white-low b h
+-- its runs may stand in a text
+rule-runs : (bytes : List ℕ) (m : ℕ) → is_rule_marker m ≡ true → AreRuns IsPart bytes n.ThematicBreakSequence m
+rule-runs bytes m mark = record {
+  marker = rule-marker m mark;
+  dark = (break-mark m mark).dark;
+  low = marker-low m mark;
+  marks = record { role_is = tt; no_part = refl; parted = λ p q ys h. h };
+  white = tt;
+}
 
 -- The grammar.
 
@@ -237,14 +213,31 @@ pub break-facts : (options : ParseOptions) (bytes : List ℕ) (r : Rest) (p q : 
 break-facts options bytes r p q starts at =
     subst
     (λ (x : Point).
-    LeafFacts bytes (Some Break) true p q (around n.ThematicBreak p x inside_of) (around n.ThematicBreak p x inside_of))
-    at.end facts
+    LeafFacts bytes (Some Break) true p x (break_line (rest_line r) p) (break_line (rest_line r) p)) (sym at.end)
+    (leaf-around n.ThematicBreak OfBreak (record { is = refl; leaf = refl; no_part = refl; block = refl }) (record {
+      unread_starts = first line rule m;
+      starts = first line rule m;
+      stretch =
+          runs-stretch IsPart bytes n.ThematicBreakSequence m line (drop q.index bytes) p (rule-runs bytes m mark)
+          (indent-marks m line (rule-marks (trim_start line) rule)) (line-stands bytes r line p q at) at.cut_first;
+      unread_word = word unread_text;
+      word = word plain_text;
+      unread_ending = ends;
+      ending = ends;
+      plain =
+          λ whole. plain-around bytes n.ThematicBreak p end inside_of refl refl refl
+          (plain-quiet bytes inside_of quiet);
+      reads = λ r none shut. read-break bytes r p end inside_of shut quiet;
+    }))
   where
     line : List ℕ
     line = rest_line r
 
     m : ℕ
     m = first_byte (trim_start (rest_line r))
+
+    end : Point
+    end = past_text (rest_line r) p
 
     inside_of : List Event
     inside_of = marks_of Apart (first_byte (trim_start (rest_line r))) (rest_line r) p
@@ -255,77 +248,15 @@ break-facts options bytes r p q starts at =
     mark : is_rule_marker m ≡ true
     mark = rule-first (trim_start (rest_line r)) rule
 
-    nested : Nested_in p q inside_of
-    nested = subst (λ (x : Point). Nested_in p x inside_of) (sym at.end) (runs-nested n.ThematicBreakSequence m line p)
-
-    tiled : Covered p q inside_of
-    tiled = subst (λ (x : Point). Covered p x inside_of) (sym at.end) (runs-tiled n.ThematicBreakSequence m line p)
-
     quiet : Roles Quiet inside_of
     quiet = runs-quiet m line p
-
-    unlisted : NoListing (around n.ThematicBreak p q inside_of)
-    unlisted = around-unlisted n.ThematicBreak p q inside_of refl (quiets-parts inside_of quiet)
-
-    outside : NoParts inside_of
-    outside = quiet-no_parts inside_of quiet
-
-    unlinked : NoLinks inside_of
-    unlinked = runs-unlinked m line p
-
-    text : drop p.index bytes ≡ line ++ drop q.index bytes
-    text = line-stands bytes r line p q at
 
     first : (line : List ℕ) → is_rule (trim_start line) ≡ true → (m : ℕ) → Starts (marks_of Apart m line p)
     first [] e m = cc
     first (b ∷ bs) e m = runs-start n.ThematicBreakSequence m b bs p
 
-    stood : PiecesValid bytes (around n.ThematicBreak p q inside_of)
-    stood =
-        stood-around bytes n.ThematicBreak p q inside_of (first line rule m) (record {
-          ends = tiled.ends;
-          stand =
-              runs-stand bytes n.ThematicBreakSequence m line (drop q.index bytes) p (rule-marker m mark)
-              (break-mark m mark).dark (indent-marks m line (rule-marks (trim_start line) rule)) text at.cut_first;
-        })
-
     word : (text : Expression) → IsWord text (inside text n.ThematicBreak ∷ []) inside_of
     word text = break-word text m line p mark refl
 
-    ends : ending.Leads line_start behind_leaf (around n.ThematicBreak p q inside_of)
-    ends =
-        leaf-leads n.ThematicBreak p q inside_of refl
-        (others-lead (in_leaf true) inside_of refl (runs-others m line p))
-
-    facts :
-        LeafFacts bytes (Some Break) true p q (around n.ThematicBreak p q inside_of)
-        (around n.ThematicBreak p q inside_of)
-    facts = record {
-      unread_nested = around-nested n.ThematicBreak p q inside_of nested;
-      nested = around-nested n.ThematicBreak p q inside_of nested;
-      tiled = tiled-around n.ThematicBreak p q inside_of tiled;
-      unread_stood = stood;
-      stood = stood;
-      behind = true;
-      unread_word = leads-around unread_text blocks n.ThematicBreak p q inside_of (word unread_text);
-      word = leads-around plain_text blocks n.ThematicBreak p q inside_of (word plain_text);
-      unread_ending = ends;
-      ending = ends;
-      unread_unlisted = unlisted;
-      unlisted = unlisted;
-      stands =
-          λ held. leaf-stands bytes held n.ThematicBreak OfBreak p q inside_of refl (quiets-parts inside_of quiet);
-      parts = stands-around bytes n.ThematicBreak p q inside_of refl (stands-outside bytes inside_of outside unlinked);
-      filled =
-          fill-around bytes n.ThematicBreak p q inside_of inside_of refl (fill-same bytes inside_of unlinked outside);
-      between =
-          λ begin end. around-between bytes n.ThematicBreak p q inside_of begin end
-          (low-between bytes line p q inside_of at.text at.size
-          (trim-low line (rule-low (trim_start line) rule)) nested.1.0 nested.1.1 end);
-      parted =
-          around-sits bytes n.ThematicBreak p q inside_of tt
-          (sits-still bytes inside_of (quiets-still inside_of quiet));
-      plain =
-          λ whole. plain-around bytes n.ThematicBreak p q inside_of refl refl refl (plain-quiet bytes inside_of quiet);
-      reads = λ r none shut. read-break bytes r p q inside_of shut quiet;
-    }
+    ends : Leads (in_leaf true) (in_leaf true) inside_of
+    ends = others-lead (in_leaf true) inside_of refl (runs-others m line p)

@@ -12,27 +12,23 @@ use Rattle.md_leaves.specs.declared.spans.Place.TheVariants.{Between, Inside, Ou
 use Rattle.md_leaves.specs.Spanned.{name_at, renamed}
 use Rattle.md_leaves.proofs.SpannedLines.{NoBlocks}
 use Rattle.md_code.proofs.CodeLines.{blank-line}
-use Rattle.md_seam.specs.Events.Endings.{line_start}
-use Rattle.md_seam.specs.Events.Grammar.{blocks, plain_text, unread_text}
+use Rattle.md_seam.specs.Events.Grammar.{blocks}
 use Rattle.md_seam.specs.Events.Nested.{pair}
-use Rattle.md_seam.proofs.EndingsLemmas.{AreOthers, others-lead}
 use Rattle.md_seam.proofs.GrammarLemmas as grammar
-use Rattle.md_seam.proofs.SpelledLemmas as spelled
-use Rattle.md_seam.proofs.SpelledLemmas.{Quiet, Roles, read-quiet}
+use Rattle.md_seam.proofs.SpelledLemmas.{Quiet, Roles}
 use Rattle.md_frame.specs.RestLine.{rest_line}
 use Rattle.md_literal_rooms.specs.Leaf.CodeIndented.{code_parts}
 use Rattle.md_frame.specs.LineColumns.{lost_line, part_over, past_columns}
 use Rattle.md_literal_rooms.proofs.CodeIndented.Parts.{code-inside}
 use Rattle.md_frame.proofs.LeafFacts.{LeafFacts}
-use Rattle.md_frame.proofs.LeafStands.{between-stand}
 use Rattle.md_literal_rooms.proofs.IndentRemoved.Names.{AreInside, lost-inside}
-use Rattle.md_literal_rooms.proofs.IndentRemoved.Parts.{inside-blocks, inside-filled, inside-others, inside-stands}
-use Rattle.md_literal_rooms.proofs.IndentRemoved.Parts.{inside-unlisted}
+use Rattle.md_literal_rooms.proofs.IndentRemoved.Parts.{inside-blocks, inside-no_parts, inside-others, inside-unlinked}
 use Rattle.md_frame.proofs.IndentRemoved.Placed.{Placed, lost-placed}
 use Rattle.md_frame.proofs.IndentRemoved.Places.{FurtherAt}
 use Rattle.md_frame.proofs.IndentRemoved.Shown.{lost-between, lost-sits, white-sits}
-use Rattle.md_frame.proofs.PlainFacts.{plain-quiet}
 use Rattle.md_frame.proofs.RestRows.{line-blank}
+use Rattle.md_frame.proofs.BlankLine.{quiet-facts}
+use Rattle.md_frame.proofs.Stretch.{stretch-same}
 
 -- No block begins or ends on it.
 pub blank-blocks : (r : Rest) (p q : Point) → NoBlocks (code_parts r p q)
@@ -90,46 +86,22 @@ white-shape P none one two r p q = go (nat_lt 0 (indent r)) (rest_line (lose 4 r
 -- All that the frame asks of it there.
 pub behind-facts : (bytes : List ℕ) (r : Rest) (p q : Point) → is_blank r.bytes ≡ true → FurtherAt bytes r p q →
     LeafFacts bytes None false p q (blank_behind r p q) (blank_behind r p q)
-behind-facts bytes r p q blank is = record {
-  unread_nested = placed.nested;
-  nested = placed.nested;
-  tiled = placed.tiled;
-  unread_stood = placed.stood;
-  stood = placed.stood;
-  behind = false;
-  unread_word =
-      white-shape (λ es. grammar.Leads unread_text (blocks ∷ []) (blocks ∷ []) es) (λ outer. refl)
-      (λ a b outer. refl) (λ a b c d outer. refl) r p q;
-  word =
-      white-shape (λ es. grammar.Leads plain_text (blocks ∷ []) (blocks ∷ []) es) (λ outer. refl)
-      (λ a b outer. refl) (λ a b c d outer. refl) r p q;
-  unread_ending = others-lead line_start white refl others;
-  ending = others-lead line_start white refl others;
-  unread_unlisted = inside-unlisted white all;
-  unlisted = inside-unlisted white all;
-  stands =
-      λ held. between-stand bytes held white
-      (white-shape (Roles spelled.Between) tt (λ a b. (tt, (tt, tt))) (λ a b c d. (tt, (tt, (tt, (tt, tt))))) r p q);
-  parts = inside-stands bytes white all;
-  filled = inside-filled bytes white all;
-  between = λ first last. lost-between bytes n.SpaceOrTab 4 r p q is first last;
-  parted = lost-sits bytes n.SpaceOrTab 4 r p q (white-sits bytes);
-  plain = λ whole. plain-quiet bytes white quiet;
-  reads = λ rd none shut. read-quiet bytes rd white quiet;
-}
+behind-facts bytes r p q blank is =
+    quiet-facts bytes p q white
+    (stretch-same Quiet bytes p q white
+    (white-shape (Roles Quiet) tt (λ a b. (tt, (tt, tt))) (λ a b c d. (tt, (tt, (tt, (tt, tt))))) r p q)
+    placed.nested placed.tiled placed.stood (inside-no_parts white all) (inside-unlinked white all)
+    (lost-between bytes n.SpaceOrTab 4 r p q is) (lost-sits bytes n.SpaceOrTab 4 r p q (white-sits bytes)))
+    (inside-others white all)
+    (λ text.
+    white-shape (λ es. grammar.Leads text (blocks ∷ []) (blocks ∷ []) es) (λ outer. refl) (λ a b outer. refl)
+    (λ a b c d outer. refl) r p q)
   where
     white : List Event
     white = blank_behind r p q
 
     all : AreInside (blank_behind r p q)
     all = lost-inside n.SpaceOrTab 4 r p q refl
-
-    others : AreOthers (blank_behind r p q)
-    others = inside-others white all
-
-    quiet : Roles Quiet (blank_behind r p q)
-    quiet =
-        white-shape (Roles Quiet) tt (λ a b. (tt, (tt, tt))) (λ a b c d. (tt, (tt, (tt, (tt, tt))))) r p q
 
     placed : Placed bytes p q (blank_behind r p q)
     placed =

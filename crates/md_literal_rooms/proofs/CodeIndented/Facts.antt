@@ -23,7 +23,8 @@ use Rattle.md_literal_rooms.proofs.IndentRemoved.Sites.{is_told_of, line_site}
 use Rattle.md_literal_rooms.proofs.IndentRemoved.Facts.{IsLineName, line-placed, lost-facts}
 use Rattle.md_frame.proofs.IndentRemoved.Placed.{Placed, in-line}
 use Rattle.md_frame.proofs.IndentRemoved.Places.{FurtherAt}
-use Rattle.md_frame.proofs.LeafLines.Inside.{InsideFacts, ReadsLeaf}
+use Rattle.md_frame.proofs.LeafLines.Inside.{InsideFacts}
+use Rattle.md_frame.proofs.PartsFacts.{ReadsLeaf}
 
 -- The name of its chunk.
 abbrev pub code_chunk : IsLineName n.CodeFlowChunk

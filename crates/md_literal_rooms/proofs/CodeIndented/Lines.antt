@@ -10,7 +10,7 @@ use Rattle.md_meaning.specs.Tree.{Code}
 use Rattle.md_outline.specs.LinesStand.{begun_site}
 use Rattle.md_seam.specs.Events.Nested.{around, enter, exit}
 use Rattle.md_seam.specs.Events.Spelled.{CodeLeaf, OfCode, OpenLeaf, fresh}
-use Rattle.md_seam.proofs.EndingsLemmas.{AreOthers, Stays, in_leaf, leads-append, others-lead}
+use Rattle.md_seam.proofs.EndingsLemmas.{Leads, in_leaf, leads-append, others-lead}
 use Rattle.md_frame.specs.RestLine.{rest_line}
 use Rattle.md_literal_rooms.specs.Leaf.CodeIndented.{code_leaf}
 use Rattle.md_frame.specs.Row.{Row, but_end, is_framed, last_row}
@@ -20,7 +20,6 @@ use Rattle.md_literal_rooms.proofs.CodeIndented.Grammar.{behind_line, code_begun
 use Rattle.md_literal_rooms.proofs.CodeIndented.Parts.{code-is}
 use Rattle.md_literal_rooms.proofs.CodeIndented.Rows.{AreInCode, as_line, begins, ends, lines_behind}
 use Rattle.md_literal_rooms.proofs.CodeIndented.Walk.{lines-fill, lines-further}
-use Rattle.md_frame.proofs.LeafLines.Whole.{stays-same}
 use Rattle.md_frame.proofs.LeafLines.Rest.{row_unread}
 use Rattle.md_literal_rooms.proofs.IndentRemoved.Sites.{is_told_of}
 use Rattle.md_frame.proofs.LeafFacts.{LeafFacts}
@@ -30,17 +29,13 @@ use Rattle.md_frame.proofs.LeafLines.Cuts.{but_end-is}
 use Rattle.md_frame.proofs.LeafLines.Framed.{framed_by, framed_rest}
 use Rattle.md_frame.proofs.LeafLines.Lead.{lead-none}
 use Rattle.md_frame.proofs.LeafLines.Leaf.{IsLeafName}
-use Rattle.md_frame.proofs.LeafLines.Lines.{AreFurther, SpanFirst, ends-by, span-facts, span-inside}
+use Rattle.md_frame.proofs.LeafLines.Lines.{AreFurther, SpanFirst, ends-by, span-facts}
 use Rattle.md_frame.proofs.SpanLaws.{IsLineOf}
 
 -- The name of code.
 abbrev pub code_name : IsLeafName n.CodeIndented OfCode
 code_name = record {
-  is = refl;
-  leaf = refl;
-  no_part = refl;
-  no_list = refl;
-  block = refl;
+  named = record { is = refl; leaf = refl; no_part = refl; block = refl };
   begin = code_begun;
   begins = λ text. refl;
 }
@@ -80,9 +75,7 @@ pub lines-facts : (options : ParseOptions) (bytes : List ℕ) (row : Row) (rows 
     LeafFacts bytes (Some (Code (code_line is.rest ∷ lines_behind bytes is.rest row rows are))) true row.first
     (last_row row rows).end (framed_by as_line row rows) (framed_by as_line row rows)
 lines-facts options bytes row rows is are =
-    let stays = span-inside bytes as_line as_line n.CodeIndented OfCode to row rows code_name line further in
-    span-facts bytes as_line as_line n.CodeIndented OfCode to row rows true code_name tt line further
-    (ends es stays.unread_stays refl) (ends es stays.stays refl)
+    span-facts bytes as_line as_line n.CodeIndented OfCode to row rows true code_name tt line further ends ends
   where
     r : Rest
     r = is.rest
@@ -129,9 +122,7 @@ lines-facts options bytes row rows is are =
         lines-further bytes r row rows are (code_line r ∷ []) behind_line (is_told_of (rest_line (lose 4 r))) refl refl
 
     -- something stands on the last line, also in what is read of it
-    ends : (es : List Event) (stays : Stays (es ++ framed_rest as_line row rows)) → AreOthers es →
-        (stays true).0 ≡ true
-    ends es stays others =
-        stays-same (es ++ framed_rest as_line row rows) stays true
-        (leads-append (in_leaf true) (in_leaf true) (in_leaf true) es (framed_rest as_line row rows)
-        (others-lead (in_leaf true) es refl others) (lines-fill bytes is.rest row rows are true (λ dark. refl)))
+    ends : Leads (in_leaf true) (in_leaf true) (es ++ framed_rest as_line row rows)
+    ends =
+        leads-append (in_leaf true) (in_leaf true) (in_leaf true) es (framed_rest as_line row rows)
+        (others-lead (in_leaf true) es refl refl) (lines-fill bytes is.rest row rows are true (λ dark. refl))

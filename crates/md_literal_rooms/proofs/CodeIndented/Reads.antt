@@ -11,7 +11,7 @@ use Rattle.md_literal_rooms.specs.Leaf.CodeIndented.{code_parts}
 use Rattle.md_frame.proofs.IndentRemoved.Places.{FurtherAt}
 use Rattle.md_frame.proofs.IndentRemoved.Reads.{empty-joined, on-last}
 use Rattle.md_literal_rooms.proofs.IndentRemoved.Reads.{lost-read}
-use Rattle.md_frame.proofs.LeafLines.Inside.{ReadsLeaf}
+use Rattle.md_frame.proofs.PartsFacts.{ReadsLeaf}
 
 -- an empty line becomes the one that is told
 line-noted : (before : List Line) (line : Line) →

@@ -165,7 +165,7 @@ all-read : (options : ParseOptions) (bytes : List ℕ) (row : Row) (rows : List 
 all-read options bytes row rows is are =
     sym
     (filled-read bytes (span_by row_unread row rows) (span_by row_unread row rows)
-    (all-facts options bytes row rows is are).filled)
+    (all-facts options bytes row rows is are).stand.stretch.filled)
 
 -- The laws.
 pub code-span : SpanLaws code_leaf code_further

@@ -39,7 +39,8 @@ use Rattle.md_frame.proofs.IndentRemoved.Shown.{left-clear}
 use Rattle.md_frame.proofs.PrefixFacts.{is_bare}
 use Rattle.md_frame.proofs.LeafLines.Cuts.{but_ends-is, ending-is}
 use Rattle.md_frame.proofs.LeafLines.Framed.{framed_rest}
-use Rattle.md_frame.proofs.LeafLines.Inside.{InsideFacts, behind_ending}
+use Rattle.md_frame.proofs.LeafLines.Inside.{InsideFacts}
+use Rattle.md_frame.proofs.PartsFacts.{behind_ending}
 use Rattle.md_frame.proofs.LeafLines.Lines.{AreFurther, SpanLine, ends-by}
 
 -- what stands inside of a row of the code

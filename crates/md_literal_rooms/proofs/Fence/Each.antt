@@ -111,7 +111,7 @@ behind-each P of inner h m bytes p =
     each-append P (white_part bytes p) (text_parts inner m (trim_start bytes) (past_white bytes p))
     (white-each P of bytes p) (words-each P of inner h m (trim_start bytes) (past_white bytes p))
 
-parts-each : (P : Event → Type 0) → OfNames P → (inner : Inner) → ((p q : Point) → Each P (inner p q)) → (m : ℕ)
+pub parts-each : (P : Event → Type 0) → OfNames P → (inner : Inner) → ((p q : Point) → Each P (inner p q)) → (m : ℕ)
     (text : List ℕ) (p : Point) → Each P (fence_parts inner m text p)
 parts-each P of inner h m text p =
     let size = run_len m text in

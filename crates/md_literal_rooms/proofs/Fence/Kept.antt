@@ -11,15 +11,15 @@ use Rattle.md_meaning.specs.Rest.{is_white}
 use Rattle.md_code.specs.Fence.{fence_name, sequence_name}
 use Rattle.md_seam.specs.declared.inline.Chunk.{Chunk}
 use Rattle.md_seam.specs.Events.Inline.{line_end, pair_unless_empty, plain_chunk}
-use Rattle.md_seam.specs.Events.Nested.{around, pair}
+use Rattle.md_seam.specs.Events.Nested.{around, exit, pair}
 use Rattle.md_seam.specs.Events.Places.{past_text, same_place}
 use Rattle.md_seam.specs.Events.Spelled.{IsQuiet, Role, role}
 use Rattle.md_seam.proofs.EndingsLemmas.{AreOthers, others-append}
 use Rattle.md_seam.proofs.InlineLemmas.{same-refl}
-use Rattle.md_seam.proofs.SpelledLemmas.{Roles}
+use Rattle.md_seam.proofs.SpelledLemmas.{Roles, roles-append}
 use Rattle.md_literal_rooms.specs.Leaf.Fence.{Inner, fence_parts, linked, past_white, read_inner, white_part}
 use Rattle.md_frame.proofs.EachEvent.{Each}
-use Rattle.md_literal_rooms.proofs.Fence.Each.{by-math, inside-each, is_fence_name}
+use Rattle.md_literal_rooms.proofs.Fence.Each.{by-math, fence-named, is_fence_name, parts-each}
 use Rattle.md_frame.proofs.LineWalk.{At}
 use Rattle.md_literal_rooms.proofs.Fence.Walk.{Anywhere, Walks, is_text_name}
 use Rattle.md_frame.proofs.LineTexts.{without-none}
@@ -49,12 +49,22 @@ name-part n.MathFlowFenceSequence e = tt
 name-part n.MathFlowFenceMeta e = tt
 name-part _ e = cc
 
+pub parts-roles : (inner : Inner) → ((p q : Point) → Roles IsPart (inner p q)) → (m : ℕ) (text : List ℕ) (p : Point) →
+    Roles IsPart (fence_parts inner m text p)
+parts-roles inner h m text p =
+    roles-each IsPart (fence_parts inner m text p)
+    (parts-each (λ e. IsPart (role e.name)) (λ name is r. (name-part name is, name-part name is)) inner
+    (λ x y. each-roles IsPart (inner x y) (h x y)) m text p)
+
+-- with its name around them
 pub inside-parts : (inner : Inner) → ((p q : Point) → Roles IsPart (inner p q)) → (m : ℕ) (text : List ℕ) (p q : Point) →
     Roles IsPart (around (fence_name m) p q (fence_parts inner m text p))
 inside-parts inner h m text p q =
-    roles-each IsPart (around (fence_name m) p q (fence_parts inner m text p))
-    (inside-each (λ e. IsPart (role e.name)) (λ name is r. (name-part name is, name-part name is)) inner
-    (λ x y. each-roles IsPart (inner x y) (h x y)) m text p q)
+    let part = name-part (fence_name m) (fence-named m) in (
+      part,
+      roles-append IsPart (fence_parts inner m text p) (exit (fence_name m) q ∷ []) (parts-roles inner h m text p)
+          (part, tt),
+    )
 
 pub linked-parts : (p q : Point) → Roles IsPart (linked p q)
 linked-parts p q = (tt, (tt, tt))

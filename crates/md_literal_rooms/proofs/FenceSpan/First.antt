@@ -25,7 +25,7 @@ use Rattle.md_seam.proofs.GrammarLemmas.{Leads, leads-around}
 use Rattle.md_outline.specs.LinesStand.{AtEnding, begun_site}
 use Rattle.md_outline.specs.Roles.{is_told, is_unlisted}
 use Rattle.md_literal_rooms.specs.Leaf.Fence.{Inner, fence_parts, linked, past_white, read_inner}
-use Rattle.md_frame.proofs.BetweenFacts.{AreBetween, around-between}
+use Rattle.md_frame.proofs.BetweenFacts.{AreBetween}
 use Rattle.md_literal_rooms.proofs.Fence.Between as place
 use Rattle.md_frame.proofs.PlaceBetween as place_between
 use Rattle.md_literal_rooms.proofs.Fence.Each.{by-math}
@@ -43,14 +43,14 @@ use Rattle.md_frame.proofs.IndentRemoved.Shown.{whole-clear}
 use Rattle.md_literal_rooms.proofs.FenceSpan.Open.{AreMarks, begin_of, kind_of, leaf_by, leaf_of}
 use Rattle.md_literal_rooms.proofs.FenceSpan.Plain.{walks-known}
 use Rattle.md_literal_rooms.proofs.FenceSpan.OutlineSites.{first-passes}
-use Rattle.md_frame.proofs.FillFacts.{PartsRead, fill-around}
-use Rattle.md_frame.proofs.PartedFacts.{PrefixesAtLineStart, Still, around-sits, clear}
-use Rattle.md_frame.proofs.PartsStand.{PartsWhole, stands-around}
-use Rattle.md_frame.proofs.PieceFacts.{stood-around}
-use Rattle.md_frame.proofs.PiecesLemmas.{Covered, tiled-around}
+use Rattle.md_frame.proofs.FillFacts.{PartsRead}
+use Rattle.md_frame.proofs.PartedFacts.{PrefixesAtLineStart, Still, clear}
+use Rattle.md_frame.proofs.PartsStand.{PartsWhole}
+use Rattle.md_frame.proofs.PiecesLemmas.{Covered}
 use Rattle.md_frame.proofs.PlainFacts.{AreKnown, known-around}
 use Rattle.md_frame.proofs.LeafLines.Inside.{InsideFacts}
-use Rattle.md_frame.proofs.SpanLemmas.{around-nested}
+use Rattle.md_containers.specs.ItemsStand.{IsPart}
+use Rattle.md_frame.proofs.Stretch.{stretch-around}
 
 -- What a fence opens, by what stands behind its whitespace.
 abbrev pub opened_by : ℕ → List ℕ → Opening
@@ -130,31 +130,41 @@ pub first-facts : (options : ParseOptions) (bytes line rest : List ℕ) (p : Poi
     (leaf_of (opened_by columns text) (marks_of text) [] false) (begun_site (kind_of m)) (AtEnding (kind_of m))
     (first_inside linked line p e) (first_inside (read_inner bytes) line p e)
 first-facts options bytes line rest p columns is = record {
-  unread_nested = around-nested name q e unread nested.parts.0;
-  nested = around-nested name q e done nested.parts.1;
-  tiled = tiled-around name q e unread tiled.parts;
-  unread_stood = stood-around bytes name q e unread refl stood.parts.0;
-  stood = stood-around bytes name q e done refl stood.parts.1;
-  unread_word = first-leads unread_text linked linked-word line p e;
-  word = first-leads plain_text (read_inner bytes) (read-word bytes) line p e;
-  unread_stays = stays-others (around name q e unread) (other_names.others-around name q e unread other others.parts.0);
-  stays = stays-others (around name q e done) (other_names.others-around name q e done other others.parts.1);
-  unread_roles = kept.inside-parts linked kept.linked-parts m text q e;
-  roles = kept.inside-parts (read_inner bytes) (kept.read-parts bytes) m text q e;
-  parts = stands-around bytes name q e unread (texts.fence-kind m) stand.parts;
-  filled = fill-around bytes name q e unread done (texts.fence-kind m) filled.parts;
-  between = λ first last. around-between bytes name q e done first last (between first last);
-  parted =
-      around-sits bytes name q e done
-      (by-math (λ x. Still (role x)) (m == 36) n.MathFlowFence n.CodeFencedFence tt tt) sits.parts;
+  parts = record {
+    stretch =
+        stretch-around name
+        (record {
+          role_is = by-math (λ x. IsPart (role x)) (m == 36) n.MathFlowFence n.CodeFencedFence tt tt;
+          no_part = texts.fence-kind m;
+          still = by-math (λ x. Still (role x)) (m == 36) n.MathFlowFence n.CodeFencedFence tt tt;
+        }) refl refl
+        (record {
+          unread_roles = kept.parts-roles linked kept.linked-parts m text q;
+          roles = kept.parts-roles (read_inner bytes) (kept.read-parts bytes) m text q;
+          unread_nested = nested.parts.0;
+          nested = nested.parts.1;
+          tiled = tiled.parts;
+          unread_stood = stood.parts.0;
+          stood = stood.parts.1;
+          parts = stand.parts;
+          filled = filled.parts;
+          between = between;
+          parted = sits.parts;
+        });
+    unread_word = first-leads unread_text linked linked-word line p e;
+    word = first-leads plain_text (read_inner bytes) (read-word bytes) line p e;
+    unread_stays =
+        stays-others (around name q e unread) (other_names.others-around name q e unread other others.parts.0);
+    stays = stays-others (around name q e done) (other_names.others-around name q e done other others.parts.1);
+    reads = λ s none at.
+        ap (λ (o : Option OpenLeaf). read bytes (record s { leaf = o }) (around name q e done)) at
+        ∙ reading.fence-opened options bytes line rest p e s is none
+        ∙ ap (λ (l : OpenLeaf). let x : Reading = record s { leaf = Some l } in x) (leaf-same columns text);
+  };
   plain = λ first. record {
     known = known-around bytes name q e done (fence-known m) (untold q) (untold e) (known first);
     lines = first-passes options bytes line rest p e is;
   };
-  reads = λ s none at.
-      ap (λ (o : Option OpenLeaf). read bytes (record s { leaf = o }) (around name q e done)) at
-      ∙ reading.fence-opened options bytes line rest p e s is none
-      ∙ ap (λ (l : OpenLeaf). let x : Reading = record s { leaf = Some l } in x) (leaf-same columns text);
 }
   where
     text : List ℕ

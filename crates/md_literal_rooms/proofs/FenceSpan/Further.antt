@@ -23,10 +23,10 @@ use Rattle.md_code.specs.Fence.{is_open as is_fence}
 use Rattle.md_literal_rooms.specs.Leaf.FenceFurther.{further_parts, opening_of}
 use Rattle.md_literal_rooms.proofs.FenceFurther.Definition.{held_of}
 use Rattle.md_literal_rooms.proofs.FenceFurther.Grammar.{further-leads, further-stays, further_left, in_line, left_by}
-use Rattle.md_frame.proofs.IndentRemoved.Placed.{Placed}
 use Rattle.md_literal_rooms.proofs.FenceFurther.Inside.{further-placed}
 use Rattle.md_literal_rooms.proofs.FenceFurther.Joined.{further-empty, nothing-open, nothing_from}
-use Rattle.md_literal_rooms.proofs.FenceFurther.Parts.{further-filled, further-parts, further-stands}
+use Rattle.md_literal_rooms.proofs.FenceFurther.Names.{parts-inside}
+use Rattle.md_literal_rooms.proofs.IndentRemoved.Parts.{inside-stretch}
 use Rattle.md_frame.proofs.IndentRemoved.Places.{FurtherAt}
 use Rattle.md_literal_rooms.proofs.FenceFurther.Reads.{further-closing-read, further-line-read}
 use Rattle.md_literal_rooms.proofs.FenceFurther.Shown.{further-between, further-known, further-sits}
@@ -35,7 +35,8 @@ use Rattle.md_literal_rooms.proofs.FenceSpan.Open.{lines-told, opened-line}
 use Rattle.md_literal_rooms.proofs.FenceSpan.OutlineSites.{further-passes, further_site}
 use Rattle.md_frame.proofs.IndentRemoved.Places.{line-over}
 use Rattle.md_frame.proofs.PiecesLemmas.{Covered}
-use Rattle.md_frame.proofs.LeafLines.Inside.{InsideFacts, ReadsLeaf, inside-none}
+use Rattle.md_frame.proofs.LeafLines.Inside.{InsideFacts, inside-none}
+use Rattle.md_frame.proofs.PartsFacts.{ReadsLeaf}
 
 -- What is left of the grammar behind it is the same before text parts are read.
 left-same : (text : Expression) (options : ParseOptions) (on : HeldLeaf) (r : Rest) →
@@ -74,30 +75,22 @@ pub further-facts : (options : ParseOptions) (bytes : List ℕ) (on : HeldLeaf) 
     (AtLine (kind_of (held_marker on))) (further_site options on r) (further_parts options on r p q)
     (further_parts options on r p q)
 further-facts options bytes on r p q from to e is reads = record {
-  unread_nested = placed.nested;
-  nested = placed.nested;
-  tiled = placed.tiled;
-  unread_stood = placed.stood;
-  stood = placed.stood;
-  unread_word = unread-leads options on r p q;
-  word = further-leads plain_text options on r p q;
-  unread_stays = further-stays options on r p q;
-  stays = further-stays options on r p q;
-  unread_roles = further-parts options on r p q;
-  roles = further-parts options on r p q;
-  parts = further-stands bytes options on r p q;
-  filled = further-filled bytes options on r p q;
-  between = λ first last. further-between options bytes on r p q e is first last;
-  parted = further-sits options bytes on r p q;
+  parts = record {
+    stretch =
+        inside-stretch bytes p q (further_parts options on r p q) (parts-inside options on r p q)
+        (further-placed options bytes on r p q e is) (further-between options bytes on r p q e is)
+        (further-sits options bytes on r p q);
+    unread_word = unread-leads options on r p q;
+    word = further-leads plain_text options on r p q;
+    unread_stays = further-stays options on r p q;
+    stays = further-stays options on r p q;
+    reads = reads;
+  };
   plain = λ first. record {
     known = further-known options bytes on r p q e is first;
     lines = further-passes options bytes on r p q;
   };
-  reads = reads;
 }
-  where
-    placed : Placed bytes p q (further_parts options on r p q)
-    placed = further-placed options bytes on r p q e is
 
 -- How it is read.
 

@@ -211,7 +211,7 @@ done-read : (options : ParseOptions) (bytes : List ℕ) (row : Row) (rows : List
 done-read options bytes row rows is are =
     sym
     (filled-read bytes (span_by row_unread row rows) (framed_by (row_done bytes) row rows)
-    (span-of options bytes row rows is are).filled)
+    (span-of options bytes row rows is are).stand.stretch.filled)
 
 -- The laws.
 pub fence-span : SpanLaws fence_leaf fence_further

@@ -2,7 +2,6 @@
 use Rattle.std.proofs.Common.{◌≡◌, ℕ, Bool, true, false, cond, List, length, refl, ap}
 use Rattle.std.specs.Prelude.{◌==◌, Option, None}
 use Rattle.md_engine.specs.declared.event.Name.TheVariants as n
-use Rattle.md_containers.specs.Unlisted.{in_place}
 use Rattle.md_meaning.specs.State.{Opening, fence_block}
 use Rattle.md_meaning.specs.Texts.{first_byte}
 use Rattle.md_meaning.specs.Tree as t
@@ -37,13 +36,12 @@ begin_of m = inside plain_text (block_name m)
 
 pub fence-name : (m : ℕ) → IsLeafName (block_name m) (kind_of m)
 fence-name m = record {
-  is =
-      by-marker (λ x. role (cond x n.MathFlow n.CodeFenced) ≡ LeafRole (cond x OfMath OfFence)) m refl refl;
-  leaf = by-marker (λ x. on_line (cond x n.MathFlow n.CodeFenced) ≡ IsLeaf) m refl refl;
-  no_part = by-marker (λ x. part_kind (cond x n.MathFlow n.CodeFenced) ≡ None) m refl refl;
-  no_list =
-      by-marker (λ x. in_place (cond x n.MathFlow n.CodeFenced) ≡ cond x n.MathFlow n.CodeFenced) m refl refl;
-  block = by-marker (λ x. behind (cond x n.MathFlow n.CodeFenced) blocks ≡ behind_block) m refl refl;
+  named = record {
+    is = by-marker (λ x. role (cond x n.MathFlow n.CodeFenced) ≡ LeafRole (cond x OfMath OfFence)) m refl refl;
+    leaf = by-marker (λ x. on_line (cond x n.MathFlow n.CodeFenced) ≡ IsLeaf) m refl refl;
+    no_part = by-marker (λ x. part_kind (cond x n.MathFlow n.CodeFenced) ≡ None) m refl refl;
+    block = by-marker (λ x. behind (cond x n.MathFlow n.CodeFenced) blocks ≡ behind_block) m refl refl;
+  };
   begin = begin_of m;
   begins = λ text. begin-same text m;
 }

@@ -37,7 +37,8 @@ use Rattle.md_literal_rooms.proofs.FenceSpan.Rest.{further-line}
 use Rattle.md_literal_rooms.proofs.IndentRemoved.Sites.{ended-goes, ended-over, is_told_of, line-leaves, line-on}
 use Rattle.md_literal_rooms.proofs.IndentRemoved.Sites.{line_site}
 use Rattle.md_frame.proofs.FrontPlaces.{fronts-grow}
-use Rattle.md_frame.proofs.LeafLines.Inside.{InsideFacts, ReadsLeaf, behind_ending}
+use Rattle.md_frame.proofs.LeafLines.Inside.{InsideFacts}
+use Rattle.md_frame.proofs.PartsFacts.{ReadsLeaf, behind_ending}
 use Rattle.md_frame.proofs.LeafLines.Rest.{HasRest, rest-more, rest-none}
 use Rattle.md_frame.proofs.SpanLaws.{AreBehind, IsLineOf, come_behind}
 

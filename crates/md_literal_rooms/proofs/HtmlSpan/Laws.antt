@@ -137,7 +137,7 @@ all-read : (options : ParseOptions) (bytes : List ℕ) (row : Row) (rows : List 
 all-read options bytes row rows is are =
     sym
     (filled-read bytes (span_by row_unread row rows) (framed_by (row_done bytes) row rows)
-    (all-facts options bytes row rows is are).filled)
+    (all-facts options bytes row rows is are).stand.stretch.filled)
 
 -- The laws.
 pub html-span : SpanLaws html_leaf html_further

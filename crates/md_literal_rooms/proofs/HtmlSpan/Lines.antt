@@ -22,7 +22,8 @@ use Rattle.md_frame.proofs.IndentRemoved.Placed.{in-line}
 use Rattle.md_frame.proofs.IndentRemoved.Places.{FurtherAt}
 use Rattle.md_frame.proofs.IndentRemoved.Reads.{empty-joined, on-last}
 use Rattle.md_literal_rooms.proofs.IndentRemoved.Reads.{lost-read}
-use Rattle.md_frame.proofs.LeafLines.Inside.{InsideFacts, ReadsLeaf}
+use Rattle.md_frame.proofs.LeafLines.Inside.{InsideFacts}
+use Rattle.md_frame.proofs.PartsFacts.{ReadsLeaf}
 use Rattle.md_frame.proofs.LeafLines.Leaf.{IsLeafName}
 
 -- The whole line is text of it, its indent inside: a line that loses no columns.
@@ -71,11 +72,7 @@ line-takes = (refl, refl)
 -- its name
 abbrev pub html_name : IsLeafName n.HtmlFlow OfHtml
 html_name = record {
-  is = refl;
-  leaf = refl;
-  no_part = refl;
-  no_list = refl;
-  block = refl;
+  named = record { is = refl; leaf = refl; no_part = refl; block = refl };
   begin = html_begun;
   begins = λ text. refl;
 }

@@ -34,7 +34,8 @@ use Rattle.md_literal_rooms.proofs.HtmlSpan.Lines.{html_parts, html_site, in_lin
 use Rattle.md_literal_rooms.proofs.HtmlSpan.Lines.{line-takes, line_left}
 use Rattle.md_literal_rooms.proofs.HtmlSpan.Rows.{empty-stays, further-line}
 use Rattle.md_frame.proofs.IndentRemoved.Places.{FurtherAt, further-at, line-over}
-use Rattle.md_frame.proofs.LeafLines.Inside.{InsideFacts, behind_ending, inside-none}
+use Rattle.md_frame.proofs.LeafLines.Inside.{InsideFacts, inside-none}
+use Rattle.md_frame.proofs.PartsFacts.{behind_ending}
 use Rattle.md_frame.proofs.LeafLines.Rest.{HasRest, rest-more, rest-none}
 use Rattle.md_frame.proofs.SpanLaws.{AreBehind, IsLineOf, come_behind}
 

@@ -16,14 +16,15 @@ use Rattle.md_frame.specs.RestLine.{rest_line}
 use Rattle.md_frame.specs.LineColumns.{columns_part, lost_line, part_over, past_columns}
 use Rattle.md_literal_rooms.proofs.IndentRemoved.Sites.{is_told_of, line_site, lost-passes}
 use Rattle.md_literal_rooms.proofs.IndentRemoved.Names.{AreInside, is_inside, lost-inside}
-use Rattle.md_literal_rooms.proofs.IndentRemoved.Parts.{inside-filled, inside-others, inside-parts, inside-stands}
+use Rattle.md_literal_rooms.proofs.IndentRemoved.Parts.{inside-others, inside-stretch}
 use Rattle.md_frame.proofs.IndentRemoved.Placed.{Placed, lost-placed}
 use Rattle.md_frame.proofs.IndentRemoved.Places.{FurtherAt, has-left}
 use Rattle.md_frame.proofs.IndentRemoved.Reads.{columns-quiet}
 use Rattle.md_frame.proofs.IndentRemoved.Shown.{SitsPair, left-clear, lost-between, lost-sits, whole-clear}
 use Rattle.md_frame.proofs.PartedFacts.{clear}
 use Rattle.md_frame.proofs.PlainFacts.{AreKnown, known-append, known-around, known-none, plain-quiet}
-use Rattle.md_frame.proofs.LeafLines.Inside.{InsideFacts, ReadsLeaf}
+use Rattle.md_frame.proofs.LeafLines.Inside.{InsideFacts}
+use Rattle.md_frame.proofs.PartsFacts.{ReadsLeaf}
 
 -- what is asked of the name of the part over what is left of a line
 pub record IsLineName (name : Name) : Type 0 where
@@ -76,24 +77,18 @@ lost-facts bytes name kind lost r p q x left from to named is leads reads =
     let es = lost_line name lost r p q in
     let all : AreInside (lost_line name lost r p q) = lost-inside name lost r p q named.inside in
     record {
-      unread_nested = placed.nested;
-      nested = placed.nested;
-      tiled = placed.tiled;
-      unread_stood = placed.stood;
-      stood = placed.stood;
-      unread_word = leads unread_text;
-      word = leads plain_text;
-      unread_stays = stays-others es (inside-others es all);
-      stays = stays-others es (inside-others es all);
-      unread_roles = inside-parts es all;
-      roles = inside-parts es all;
-      parts = inside-stands bytes es all;
-      filled = inside-filled bytes es all;
-      between = λ first last. lost-between bytes name lost r p q is first last;
-      parted = lost-sits bytes name lost r p q (named.sits bytes);
+      parts = record {
+        stretch =
+            inside-stretch bytes p q es all placed (λ first last. lost-between bytes name lost r p q is first last)
+            (lost-sits bytes name lost r p q (named.sits bytes));
+        unread_word = leads unread_text;
+        word = leads plain_text;
+        unread_stays = stays-others es (inside-others es all);
+        stays = stays-others es (inside-others es all);
+        reads = reads;
+      };
       plain = λ first. record {
         known = lost-known bytes name lost r p q named is;
         lines = lost-passes bytes kind name lost r p q named.told;
       };
-      reads = reads;
     }

@@ -13,12 +13,14 @@ use Rattle.md_seam.specs.Events.Spelled.{role}
 use Rattle.md_seam.specs.Events.Tiles.{part_kind}
 use Rattle.md_seam.proofs.EndingsLemmas.{AreOthers, is_other}
 use Rattle.md_seam.proofs.SpelledLemmas.{Roles}
-use Rattle.md_containers.proofs.UnlistedLemmas.{NoListing}
-use Rattle.md_frame.proofs.FillFacts.{PartsRead, fill-same}
-use Rattle.md_frame.proofs.LeafStands.{parts-unlisted}
 use Rattle.md_literal_rooms.proofs.IndentRemoved.Names.{AreInside, inside-name, is_inside}
 use Rattle.md_frame.proofs.PartFacts.{NoLinks, NoParts}
-use Rattle.md_frame.proofs.PartsStand.{PartsWhole, stands-outside}
+use Rattle.md_engine.specs.declared.event.Point.{Point}
+use Rattle.md_outline.specs.Between.{is_between}
+use Rattle.md_frame.proofs.BetweenFacts.{AreBetween}
+use Rattle.md_frame.proofs.IndentRemoved.Placed.{Placed}
+use Rattle.md_frame.proofs.PartedFacts.{PrefixesAtLineStart}
+use Rattle.md_frame.proofs.Stretch.{Stretch, stretch-same}
 
 -- Names.
 
@@ -48,10 +50,6 @@ inside-blocks es all = all NoBlocks tt (λ kind name x es e h. (inside-block nam
 pub inside-lines : (es : List Event) → AreInside es → NoLines es
 inside-lines es all = blocks-lines es (inside-blocks es all)
 
--- of no list,
-pub inside-unlisted : (es : List Event) → AreInside es → NoListing es
-inside-unlisted es all = parts-unlisted es (inside-parts es all)
-
 -- and none ends a line
 pub inside-others : (es : List Event) → AreInside es → AreOthers es
 inside-others es all = all AreOthers refl (λ kind name x es e h. and_from _ _ (inside-other name e) h)
@@ -63,9 +61,10 @@ inside-no_parts es all = all NoParts tt (λ kind name x es e h. (inside-kind nam
 pub inside-unlinked : (es : List Event) → AreInside es → NoLinks es
 inside-unlinked es all = all NoLinks tt (λ kind name x es e h. (refl, h))
 
--- so nothing is read of them later.
-pub inside-stands : (bytes : List ℕ) (es : List Event) → AreInside es → PartsWhole bytes es
-inside-stands bytes es all = stands-outside bytes es (inside-no_parts es all) (inside-unlinked es all)
-
-pub inside-filled : (bytes : List ℕ) (es : List Event) → AreInside es → PartsRead bytes es es
-inside-filled bytes es all = fill-same bytes es (inside-unlinked es all) (inside-no_parts es all)
+-- so they are a stretch, before and behind the reading of text parts.
+pub inside-stretch : (bytes : List ℕ) (p q : Point) (es : List Event) → AreInside es → Placed bytes p q es →
+    (is_between bytes p.index ≡ true → is_between bytes q.index ≡ true → AreBetween bytes es) →
+    PrefixesAtLineStart bytes es → Stretch IsPart bytes p q es es
+inside-stretch bytes p q es all placed between parted =
+    stretch-same IsPart bytes p q es (inside-parts es all) placed.nested placed.tiled placed.stood
+    (inside-no_parts es all) (inside-unlinked es all) between parted

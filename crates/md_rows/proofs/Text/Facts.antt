@@ -25,7 +25,6 @@ use Rattle.md_rows.proofs.GroupLines.{AreLines}
 use Rattle.md_rows.proofs.GroupLemmas.{chunks-lines}
 use Rattle.md_rows.proofs.GroupLines.{kept-of}
 use Rattle.md_frame.proofs.LeafFacts.{LeafFacts}
-use Rattle.md_frame.proofs.LeafStands.{around-unlisted, between-parts}
 use Rattle.md_frame.proofs.PartedFacts.{clear}
 use Rattle.md_frame.proofs.PartsStand.{stands-part}
 use Rattle.md_frame.proofs.PieceFacts.{stood-around}
@@ -42,6 +41,14 @@ use Rattle.md_rows.proofs.Text.Parts.{chunks-begin, lines-filled, lines-inside}
 use Rattle.md_rows.proofs.Text.Pieces.{linked-starts, read-starts, read-stood, unread-stood}
 use Rattle.md_rows.proofs.Text.Places.{read-between, read-nested, read-plain, unread-nested, unread-tiled}
 use Rattle.md_rows.proofs.Text.Words.{linked-word, read-word}
+use Rattle.md_engine.specs.declared.event.Name.{Name}
+use Rattle.md_seam.specs.Events.Nested.{around, exit}
+use Rattle.md_seam.specs.Events.Spelled.{Role, role}
+use Rattle.md_seam.specs.Events.Tiles.{part_kind}
+use Rattle.md_frame.proofs.EventNames.{NoContainer, part-no_container}
+use Rattle.md_frame.proofs.LeafStands.{between-part}
+use Rattle.md_frame.proofs.PartedFacts.{PrefixesAtLineStart}
+use Rattle.md_frame.proofs.Stretch.{Stretch, roles-as}
 
 -- they are read as these
 pub lines-read : (options : ParseOptions) (bytes : List ℕ) (row : Row) (rows : List Row) →
@@ -71,49 +78,37 @@ pub end-clear : (options : ParseOptions) (bytes : List ℕ) (row : Row) (rows : 
 end-clear options bytes row [] h = ap (λ (v : ℕ). (v == 0) || is_between bytes (byte_at row.end)) h.1.end_whole
 end-clear options bytes row (next ∷ rows) h = end-clear options bytes next rows h.7
 
-pub text-facts : (options : ParseOptions) (bytes : List ℕ) (row : Row) (rows : List Row) →
-    (h : AreLines options bytes row rows) →
-    LeafFacts bytes (Some (text_leaf.block (texts (kept-of options bytes row rows h)))) true row.first
-    (last_row row rows).end (lines_unread row rows) (lines_done bytes row rows)
-text-facts options bytes row rows h = record {
-  unread_nested = around-nested text_leaf.name row.first end unread (unread-nested options bytes row rows h);
-  nested = around-nested text_leaf.name row.first end done (read-nested options bytes row rows h);
-  tiled = tiled-around text_leaf.name row.first end unread (unread-tiled options bytes row rows h);
+-- The lines, with a text part of this name around them, are a stretch, where that parts no text.
+pub lines-stretch : (R : Role → Type 0) (options : ParseOptions) (bytes : List ℕ) (name : Name) (row : Row)
+    (rows : List Row) →
+    R (role name) → ((x : Role) → Between x → R x) → part_kind name ≡ Some Text →
+    PrefixesAtLineStart bytes (around name row.first (last_row row rows).end (read_lines bytes row rows)) →
+    AreLines options bytes row rows →
+    Stretch R bytes row.first (last_row row rows).end
+    (around name row.first (last_row row rows).end (unread_lines row rows))
+    (around name row.first (last_row row rows).end (read_lines bytes row rows))
+lines-stretch R options bytes name row rows named apart kind parted h = record {
+  unread_roles = roles unread (unread-between options bytes row rows h);
+  roles = roles done (lines-read options bytes row rows h).between;
+  unread_nested = around-nested name row.first end unread (unread-nested options bytes row rows h);
+  nested = around-nested name row.first end done (read-nested options bytes row rows h);
+  tiled = tiled-around name row.first end unread (unread-tiled options bytes row rows h);
   unread_stood =
-      stood-around bytes text_leaf.name row.first end unread (linked-starts row rows)
-      (unread-stood options bytes row rows h);
+      stood-around bytes name row.first end unread (linked-starts row rows) (unread-stood options bytes row rows h);
   stood =
-      stood-around bytes text_leaf.name row.first end done (read-starts options bytes row rows h)
+      stood-around bytes name row.first end done (read-starts options bytes row rows h)
       (read-stood options bytes row rows h);
-  behind = true;
-  unread_word =
-      leads-around unread_text blocks text_leaf.name row.first end unread
-      (linked-word options bytes unread_text row rows refl h);
-  word = leads-around plain_text blocks text_leaf.name row.first end done (read-word options bytes true row rows h);
-  unread_ending = leaf-leads text_leaf.name row.first end unread refl (linked-filling options bytes row rows h true);
-  ending = leaf-leads text_leaf.name row.first end done refl (read-filling options bytes row rows h true);
-  unread_unlisted =
-      around-unlisted text_leaf.name row.first end unread refl
-      (between-parts unread (unread-between options bytes row rows h));
-  unlisted = around-unlisted text_leaf.name row.first end done refl (between-parts done read.between);
-  stands = λ held. text-laws.stands bytes held row.first end done read.between;
   parts =
-      stands-part bytes text_leaf.name Text row.first end chunks unread refl (lines-inside options bytes row rows h)
+      stands-part bytes name Text row.first end chunks unread kind (lines-inside options bytes row rows h)
       (chunks-begin row rows) (chunks-lines options bytes row rows h);
   filled =
-      fill-part bytes text_leaf.name Text row.first end chunks unread done refl (lines-inside options bytes row rows h)
+      fill-part bytes name Text row.first end chunks unread done kind (lines-inside options bytes row rows h)
       (plain-fills bytes row.first chunks (chunks-order options bytes row rows h))
       (lines-filled options bytes row rows h);
   between =
-      λ first last. around-between bytes text_leaf.name row.first end done first last
+      λ first last. around-between bytes name row.first end done first last
       (read-between options bytes row rows h first last);
-  parted = text-sits options bytes text_leaf.name AsParagraph row rows refl (λ p span. refl) h;
-  plain =
-      λ first. plain-around bytes text_leaf.name row.first end done refl first (end-clear options bytes row rows h)
-      (read-plain options bytes row rows h);
-  reads =
-      λ r text leaf. read-lines bytes row rows (kept-of options bytes row rows h) r
-      read text;
+  parted = parted;
 }
   where
     end : Point
@@ -128,5 +123,43 @@ text-facts options bytes row rows h = record {
     chunks : List Chunk
     chunks = chunks_of row rows
 
-    read : IsRead bytes row rows (kept-of options bytes row rows h)
-    read = lines-read options bytes row rows h
+    roles : (es : List Event) → Roles Between es → Roles R (around name row.first end es)
+    roles es h = (named, roles-append R es (exit name end ∷ []) (roles-as apart es h) (named, tt))
+
+pub text-facts : (options : ParseOptions) (bytes : List ℕ) (row : Row) (rows : List Row) →
+    (h : AreLines options bytes row rows) →
+    LeafFacts bytes (Some (text_leaf.block (texts (kept-of options bytes row rows h)))) true row.first
+    (last_row row rows).end (lines_unread row rows) (lines_done bytes row rows)
+text-facts options bytes row rows h = record {
+  stand = record {
+    stretch =
+        lines-stretch NoContainer options bytes text_leaf.name row rows tt
+        (λ x between. part-no_container x (between-part x between)) refl
+        (text-sits options bytes text_leaf.name AsParagraph row rows refl (λ p span. refl) h) h;
+    behind = true;
+    unread_word =
+        leads-around unread_text blocks text_leaf.name row.first end unread
+        (linked-word options bytes unread_text row rows refl h);
+    word =
+        leads-around plain_text blocks text_leaf.name row.first end done (read-word options bytes true row rows h);
+    unread_ending =
+        leaf-leads text_leaf.name row.first end unread refl (linked-filling options bytes row rows h true);
+    ending = leaf-leads text_leaf.name row.first end done refl (read-filling options bytes row rows h true);
+    stands = λ held. text-laws.stands bytes held row.first end done (lines-read options bytes row rows h).between;
+    plain =
+        λ first. plain-around bytes text_leaf.name row.first end done refl first
+        (end-clear options bytes row rows h) (read-plain options bytes row rows h);
+  };
+  reads =
+      λ r text leaf. read-lines bytes row rows (kept-of options bytes row rows h) r
+      (lines-read options bytes row rows h) text;
+}
+  where
+    end : Point
+    end = (last_row row rows).end
+
+    unread : List Event
+    unread = unread_lines row rows
+
+    done : List Event
+    done = read_lines bytes row rows

@@ -2,31 +2,28 @@
 -- its front, one behind the other, and the leaf of the lines that remain.
 use Rattle.std.proofs.Common.{◌≡◌, ℕ, Bool, true, false, List, [], ◌∷◌, ◌++◌, refl, sym, ◌∙◌, ap, subst}
 use Rattle.std.proofs.Common.{append_assoc, subst₂}
-use Rattle.std.specs.Prelude.{Some}
 use Rattle.md_engine.specs.declared.configuration.ParseOptions.{ParseOptions}
 use Rattle.md_engine.specs.declared.event.Event.{Event}
 use Rattle.md_engine.specs.declared.event.Point.{Point}
 use Rattle.md_meaning.specs.State.{texts}
 use Rattle.md_link_definitions.specs.DefinitionRule.{DefinitionParts}
 use Rattle.md_seam.specs.Events.Tiles.{plain_read}
-use Rattle.md_rows.specs.BlockList.{lines_unread, text_unread}
-use Rattle.md_frame.specs.TextLines.{text_leaf}
+use Rattle.md_rows.specs.BlockList.{text_unread}
 use Rattle.md_frame.specs.Row.{Row, last_row}
 use Rattle.md_content_rooms.specs.Defined.{defined_unread}
-use Rattle.md_rows.specs.Rows.{defined_done, lines_done, text_done}
+use Rattle.md_rows.specs.Rows.{defined_done, text_done}
 use Rattle.md_content_rooms.proofs.Defined.Facts.{defined-done, defined-facts}
-use Rattle.md_content_rooms.proofs.Defined.Form.{Form, form_block, form_done, form_unread}
+use Rattle.md_content_rooms.proofs.Defined.Form.{Form, form_done}
 use Rattle.md_content_rooms.proofs.Defined.Is.{IsDefined}
 use Rattle.md_frame.proofs.FrontFacts.{LinePrefix}
 use Rattle.md_rows.proofs.GroupLines.{AreLines}
-use Rattle.md_frame.proofs.LeafFacts.{StandFacts, stand-of}
+use Rattle.md_frame.proofs.LeafFacts.{StandFacts}
 use Rattle.md_frame.proofs.PartedFacts.{clear}
 use Rattle.md_seam.proofs.FeedLines.{IsEnding}
 use Rattle.md_frame.proofs.LeafLines.Behind.{gap-facts, stand-behind}
 use Rattle.md_rows.proofs.Text.Cut as cut
 use Rattle.md_rows.proofs.Text.Cut.{Defines, Follows, IsCutText, Remains}
 use Rattle.md_rows.proofs.Text.Cuts.{cut-is}
-use Rattle.md_rows.proofs.GroupLines.{kept-of}
 use Rattle.md_rows.proofs.Text.Facts.{text-facts}
 use Rattle.md_rows.proofs.Text.Parted.{rest-clear}
 
@@ -41,8 +38,7 @@ pub stand-then : (bytes : List ℕ) (full : Bool) (p q r s t : Point) (front us 
 stand-then bytes full p q r s t front us ds vs ws h whole ending fronts first k =
     subst₂ (λ (xs ys : List Event). StandFacts bytes full p t xs ys)
     (sym (append_assoc us (cut.between q r front) vs)) (sym (append_assoc ds (cut.between q r front) ws))
-    (stand-behind bytes false full p q s t us ds (cut.between q r front) vs ws h
-    (gap-facts bytes false q r s front whole ending fronts) first k)
+    (stand-behind h (gap-facts bytes false q r s front whole ending fronts) first k)
 
 -- A definition.
 
@@ -60,8 +56,7 @@ defined-stands bytes d row rows is =
     is.first is.last
     (subst₂ (λ (xs ys : List Event). StandFacts bytes true x.first x.last xs ys) (sym is.unread)
     (sym (done-is bytes d row rows is))
-    (stand-of bytes (Some (form_block x)) true x.first x.last (form_unread x) (form_done bytes x)
-    (defined-facts bytes x is.behind_gap is.behind_target is.is)))
+    (defined-facts bytes x is.behind_gap is.behind_target is.is).stand)
   where
     x : Form
     x = is.form
@@ -98,9 +93,7 @@ pub cut-stands : (options : ParseOptions) (bytes : List ℕ) (row : Row) (rows :
     IsCutText options bytes row rows unread done →
     StandFacts bytes true row.first (last_row row rows).end unread done
 cut-stands options bytes _ _ _ _ (Remains row rows are) =
-    stand-of bytes (Some (text_leaf.block (texts (kept-of options bytes row rows are)))) true row.first
-    (last_row row rows).end (lines_unread row rows) (lines_done bytes row rows)
-    (text-facts options bytes row rows are)
+    (text-facts options bytes row rows are).stand
 cut-stands options bytes _ _ _ _ (Defines d row rows are is) = defined-stands bytes d row rows is
 cut-stands options bytes _ _ _ _ (Follows d row own next more q es fs are is after ends front behind) =
     let last : Row = last_row row own in

@@ -7,39 +7,32 @@ use Rattle.md_meaning.specs.State.{texts}
 use Rattle.md_meaning.specs.Tree.{Block}
 use Rattle.md_outline.specs.LinesStand.{AtTitle, BehindTitle, BehindUnderline}
 use Rattle.md_outline.proofs.LinesPass.{passes-heading}
-use Rattle.md_seam.specs.Events.Grammar.{Nothing, blocks, plain_text, unread_text}
+use Rattle.md_seam.specs.Events.Grammar.{Nothing}
 use Rattle.md_seam.specs.Events.Nested.{around}
 use Rattle.md_seam.specs.Events.Spelled.{OfHeadingSetext, fresh}
-use Rattle.md_seam.proofs.EndingsLemmas.{filling-append, leaf-leads}
-use Rattle.md_seam.proofs.GrammarLemmas.{leads-around}
+use Rattle.md_seam.proofs.EndingsLemmas.{filling-append}
 use Rattle.md_rows.specs.BlockList.{heading_unread}
 use Rattle.md_registry.specs.Registry.{turn_leaf}
 use Rattle.md_frame.specs.Row.{Row, last_row, read_lines}
 use Rattle.md_rows.specs.Rows.{heading_done}
 use Rattle.md_rows.specs.BlockList.{unread_lines}
-use Rattle.md_frame.proofs.BetweenFacts.{around-between, ending-before, ending-behind}
-use Rattle.md_frame.proofs.FillFacts.{fill-around}
+use Rattle.md_frame.proofs.BetweenFacts.{ending-before, ending-behind}
 use Rattle.md_frame.proofs.FrontStands.{fronts-between}
 use Rattle.md_rows.proofs.GroupLines.{AreLines, IsUnder}
 use Rattle.md_frame.proofs.LeafFacts.{LeafFacts}
-use Rattle.md_frame.proofs.LeafStands.{around-unlisted, leaf-stands}
-use Rattle.md_frame.proofs.PartedFacts.{around-sits}
-use Rattle.md_frame.proofs.PartsStand.{stands-around}
-use Rattle.md_frame.proofs.PieceFacts.{stood-around}
-use Rattle.md_frame.proofs.PiecesLemmas.{tiled-around}
 use Rattle.md_frame.proofs.PlainFacts.{known-around}
 use Rattle.md_frame.proofs.LeafLines.Inside.{InsideFacts, inside-append}
-use Rattle.md_frame.proofs.SpanLemmas.{around-nested}
 use Rattle.md_rows.proofs.Text.Facts.{end-clear, lines-read}
 use Rattle.md_rows.proofs.GroupLines.{kept-of}
 use Rattle.md_rows.proofs.Turned.Events.{gap_events, heading_left, inside_events, line_left, so_far}
-use Rattle.md_rows.proofs.Turned.Events.{text_events, turned-is, under_left}
+use Rattle.md_rows.proofs.Turned.Events.{text_events, turned-is}
 use Rattle.md_rows.proofs.Turned.Gap.{gap-inside}
 use Rattle.md_rows.proofs.Turned.Line.{LineInside, line-clear, line-inside}
 use Rattle.md_rows.proofs.Turned.Reads.{read-inside}
 use Rattle.md_rows.proofs.Turned.Text.{text-inside}
 use Rattle.md_rows.proofs.Turned.Turns.{Turns}
 use Rattle.md_rows.proofs.Turned.Under.{text-whole, under-turns}
+use Rattle.md_frame.proofs.LeafLines.Leaf.{leaf-around}
 
 -- the block that they show
 abbrev pub turned-block : (options : ParseOptions) (bytes : List ℕ) (row : Row) (rows : List Row) (under : Row) →
@@ -88,71 +81,48 @@ turns-facts options bytes row rows under h turns =
         InsideFacts bytes row.first under.first heading_left line_left (fresh OfHeadingSetext) (so_far [] kept) AtTitle
         BehindTitle (unread_title ++ gap) (title ++ gap)
     front =
-        inside-append bytes row.first last.end under.first heading_left under_left line_left (fresh OfHeadingSetext)
-        (so_far [] kept) (so_far [] kept) AtTitle BehindTitle BehindTitle unread_title title gap gap
+        inside-append (text-inside options bytes row rows h)
+        (gap-inside bytes last.end turns.after under.first under.front [] kept (text-whole options bytes row rows h)
+        turns.ending turns.front)
         (record {
           between = λ end. ending-before bytes last.end turns.after turns.ending;
           clear = end-clear options bytes row rows h;
         })
-        (text-inside options bytes row rows h)
-        (gap-inside bytes last.end turns.after under.first under.front [] kept (text-whole options bytes row rows h)
-        turns.ending turns.front)
 
     inside :
         InsideFacts bytes row.first under.end heading_left Nothing (fresh OfHeadingSetext) (so_far line.markers kept)
         AtTitle BehindUnderline unread done
     inside =
-        inside-append bytes row.first under.first under.end heading_left line_left Nothing (fresh OfHeadingSetext)
-        (so_far [] kept) (so_far line.markers kept) AtTitle BehindTitle BehindUnderline
-        (unread_title ++ gap) (title ++ gap) under.inside under.inside
+        inside-append front (line.facts kept)
         (record {
           between = λ end. (fronts-between bytes [] turns.after under.first under.front
               (ending-behind bytes last.end turns.after turns.ending) turns.front).1;
           clear = line-clear options bytes under turns.is;
         })
-        front (line.facts kept)
 
     facts :
         LeafFacts bytes (Some (turn_leaf.block kept turns.is.rest)) true row.first under.end
         (around turn_leaf.name row.first under.end unread) (around turn_leaf.name row.first under.end done)
-    facts = record {
-      unread_nested = around-nested turn_leaf.name row.first under.end unread inside.unread_nested;
-      nested = around-nested turn_leaf.name row.first under.end done inside.nested;
-      tiled = tiled-around turn_leaf.name row.first under.end unread inside.tiled;
-      unread_stood = stood-around bytes turn_leaf.name row.first under.end unread refl inside.unread_stood;
-      stood = stood-around bytes turn_leaf.name row.first under.end done refl inside.stood;
-      behind = true;
-      unread_word =
-          leads-around unread_text blocks turn_leaf.name row.first under.end unread
-          (record { left = Nothing; leads = inside.unread_word; ends = refl });
-      word =
-          leads-around plain_text blocks turn_leaf.name row.first under.end done
-          (record { left = Nothing; leads = inside.word; ends = refl });
-      unread_ending =
-          leaf-leads turn_leaf.name row.first under.end unread refl
-          (filling-append (unread_title ++ gap) under.inside front.unread_stays line.fills true);
-      ending =
-          leaf-leads turn_leaf.name row.first under.end done refl
-          (filling-append (title ++ gap) under.inside front.stays line.fills true);
-      unread_unlisted = around-unlisted turn_leaf.name row.first under.end unread refl inside.unread_roles;
-      unlisted = around-unlisted turn_leaf.name row.first under.end done refl inside.roles;
-      stands =
-          λ held. leaf-stands bytes held turn_leaf.name OfHeadingSetext row.first under.end done refl inside.roles;
-      parts = stands-around bytes turn_leaf.name row.first under.end unread refl inside.parts;
-      filled = fill-around bytes turn_leaf.name row.first under.end unread done refl inside.filled;
-      between =
-          λ first last. around-between bytes turn_leaf.name row.first under.end done first last
-          (inside.between first last);
-      parted = around-sits bytes turn_leaf.name row.first under.end done tt inside.parted;
-      plain = λ first. record {
-        known =
-            known-around bytes turn_leaf.name row.first under.end done refl refl refl (inside.plain first).known;
-        lines = passes-heading bytes turn_leaf.name row.first under.end done refl (inside.plain first).lines;
-      };
-      reads =
-          λ r none shut. read-inside options bytes row rows under (kept-of options bytes row rows h) r
-          (lines-read options bytes row rows h) turns none shut;
-    }
+    facts =
+        leaf-around turn_leaf.name OfHeadingSetext (record { is = refl; leaf = refl; no_part = refl; block = refl })
+        (record {
+          unread_starts = refl;
+          starts = refl;
+          stretch = inside.parts.stretch;
+          unread_word = record { left = Nothing; leads = inside.parts.unread_word; ends = refl };
+          word = record { left = Nothing; leads = inside.parts.word; ends = refl };
+          unread_ending =
+              filling-append (unread_title ++ gap) under.inside front.parts.unread_stays line.fills true;
+          ending = filling-append (title ++ gap) under.inside front.parts.stays line.fills true;
+          plain = λ first. record {
+            known =
+                known-around bytes turn_leaf.name row.first under.end done refl refl refl (inside.plain first).known;
+            lines = passes-heading bytes turn_leaf.name row.first under.end done refl (inside.plain first).lines;
+          };
+          reads =
+              λ r none shut. read-inside options bytes row rows under (kept-of options bytes row rows h) r
+              (lines-read options bytes row rows h) turns none shut;
+        })
 
 pub turned-facts : (options : ParseOptions) (bytes : List ℕ) (row : Row) (rows : List Row) (under : Row) →
     (h : AreLines options bytes row rows) → (is : IsUnder options bytes (last_row row rows) under) →

@@ -13,18 +13,15 @@ use Rattle.md_seam.proofs.SetextReads.{read-setext_gap}
 use Rattle.md_seam.proofs.SpelledLemmas.{QuietOrPrefix, Roles}
 use Rattle.md_outline.specs.LinesStand.{BehindTitle}
 use Rattle.md_outline.proofs.LinesPass.{passes-gap}
-use Rattle.md_frame.proofs.FillFacts.{fill-same}
 use Rattle.md_frame.proofs.FrontFacts.{LinePrefix}
 use Rattle.md_frame.proofs.FrontNames.{fronts-prefixes}
 use Rattle.md_frame.proofs.FrontStands.{fronts-others}
 use Rattle.md_frame.proofs.GrammarFronts.{front-stays}
-use Rattle.md_frame.proofs.LeafStands.{between-parts}
-use Rattle.md_frame.proofs.PartedFacts.{sits-still}
-use Rattle.md_frame.proofs.PartsStand.{stands-outside}
-use Rattle.md_frame.proofs.PlainFacts.{plain-untold}
+use Rattle.md_frame.proofs.LeafStands.{between-part}
+use Rattle.md_frame.proofs.Stretch.{stretch-as}
 use Rattle.md_frame.proofs.PrefixNames.{prefixes-roles}
 use Rattle.md_seam.proofs.FeedLines.{IsEnding}
-use Rattle.md_frame.proofs.LeafLines.Behind.{GapFacts, gap-facts}
+use Rattle.md_frame.proofs.LeafLines.Behind.{GapFacts, gap-facts, gap-plain}
 use Rattle.md_frame.proofs.LeafLines.Inside.{InsideFacts}
 use Rattle.md_rows.proofs.Turned.Events.{gap_events, line_left, so_far, under_left}
 
@@ -39,29 +36,21 @@ pub gap-inside : (bytes : List ℕ) (p at q : Point) (front : List Event) (marke
     InsideFacts bytes p q under_left line_left (so_far markers text) (so_far markers text) BehindTitle
     BehindTitle (gap_events p at front) (gap_events p at front)
 gap-inside bytes p at q front markers text whole is fronts = record {
-  unread_nested = gap.nested;
-  nested = gap.nested;
-  tiled = gap.tiled;
-  unread_stood = gap.stood;
-  stood = gap.stood;
-  unread_word = word unread_text;
-  word = word plain_text;
-  unread_stays = stays;
-  stays = stays;
-  unread_roles = between-parts (gap_events p at front) gap.roles;
-  roles = between-parts (gap_events p at front) gap.roles;
-  parts = stands-outside bytes (gap_events p at front) gap.no_parts gap.unlinked;
-  filled = fill-same bytes (gap_events p at front) gap.unlinked gap.no_parts;
-  between = λ first last. gap.between;
-  parted = sits-still bytes (gap_events p at front) gap.still;
-  plain = λ first. record {
-    known = (plain-untold bytes (gap_events p at front) gap.untold).known;
-    lines = passes-gap bytes (gap_events p at front) gap.roles;
+  parts = record {
+    stretch = stretch-as between-part gap.stretch;
+    unread_word = word unread_text;
+    word = word plain_text;
+    unread_stays = stays;
+    stays = stays;
+    reads =
+        λ r none opened. read-setext_gap bytes r p at front (record { markers = markers; text = text }) none opened
+        (front-quiet bytes at q front fronts)
+        ∙ ap (λ (o : Option OpenLeaf). record r { leaf = o }) opened;
   };
-  reads =
-      λ r none opened. read-setext_gap bytes r p at front (record { markers = markers; text = text }) none opened
-      (front-quiet bytes at q front fronts)
-      ∙ ap (λ (o : Option OpenLeaf). record r { leaf = o }) opened;
+  plain = λ first. record {
+    known = (gap-plain bytes (gap_events p at front) gap.stretch.roles).known;
+    lines = passes-gap bytes (gap_events p at front) gap.stretch.roles;
+  };
 }
   where
     gap : GapFacts bytes false p q (gap_events p at front)

@@ -5,7 +5,6 @@ use Rattle.md_engine.specs.declared.configuration.ParseOptions.{ParseOptions}
 use Rattle.md_engine.specs.declared.event.Event.{Event}
 use Rattle.md_engine.specs.declared.event.Name.TheVariants as n
 use Rattle.md_engine.specs.declared.event.Point.{Point}
-use Rattle.md_containers.specs.ItemsStand.{IsPart}
 use Rattle.md_meaning.specs.Rest.{Rest, trim_start}
 use Rattle.md_meaning.specs.Texts.{first_byte}
 use Rattle.md_leaves.specs.HeadingSetextRule.{is_underline}
@@ -19,19 +18,13 @@ use Rattle.md_seam.proofs.GrammarLemmas.{Leads, leads-around}
 use Rattle.md_frame.specs.RestLine.{rest_line}
 use Rattle.md_leaf_rooms.specs.Leaf.HeadingSetext.{setext_leaf, underline_line}
 use Rattle.md_frame.specs.Row.{Row}
-use Rattle.md_frame.proofs.FillFacts.{fill-same}
-use Rattle.md_leaf_rooms.proofs.HeadingSetext.Line.{underline-begins, underline-between, underline-first_mark}
-use Rattle.md_leaf_rooms.proofs.HeadingSetext.Line.{underline-nested, underline-no_parts, underline-others}
-use Rattle.md_leaf_rooms.proofs.HeadingSetext.Line.{underline-plain, underline-reads, underline-roles, underline-sits}
-use Rattle.md_leaf_rooms.proofs.HeadingSetext.Line.{underline-stood, underline-tiled, underline-unlinked}
-use Rattle.md_leaf_rooms.proofs.HeadingSetext.Line.{underline-word, underline_marks, underline_parts}
+use Rattle.md_leaf_rooms.proofs.HeadingSetext.Line.{underline-begins, underline-first_mark, underline-others}
+use Rattle.md_leaf_rooms.proofs.HeadingSetext.Line.{underline-plain, underline-reads, underline-stretch, underline-word}
+use Rattle.md_leaf_rooms.proofs.HeadingSetext.Line.{underline_marks, underline_parts}
 use Rattle.md_frame.proofs.PartedFacts.{clear}
-use Rattle.md_frame.proofs.PartsStand.{stands-outside}
-use Rattle.md_frame.proofs.PiecesLemmas.{Covered}
 use Rattle.md_frame.proofs.RestFacts.{rest-trim}
 use Rattle.md_frame.proofs.LeafLines.Inside.{InsideFacts}
 use Rattle.md_frame.proofs.SpanLaws.{IsLineOf}
-use Rattle.md_frame.proofs.SpanLemmas.{Nested_in}
 use Rattle.md_content_rooms.proofs.Text.MayPart as text
 use Rattle.md_rows.proofs.Turned.Events.{line_left, so_far}
 
@@ -87,9 +80,6 @@ line-inside options bytes under is = record {
     marks : List ℕ
     marks = underline_marks line begins
 
-    nested : Nested_in p q events
-    nested = subst (λ (e : Point). Nested_in p e events) (sym is.at.end) (underline-nested line p)
-
     word : (text : Expression) → Leads text (line_left ∷ []) (Nothing ∷ []) events
     word text =
         leads-around text line_left n.HeadingSetextUnderline p (past_text line p) (underline_parts line p)
@@ -99,25 +89,17 @@ line-inside options bytes under is = record {
         InsideFacts bytes p q line_left Nothing (so_far [] lines) (so_far marks lines) BehindTitle BehindUnderline
         events events
     facts lines = record {
-      unread_nested = nested;
-      nested = nested;
-      tiled = subst (λ (e : Point). Covered p e events) (sym is.at.end) (underline-tiled line p);
-      unread_stood = underline-stood bytes is.rest line p q is.at begins;
-      stood = underline-stood bytes is.rest line p q is.at begins;
-      unread_word = word unread_text;
-      word = word plain_text;
-      unread_stays = λ from. (true, line-fills line p from);
-      stays = λ from. (true, line-fills line p from);
-      unread_roles = underline-roles IsPart tt tt line p;
-      roles = underline-roles IsPart tt tt line p;
-      parts = stands-outside bytes events (underline-no_parts line p) (underline-unlinked line p);
-      filled = fill-same bytes events (underline-unlinked line p) (underline-no_parts line p);
-      between = λ first last. underline-between bytes is.rest line p q is.at begins first last;
-      parted = underline-sits bytes line p begins;
+      parts = record {
+        stretch = underline-stretch bytes is.rest line p q is.at begins;
+        unread_word = word unread_text;
+        word = word plain_text;
+        unread_stays = λ from. (true, line-fills line p from);
+        stays = λ from. (true, line-fills line p from);
+        reads =
+            λ r none opened. underline-reads bytes is.rest line p q r is.at begins none
+            ∙ ap
+            (λ (o : Option OpenLeaf).
+            record r { leaf = option_map (noted AsMarkers (record { spaces = 0; text = marks })) o }) opened;
+      };
       plain = λ whole. underline-plain bytes line p begins whole;
-      reads =
-          λ r none opened. underline-reads bytes is.rest line p q r is.at begins none
-          ∙ ap
-          (λ (o : Option OpenLeaf).
-          record r { leaf = option_map (noted AsMarkers (record { spaces = 0; text = marks })) o }) opened;
     }

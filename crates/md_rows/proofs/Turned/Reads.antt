@@ -36,7 +36,7 @@ read-inside options bytes row rows under lines r is turns none shut =
     (read-from bytes begun titled text gap (text-reads bytes row rows lines begun is none refl)
     ∙ read-setext_gap bytes titled last.end turns.after under.front (record { markers = []; text = texts lines }) none
     refl (front-quiet bytes turns.after under.first under.front turns.front))
-    ∙ (line.facts (texts lines)).reads titled none refl)
+    ∙ (line.facts (texts lines)).parts.reads titled none refl)
     ∙ ap (λ (m : ℕ). add_block (Heading (underline_depth m) (texts lines)) r) line.marker
   where
     last : Row

@@ -1,21 +1,19 @@
 -- All that the frame asks of what stands in the place of a text and the line that turns it: definitions at its front,
 -- one behind the other, and what that line turns the lines that remain into.
 use Rattle.std.proofs.Common.{◌≡◌, ℕ, true, List}
-use Rattle.std.specs.Prelude.{Some}
 use Rattle.md_engine.specs.declared.configuration.ParseOptions.{ParseOptions}
 use Rattle.md_engine.specs.declared.event.Event.{Event}
-use Rattle.md_rows.specs.BlockList.{heading_unread, text_unread, turned_unread}
+use Rattle.md_rows.specs.BlockList.{text_unread, turned_unread}
 use Rattle.md_frame.specs.Row.{Row, last_row}
-use Rattle.md_rows.specs.Rows.{heading_done}
 use Rattle.md_content_rooms.specs.Defined.{defined_unread}
 use Rattle.md_rows.specs.Rows.{defined_done, turned_done}
 use Rattle.md_rows.proofs.GroupLines.{AreLines, IsLeft, IsUnder}
-use Rattle.md_frame.proofs.LeafFacts.{StandFacts, stand-of}
+use Rattle.md_frame.proofs.LeafFacts.{StandFacts}
 use Rattle.md_frame.proofs.PartedFacts.{clear}
 use Rattle.md_rows.proofs.Text.Stands.{defined-stands, lines-clear, stand-then}
 use Rattle.md_rows.proofs.Turned.Cut.{IsCutHeading, heading-cut, left-remains}
 use Rattle.md_rows.proofs.Turned.Cut.IsCutHeading.{Follows, Turned}
-use Rattle.md_rows.proofs.Turned.Facts.{turned-block, turned-facts}
+use Rattle.md_rows.proofs.Turned.Facts.{turned-facts}
 use Rattle.md_rows.proofs.Turned.Under.{text-whole}
 
 -- no tab of a character is cut where its first line begins
@@ -29,9 +27,7 @@ cut-clear options bytes under _ _ _ _ _ (Follows d row own next more q ts es fs 
 cut-stands : (options : ParseOptions) (bytes : List ℕ) (under row : Row) (rows : List Row) (ts es fs : List Event) →
     IsCutHeading options bytes under row rows ts es fs → StandFacts bytes true row.first under.end es fs
 cut-stands options bytes under _ _ _ _ _ (Turned row rows are is) =
-    stand-of bytes (Some (turned-block options bytes row rows under are is)) true row.first under.end
-    (heading_unread under row rows) (heading_done bytes under row rows)
-    (turned-facts options bytes row rows under are is)
+    (turned-facts options bytes row rows under are is).stand
 cut-stands options bytes under _ _ _ _ _ (Follows d row own next more q ts es fs are is after ends front behind) =
     stand-then bytes true row.first (last_row row own).end q next.first under.end next.front (defined_unread d row own)
     (defined_done bytes d row own) es fs (defined-stands bytes d row own is) (text-whole options bytes row own are) ends

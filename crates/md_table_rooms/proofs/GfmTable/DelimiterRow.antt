@@ -4,7 +4,6 @@ use Rattle.std.specs.Prelude.{Option, Some}
 use Rattle.md_engine.specs.declared.event.Event.{Event}
 use Rattle.md_engine.specs.declared.event.Name.TheVariants as n
 use Rattle.md_engine.specs.declared.event.Point.{Point}
-use Rattle.md_containers.specs.ItemsStand.{IsPart}
 use Rattle.md_meaning.specs.Rest.{trim}
 use Rattle.md_outline.specs.LinesStand.{InTable}
 use Rattle.md_outline.specs.Outlined.{OpenTextSpan, are_parted}
@@ -16,27 +15,24 @@ use Rattle.md_seam.specs.Events.Places.{past_text}
 use Rattle.md_seam.specs.Events.Spelled.{IsQuiet, OpenLeaf, Role, TableLeaf, Text as OpenText, byte_at, role}
 use Rattle.md_seam.proofs.EndingsLemmas.{AreOthers, stays-others}
 use Rattle.md_seam.proofs.GrammarLemmas.{Leads, leads-around}
-use Rattle.md_seam.proofs.SpelledLemmas.{Quiet, QuietOrEnding, Roles, roles-append}
+use Rattle.md_seam.proofs.SpelledLemmas.{Quiet, QuietOrEnding, Roles}
 use Rattle.md_tables.specs.DelimiterCells.{delimiter_events, value_part}
 use Rattle.md_tables.proofs.DelimiterRead.{delimiter-quiet, delimiter-read}
-use Rattle.md_frame.proofs.BetweenFacts.{around-between}
 use Rattle.md_frame.proofs.ChunkFacts.{starts-tiled}
 use Rattle.md_frame.proofs.OtherNames.{others-around}
-use Rattle.md_frame.proofs.FillFacts.{fill-around}
 use Rattle.md_table_rooms.proofs.GfmTable.RowAt.{RowAt, row-later, row-whole}
 use Rattle.md_table_rooms.proofs.GfmTable.RowCells.{row-facts}
 use Rattle.md_table_rooms.proofs.GfmTable.RowParts.{RowFacts}
 use Rattle.md_table_rooms.proofs.GfmTable.RowWords.{row-word}
 use Rattle.md_frame.proofs.PartedFacts.{PrefixesAtLineStart, passes}
-use Rattle.md_frame.proofs.PartsStand.{stands-around}
-use Rattle.md_frame.proofs.PieceFacts.{Starts, stood-around}
-use Rattle.md_frame.proofs.PiecesLemmas.{tiled-around}
+use Rattle.md_frame.proofs.PieceFacts.{Starts}
 use Rattle.md_frame.proofs.PlainFacts.{known-around, past-clear}
-use Rattle.md_frame.proofs.LeafLines.Inside.{InsideFacts, ReadsLeaf}
-use Rattle.md_frame.proofs.SpanLemmas.{around-nested}
+use Rattle.md_frame.proofs.LeafLines.Inside.{InsideFacts}
+use Rattle.md_frame.proofs.PartsFacts.{ReadsLeaf}
 use Rattle.md_table_rooms.proofs.GfmTable.DelimiterRowCells.{IsValue, delimiter-name, delimiter-words, value-kind}
 use Rattle.md_table_rooms.proofs.GfmTable.DelimiterRowCells.{values-fit}
 use Rattle.md_table_rooms.proofs.GfmTable.DelimiterRowCells.{AreDelimiters}
+use Rattle.md_frame.proofs.Stretch.{stretch-by}
 
 -- what stands in it
 inner-facts : (bytes line rest : List ℕ) (p : Point) → RowAt bytes line rest p → AreDelimiters line →
@@ -82,28 +78,21 @@ delimiter-inside bytes line rest p q x rows at are end =
     InsideFacts bytes p e x (behind n.GfmTableDelimiterRow x) from to (InTable BehindHead) (InTable BehindRow)
     (around n.GfmTableDelimiterRow p e es) (around n.GfmTableDelimiterRow p e es)) (sym end)
     (record {
-      unread_nested = around-nested n.GfmTableDelimiterRow p r es facts.nested;
-      nested = around-nested n.GfmTableDelimiterRow p r es facts.nested;
-      tiled = tiled-around n.GfmTableDelimiterRow p r es facts.tiled;
-      unread_stood = stood-around bytes n.GfmTableDelimiterRow p r es starts facts.stood;
-      stood = stood-around bytes n.GfmTableDelimiterRow p r es starts facts.stood;
-      unread_word = delimiter-leads unread_text x line p r are;
-      word = delimiter-leads plain_text x line p r are;
-      unread_stays = stays-others (around n.GfmTableDelimiterRow p r es) others;
-      stays = stays-others (around n.GfmTableDelimiterRow p r es) others;
-      unread_roles = roles;
-      roles = roles;
-      parts = stands-around bytes n.GfmTableDelimiterRow p r es refl facts.parts;
-      filled = fill-around bytes n.GfmTableDelimiterRow p r es es refl facts.filled;
-      between =
-          λ first last. around-between bytes n.GfmTableDelimiterRow p r es first last (facts.between first last);
-      parted = delimiter-sits bytes p r es (delimiter-quiet line p);
+      parts = record {
+        stretch =
+            stretch-by n.GfmTableDelimiterRow tt refl starts starts
+            (delimiter-sits bytes p r es (delimiter-quiet line p)) facts.stretch;
+        unread_word = delimiter-leads unread_text x line p r are;
+        word = delimiter-leads plain_text x line p r are;
+        unread_stays = stays-others (around n.GfmTableDelimiterRow p r es) others;
+        stays = stays-others (around n.GfmTableDelimiterRow p r es) others;
+        reads = reads;
+      };
       plain = λ first. record {
         known =
             known-around bytes n.GfmTableDelimiterRow p r es refl first (past-clear bytes line p first) facts.known;
         lines = passes-delimiter bytes n.GfmTableDelimiterRow p r es refl (delimiter-quiet line p);
       };
-      reads = reads;
     })
   where
     r : Point
@@ -122,13 +111,10 @@ delimiter-inside bytes line rest p q x rows at are end =
     facts = inner-facts bytes line rest p at are
 
     starts : Starts (delimiter_events line p)
-    starts = starts-tiled p r es facts.tiled (row-later line p at.some)
+    starts = starts-tiled p r es facts.covers (row-later line p at.some)
 
     others : AreOthers (around n.GfmTableDelimiterRow p (past_text line p) (delimiter_events line p))
     others = others-around n.GfmTableDelimiterRow p r es refl facts.others
-
-    roles : Roles IsPart (around n.GfmTableDelimiterRow p (past_text line p) (delimiter_events line p))
-    roles = (tt, roles-append IsPart es (exit n.GfmTableDelimiterRow r ∷ []) facts.roles (tt, tt))
 
     reads : ReadsLeaf bytes from to (around n.GfmTableDelimiterRow p (past_text line p) es)
     reads s none opened =

@@ -182,27 +182,23 @@ value-facts : (bytes : List ℕ) (left : Bool) (dashes : List ℕ) (right : Bool
 value-facts bytes left dashes right rest p h at =
     subst (λ (e : Point). RowFacts bytes p e (value_events left dashes right p) (value_events left dashes right p))
     (sym end)
-    (row-append bytes p q (past_text (colons right) r) (marker left p) (marker left p) last last
-    (λ first end. low-front bytes 45 ((dashes ++ colons right) ++ rest) q at-dashes.stands refl)
+    (row-append
     (marker-facts bytes left ((45 ∷ (dashes ++ colons right)) ++ rest) p
     (at-first bytes (colons left) (45 ∷ (dashes ++ colons right)) rest p at))
-    (row-append bytes q r (past_text (colons right) r) (pair n.GfmTableDelimiterFiller q r)
-    (pair n.GfmTableDelimiterFiller q r) (marker right r) (marker right r)
-    (λ first end.
-    low-behind bytes 45 dashes (colons right ++ rest) q
-    (at-first bytes (45 ∷ dashes) (colons right) rest q at-dashes).stands (dashes-low dashes h))
+    (row-append
     (filler-facts bytes dashes (colons right ++ rest) q (at-first bytes (45 ∷ dashes) (colons right) rest q at-dashes)
     h)
-    (marker-facts bytes right rest r (at-behind bytes (45 ∷ dashes) (colons right) rest q at-dashes))))
+    (marker-facts bytes right rest r (at-behind bytes (45 ∷ dashes) (colons right) rest q at-dashes))
+    (λ first end.
+    low-behind bytes 45 dashes (colons right ++ rest) q
+    (at-first bytes (45 ∷ dashes) (colons right) rest q at-dashes).stands (dashes-low dashes h)))
+    (λ first end. low-front bytes 45 ((dashes ++ colons right) ++ rest) q at-dashes.stands refl))
   where
     q : Point
     q = past_text (colons left) p
 
     r : Point
     r = past_text (45 ∷ dashes) (past_text (colons left) p)
-
-    last : List Event
-    last = pair n.GfmTableDelimiterFiller q r ++ marker right r
 
     at-dashes : At bytes ((45 ∷ dashes) ++ colons right) (past_text (colons left) p) rest
     at-dashes = at-behind bytes (colons left) (45 ∷ (dashes ++ colons right)) rest p at
@@ -239,8 +235,7 @@ value-kind bytes = record {
         (value_events a.left a.dashes a.right p)) (sym a.is)
         (value-facts bytes a.left a.dashes a.right rest p a.are
         (subst (λ (xs : List ℕ). At bytes xs p rest) a.is at)) in
-        row-around bytes n.GfmTableDelimiterCellValue p q (delimiter_runs Apart (b ∷ bs) p)
-        (delimiter_runs Apart (b ∷ bs) p)
+        row-around n.GfmTableDelimiterCellValue
         (record { part = tt; other = refl; no_part = refl; still = tt; known = refl; untold = refl })
         (omega (arith, size))
         (subst (λ (es : List Event). RowFacts bytes p q es es) (sym runs) facts)

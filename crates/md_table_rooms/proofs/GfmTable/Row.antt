@@ -24,7 +24,8 @@ use Rattle.md_table_rooms.proofs.GfmTable.RowCells.{EachFits, IsCellKind, row-fa
 use Rattle.md_table_rooms.proofs.GfmTable.RowParts.{RowFacts, row-around, row-none, row-text}
 use Rattle.md_table_rooms.proofs.GfmTable.RowSites.{row-passes}
 use Rattle.md_table_rooms.proofs.GfmTable.RowWords.{cell-name, read-says, row-word, text-word, unread-says}
-use Rattle.md_frame.proofs.LeafLines.Inside.{InsideFacts, ReadsLeaf}
+use Rattle.md_frame.proofs.LeafLines.Inside.{InsideFacts}
+use Rattle.md_frame.proofs.PartsFacts.{ReadsLeaf}
 
 -- where in a table its head row may begin, and where a further row
 abbrev pub front_of : Row → TablePlace
@@ -57,8 +58,7 @@ whole-row : (bytes line rest : List ℕ) (p : Point) → RowAt bytes line rest p
     RowFacts bytes p (past_text line p) (around n.GfmTableRow p (past_text line p) (row_events cells.unread_text line p))
     (around n.GfmTableRow p (past_text line p) (row_events (read_text bytes) line p))
 whole-row bytes line rest p at =
-    row-around bytes n.GfmTableRow p (past_text line p) (row_events cells.unread_text line p)
-    (row_events (read_text bytes) line p)
+    row-around n.GfmTableRow
     (record { part = tt; other = refl; no_part = refl; still = tt; known = refl; untold = refl })
     (row-later line p at.some)
     (row-facts bytes n.GfmTableCell (text_part cells.unread_text) (text_part (read_text bytes)) AnyText (text-kind bytes)
@@ -87,31 +87,23 @@ row-inside bytes line rest p q row x delimiter rows at end =
     InsideFacts bytes p e x (behind n.GfmTableRow x) from to (InTable (front_of row)) (InTable (behind_row row))
     (around n.GfmTableRow p e unread) (around n.GfmTableRow p e done)) (sym end)
     (record {
-      unread_nested = facts.unread_nested;
-      nested = facts.nested;
-      tiled = facts.unread_tiled;
-      unread_stood = facts.unread_stood;
-      stood = facts.stood;
-      unread_word =
-          leads-around unread_text x n.GfmTableRow p (past_text line p) unread
-          (row-word unread_text n.GfmTableCell (text_part cells.unread_text) AnyText cell-name
-          (text-word unread_text cells.unread_text unread-says) line p (any-fits (line_cells (trim_start line))));
-      word =
-          leads-around plain_text x n.GfmTableRow p (past_text line p) done
-          (row-word plain_text n.GfmTableCell (text_part (read_text bytes)) AnyText cell-name
-          (text-word plain_text (read_text bytes) (read-says bytes)) line p
-          (any-fits (line_cells (trim_start line))));
-      unread_stays = stays-others (around n.GfmTableRow p (past_text line p) unread) facts.unread_others;
-      stays = stays-others (around n.GfmTableRow p (past_text line p) done) facts.others;
-      unread_roles = facts.unread_roles;
-      roles = facts.roles;
-      parts = facts.parts;
-      filled = facts.filled;
-      between = facts.between;
-      parted = facts.parted;
+      parts = record {
+        stretch = facts.stretch;
+        unread_word =
+            leads-around unread_text x n.GfmTableRow p (past_text line p) unread
+            (row-word unread_text n.GfmTableCell (text_part cells.unread_text) AnyText cell-name
+            (text-word unread_text cells.unread_text unread-says) line p (any-fits (line_cells (trim_start line))));
+        word =
+            leads-around plain_text x n.GfmTableRow p (past_text line p) done
+            (row-word plain_text n.GfmTableCell (text_part (read_text bytes)) AnyText cell-name
+            (text-word plain_text (read_text bytes) (read-says bytes)) line p
+            (any-fits (line_cells (trim_start line))));
+        unread_stays = stays-others (around n.GfmTableRow p (past_text line p) unread) facts.unread_others;
+        stays = stays-others (around n.GfmTableRow p (past_text line p) done) facts.others;
+        reads = reads;
+      };
       plain =
           λ first. record { known = facts.known; lines = row-lines bytes line rest p (past_text line p) row at };
-      reads = reads;
     })
   where
     unread : List Event

@@ -16,7 +16,7 @@ use Rattle.md_seam.specs.Events.Places.{past_byte, past_text}
 use Rattle.md_seam.proofs.InlineLemmas.{past-index, past_text-append}
 use Rattle.md_seam.proofs.PlacesLemmas.{at-next}
 use Rattle.md_tables.specs.RowCells.{Cells, Divides, Ends, Shut, behind_pipe, cell_by, cells_by, cells_of, first_pipe}
-use Rattle.md_tables.specs.RowCells.{line_cells, onto, past_pipe, pipe_part, row_by, white_back, white_front, white_part}
+use Rattle.md_tables.specs.RowCells.{line_cells, onto, past_pipe, pipe_part, row_by, white_back, white_front}
 use Rattle.md_tables.proofs.RowBytes.{cell-whole, cells_bytes, front-blank, front-whole, line-bytes, pipe_bytes}
 use Rattle.md_seam.proofs.RestLines.{trim-white}
 use Rattle.md_tables.proofs.WhiteEnds.{back-blank, blank-first, front-none, front-one, start-none}
@@ -90,15 +90,13 @@ inside-facts : (bytes : List ℕ) (name : Name) (u d : List ℕ → Point → Li
     RowFacts bytes p (past_text cell p) (cell_by u cell p) (cell_by d cell p)
 inside-facts bytes name u d Fits is cell rest p at fits =
     subst (λ (e : Point). RowFacts bytes p e (cell_by u cell p) (cell_by d cell p)) (sym end)
-    (row-append bytes p q (past_text back r) (white_part front p) (white_part front p) (u (trim cell) q ++ white_part back r)
-    (d (trim cell) q ++ white_part back r)
-    (λ first last. place-behind bytes front ((trim cell ++ back) ++ rest) p (at-front.stands) (front-blank cell) first)
+    (row-append
     (row-white bytes front ((trim cell ++ back) ++ rest) p at-front.stands (whole-first p front at.whole)
     (front-blank cell))
-    (row-append bytes q r (past_text back r) (u (trim cell) q) (d (trim cell) q) (white_part back r) (white_part back r)
-    (λ first last. place-front bytes back rest r at-back.stands (back-blank (trim_start cell)) last)
-    (is.held (trim cell) (back ++ rest) q (at-first bytes (trim cell) back rest q at-text) fits)
-    (row-white bytes back rest r at-back.stands (whole-first r back at-back.whole) (back-blank (trim_start cell)))))
+    (row-append (is.held (trim cell) (back ++ rest) q (at-first bytes (trim cell) back rest q at-text) fits)
+    (row-white bytes back rest r at-back.stands (whole-first r back at-back.whole) (back-blank (trim_start cell)))
+    (λ first last. place-front bytes back rest r at-back.stands (back-blank (trim_start cell)) last))
+    (λ first last. place-behind bytes front ((trim cell ++ back) ++ rest) p at-front.stands (front-blank cell) first))
   where
     front : List ℕ
     front = white_front cell
@@ -138,10 +136,9 @@ piped-facts : (bytes : List ℕ) (name : Name) (u d : List ℕ → Point → Lis
     RowFacts bytes p (past_text cell q) (first_pipe piped p ++ cell_by u cell q) (first_pipe piped p ++ cell_by d cell q)
 piped-facts bytes name u d Fits is piped cell rest p at fits =
     let q = past_pipe piped p in
-    row-append bytes p q (past_text cell q) (first_pipe piped p) (first_pipe piped p) (cell_by u cell q)
-    (cell_by d cell q) (λ first last. pipe-behind bytes piped cell rest p at first)
-    (pipe-front bytes piped cell rest p at)
+    row-append (pipe-front bytes piped cell rest p at)
     (inside-facts bytes name u d Fits is cell rest q (at-pipe bytes piped cell rest p at) fits)
+    (λ first last. pipe-behind bytes piped cell rest p at first)
 
 -- it has some bytes, if there is one or it is not empty
 end-later : (piped : Bool) (cell : List ℕ) (p : Point) → 0 < length (pipe_bytes piped ++ cell) →
@@ -222,8 +219,7 @@ cells-facts bytes name u d Fits is piped (Ends cell) rest p at cut fits =
     (λ (e : Point).
     RowFacts bytes p e (cells_by name u piped (Ends cell) p) (cells_by name d piped (Ends cell) p))
     (sym (past-pipe piped cell p))
-    (row-around bytes name p (past_text cell q) (first_pipe piped p ++ cell_by u cell q)
-    (first_pipe piped p ++ cell_by d cell q) is.group (end-later piped cell p cut)
+    (row-around name is.group (end-later piped cell p cut)
     (piped-facts bytes name u d Fits is piped cell rest p at fits))
   where
     q : Point
@@ -233,16 +229,15 @@ cells-facts bytes name u d Fits is piped (Shut cell white) rest p at cut fits =
     (λ (e : Point).
     RowFacts bytes p e (cells_by name u piped (Shut cell white) p) (cells_by name d piped (Shut cell white) p))
     (sym end)
-    (row-append bytes p over (past_text white over) (one u) (one d) (white_part white over) (white_part white over)
-    (λ first last. low-behind bytes 124 [] (white ++ rest) mid at-pipes.stands refl)
-    (row-around bytes name p over (held u) (held d) is.group later
+    (row-append
+    (row-around name is.group later
     (subst₂ (RowFacts bytes p over) (append_assoc (first_pipe piped p) (cell_by u cell q) (pipe_part mid))
     (append_assoc (first_pipe piped p) (cell_by d cell q) (pipe_part mid))
-    (row-append bytes p mid over (first_pipe piped p ++ cell_by u cell q) (first_pipe piped p ++ cell_by d cell q)
-    (pipe_part mid) (pipe_part mid) (λ first last. low-front bytes 124 (white ++ rest) mid at-pipes.stands refl)
-    (piped-facts bytes name u d Fits is piped cell ((124 ∷ white) ++ rest) p at-cell fits)
-    (row-pipe bytes (white ++ rest) mid at-pipes.stands at-pipes.whole))))
-    (row-white bytes white rest over at-white.stands (whole-first over white refl) cut))
+    (row-append (piped-facts bytes name u d Fits is piped cell ((124 ∷ white) ++ rest) p at-cell fits)
+    (row-pipe bytes (white ++ rest) mid at-pipes.stands at-pipes.whole)
+    (λ first last. low-front bytes 124 (white ++ rest) mid at-pipes.stands refl))))
+    (row-white bytes white rest over at-white.stands (whole-first over white refl) cut)
+    (λ first last. low-behind bytes 124 [] (white ++ rest) mid at-pipes.stands refl))
   where
     q : Point
     q = past_pipe piped p
@@ -252,12 +247,6 @@ cells-facts bytes name u d Fits is piped (Shut cell white) rest p at cut fits =
 
     over : Point
     over = past_byte 124 (past_text cell (past_pipe piped p))
-
-    held : (List ℕ → Point → List Event) → List Event
-    held part = first_pipe piped p ++ (cell_by part cell q ++ pipe_part mid)
-
-    one : (List ℕ → Point → List Event) → List Event
-    one part = around name p over (held part)
 
     at-all : At bytes ((pipe_bytes piped ++ cell) ++ 124 ∷ white) p rest
     at-all =
@@ -288,14 +277,11 @@ cells-facts bytes name u d Fits is piped (Divides cell cells) rest p at cut fits
     (λ (e : Point).
     RowFacts bytes p e (cells_by name u piped (Divides cell cells) p) (cells_by name d piped (Divides cell cells) p))
     (sym end)
-    (row-append bytes p mid (past_text (cells_bytes true cells) mid)
-    (around name p mid (first_pipe piped p ++ cell_by u cell q))
-    (around name p mid (first_pipe piped p ++ cell_by d cell q)) (cells_by name u true cells mid)
-    (cells_by name d true cells mid) (λ first last. piped-place bytes cells rest mid at-next-cells)
-    (row-around bytes name p mid (first_pipe piped p ++ cell_by u cell q) (first_pipe piped p ++ cell_by d cell q)
-    is.group (end-later piped cell p cut.0)
+    (row-append
+    (row-around name is.group (end-later piped cell p cut.0)
     (piped-facts bytes name u d Fits is piped cell (cells_bytes true cells ++ rest) p at-cell fits.0))
-    (cells-facts bytes name u d Fits is true cells rest mid at-next-cells cut.1 fits.1))
+    (cells-facts bytes name u d Fits is true cells rest mid at-next-cells cut.1 fits.1)
+    (λ first last. piped-place bytes cells rest mid at-next-cells))
   where
     q : Point
     q = past_pipe piped p
@@ -347,16 +333,14 @@ pub row-facts : (bytes : List ℕ) (name : Name) (u d : List ℕ → Point → L
     RowFacts bytes p (past_text line p) (row_by name u line p) (row_by name d line p)
 row-facts bytes name u d Fits is line rest p at fits =
     subst (λ (e : Point). RowFacts bytes p e (row_by name u line p) (row_by name d line p)) (sym end)
-    (row-append bytes p q (past_text start q) (white_part front p) (white_part front p) (cells_by name u piped cells q)
-    (cells_by name d piped cells q)
-    (λ first last. place-behind bytes front (start ++ rest) p stands (front-blank line) first)
-    (row-white bytes front (start ++ rest) p stands (cut-front line p at.cut) (front-blank line))
+    (row-append (row-white bytes front (start ++ rest) p stands (cut-front line p at.cut) (front-blank line))
     (subst
     (λ (xs : List ℕ). RowFacts bytes q (past_text xs q) (cells_by name u piped cells q) (cells_by name d piped cells q))
     (line-bytes start)
     (cells-facts bytes name u d Fits is piped cells rest q
     (subst (λ (xs : List ℕ). At bytes xs q rest) (sym (line-bytes start)) (row-start bytes line rest p at))
-    (line-cut start (start-some line at.some)) fits)))
+    (line-cut start (start-some line at.some)) fits))
+    (λ first last. place-behind bytes front (start ++ rest) p stands (front-blank line) first))
   where
     front : List ℕ
     front = white_front line

@@ -35,9 +35,7 @@ use Rattle.md_frame.proofs.LeafFacts.{LeafFacts}
 use Rattle.md_frame.proofs.PlainFacts.{ArePlain, ArePlainFrom, known-around}
 use Rattle.md_frame.proofs.LeafLines.Cuts.{ending-is}
 use Rattle.md_frame.proofs.LeafLines.Inside.{InsideFacts}
-use Rattle.md_frame.proofs.LeafLines.Lead.{lead-none}
 use Rattle.md_frame.proofs.LeafLines.Leaf.{IsLeafName, inside-leaf}
-use Rattle.md_frame.proofs.LeafLines.Whole.{stays-same}
 
 -- Where its lines end: behind each line something stands on it.
 
@@ -117,11 +115,7 @@ table-fills said bytes row next rows each is = go rows is.body
 
 abbrev table_name : IsLeafName n.GfmTable OfTable
 table_name = record {
-  is = refl;
-  leaf = refl;
-  no_part = refl;
-  no_list = refl;
-  block = refl;
+  named = record { is = refl; leaf = refl; no_part = refl; block = refl };
   begin = table_begun;
   begins = λ text. refl;
 }
@@ -152,24 +146,19 @@ table-known : (bytes : List ℕ) (row next : Row) (rows : List Row) → IsTable 
     LeafFacts bytes (Some (table_block bytes row next rows)) true row.first (last_row next rows).end
     (table_events unread_text bytes row next rows) (table_events (read_text bytes) bytes row next rows)
 table-known bytes row next rows is =
-    inside-leaf bytes n.GfmTable OfTable row.first row.first (last_row next rows).end (table_left rows)
-    (so_far (trim (row_line bytes next)) (row_cells (row_line bytes row) ∷ rows_cells bytes rows)) (InTable BehindRow)
-    true [] unread done table_name (lead-none bytes row.first) refl refl h
-    (stays-same unread h.unread_stays true (table-fills unread_text bytes row next rows (row-texts bytes).0 is true))
-    (stays-same done h.stays true (table-fills (read_text bytes) bytes row next rows (row-texts bytes).1 is true))
+    inside-leaf n.GfmTable OfTable table_name refl refl h
+    (table-fills unread_text bytes row next rows (row-texts bytes).0 is true)
+    (table-fills (read_text bytes) bytes row next rows (row-texts bytes).1 is true)
     (table-ends rows)
     (λ whole. table-plain bytes row.first (last_row next rows).end done (h.plain whole))
   where
-    unread : List Event
-    unread = table_inside unread_text bytes row next rows
-
     done : List Event
     done = table_inside (read_text bytes) bytes row next rows
 
     h :
         InsideFacts bytes row.first (last_row next rows).end table_begun (table_left rows) (so_far [] [])
         (so_far (trim (row_line bytes next)) (row_cells (row_line bytes row) ∷ rows_cells bytes rows)) (InTable AtHead)
-        (InTable BehindRow) unread done
+        (InTable BehindRow) (table_inside unread_text bytes row next rows) done
     h = table-inside bytes row next rows is
 
 -- With its texts read, it is the table with what is read in its cells.
@@ -178,7 +167,7 @@ pub table-done : (bytes : List ℕ) (row next : Row) (rows : List Row) → IsTab
 table-done bytes row next rows is =
     ap (plain_read bytes) (table-unread bytes row next rows is)
     ∙ filled-read bytes (table_events unread_text bytes row next rows)
-    (table_events (read_text bytes) bytes row next rows) (table-known bytes row next rows is).filled
+    (table_events (read_text bytes) bytes row next rows) (table-known bytes row next rows is).stand.stretch.filled
 
 -- All that the frame asks of it.
 pub table-leaf : (bytes : List ℕ) (row next : Row) (rows : List Row) → IsTable bytes row next rows →

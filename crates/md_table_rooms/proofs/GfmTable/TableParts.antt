@@ -9,80 +9,58 @@ use Rattle.md_engine.specs.declared.event.Point.{Point}
 use Rattle.md_meaning.specs.Rest.{trim}
 use Rattle.md_meaning.specs.Table.{row_cells}
 use Rattle.md_seam.specs.Events.Grammar.{Expression, behind, inside, may_end, plain_text}
-use Rattle.md_seam.specs.Events.Nested.{around, enter, exit, pair}
-use Rattle.md_seam.specs.Events.Spelled.{OfCode, OpenLeaf, TableLeaf, TableSoFar, next_line, role}
+use Rattle.md_seam.specs.Events.Nested.{around, enter, exit}
+use Rattle.md_seam.specs.Events.Spelled.{OpenLeaf, TableLeaf, TableSoFar, next_line, role}
 use Rattle.md_seam.proofs.SpelledLemmas.{Between, Quiet, Roles, roles-append}
-use Rattle.md_outline.specs.LinesStand.{AtEnding, InTable, Site}
+use Rattle.md_outline.specs.LinesStand.{InTable, Site}
 use Rattle.md_outline.specs.TablePlaces.{AtHead, BehindHead, BehindRow, BodyRow, HeadRow, TablePlace, behind_row}
 use Rattle.md_outline.specs.TablePlaces as spot
-use Rattle.md_outline.proofs.LinesPass.{ended_site, on-ended}
 use Rattle.md_outline.proofs.TablesPass.{IsBetweenRows, passes-between_rows}
 use Rattle.md_tables.specs.RowCells.{read_text, unread_text}
 use Rattle.md_frame.specs.Row.{Row, ending_events, last_row, row_line}
 use Rattle.md_frame.proofs.BetweenFacts.{ending-before, ending-behind}
 use Rattle.md_frame.proofs.ContainerNames.{TakesPrefixes}
-use Rattle.md_frame.proofs.PartsAround.{IsPartName, PartsFacts, around-reads, parts-around, parts-of}
+use Rattle.md_frame.proofs.PartsFacts.{IsPartName, PartsFacts, around-reads, parts-around}
 use Rattle.md_frame.proofs.FrontNames.{fronts-prefixes}
-use Rattle.md_frame.proofs.FrontStands.{fronts-between, fronts-clear}
+use Rattle.md_frame.proofs.FrontStands.{fronts-between}
 use Rattle.md_table_rooms.proofs.GfmTable.DelimiterRowCells.{columns-cells}
 use Rattle.md_table_rooms.proofs.GfmTable.DelimiterRow.{delimiter-inside}
 use Rattle.md_table_rooms.proofs.GfmTable.Row.{front_of, row-inside}
 use Rattle.md_table_rooms.proofs.GfmTable.RowAt.{RowAt, row-at}
 use Rattle.md_table_rooms.proofs.GfmTable.TableForm.{AreBodyRows, IsFilledLine, IsGap, IsTable, body_behind}
-use Rattle.md_table_rooms.proofs.GfmTable.TableForm.{delimiter_part, gap_events, head_events, row_part, rows_behind}
+use Rattle.md_table_rooms.proofs.GfmTable.TableForm.{gap_events, head_events, row_part, rows_behind}
 use Rattle.md_table_rooms.proofs.GfmTable.TableForm.{rows_cells, table_inside}
 use Rattle.md_table_rooms.proofs.GfmTable.TableUnread.{line-end}
 use Rattle.md_frame.proofs.IndentRemoved.Places.{further-rest}
 use Rattle.md_frame.proofs.IndentRemoved.Shown.{left-clear, whole-clear}
 use Rattle.md_frame.proofs.PartedFacts.{clear}
 use Rattle.md_frame.proofs.PieceFacts.{Starts}
-use Rattle.md_frame.proofs.PlainFacts.{ArePlainFrom, plain-through, quiet-from}
+use Rattle.md_frame.proofs.PlainFacts.{plain-through, quiet-from}
 use Rattle.md_frame.proofs.PrefixNames.{prefixes-roles}
 use Rattle.md_frame.proofs.LeafLines.Cuts.{ending-is}
-use Rattle.md_frame.proofs.LeafLines.Inside.{InsideFacts, Meets, behind_ending, ending-inside, front-inside}
+use Rattle.md_frame.proofs.LeafLines.Inside.{InsideFacts, Meets}
+use Rattle.md_frame.proofs.PartsFacts.{behind_ending}
 use Rattle.md_frame.proofs.LeafLines.Inside.{inside-append, inside-none}
+use Rattle.md_frame.proofs.LeafLines.Behind.{gap-plain}
+use Rattle.md_frame.proofs.PartsFacts.{parts-append, parts-ended, parts-front}
 
--- Events inside of a leaf, with what an outline asks of them.
-
-pub inside-of : (bytes : List ℕ) (p q : Point) (x y : Expression) (from to : OpenLeaf) (start end : Site)
-    (unread done : List Event) →
-    PartsFacts bytes p q x y from to unread done → (clear bytes p ≡ true → ArePlainFrom bytes start end done) →
-    InsideFacts bytes p q x y from to start end unread done
-inside-of bytes p q x y from to start end unread done h plain = record {
-  unread_nested = h.unread_nested;
-  nested = h.nested;
-  tiled = h.tiled;
-  unread_stood = h.unread_stood;
-  stood = h.stood;
-  unread_word = h.unread_word;
-  word = h.word;
-  unread_stays = h.unread_stays;
-  stays = h.stays;
-  unread_roles = h.unread_roles;
-  roles = h.roles;
-  parts = h.parts;
-  filled = h.filled;
-  between = h.between;
-  parted = h.parted;
-  plain = plain;
-  reads = h.reads;
-}
-
--- a part around them with a name that the tree does not show
+-- A part around events inside of a leaf, with a name that the tree does not show.
 pub inside-around : (bytes : List ℕ) (name : Name) (p q : Point) (x begin left : Expression) (from to : OpenLeaf)
     (start end : Site) (unread done : List Event) →
     IsPartName name begin → Quiet (role name) → Starts unread → Starts done → may_end left ≡ true →
     InsideFacts bytes p q begin left from to start end unread done →
     InsideFacts bytes p q x (behind name x) from to start end (around name p q unread) (around name p q done)
 inside-around bytes name p q x begin left from to start end unread done named quiet us starts ends h =
-    inside-of bytes p q x (behind name x) from to start end (around name p q unread) (around name p q done)
-    (parts-around bytes name p q x begin left from to from to unread done named us starts ends
-    (parts-of bytes p q begin left from to start end unread done h)
-    (around-reads bytes name p q from to done quiet h.reads))
-    (λ whole. plain-through bytes start start end (enter name p ∷ []) (done ++ exit name q ∷ [])
-    (quiet-from bytes start (enter name p ∷ []) (quiet, tt))
-    (plain-through bytes start end end done (exit name q ∷ []) (h.plain whole)
-    (quiet-from bytes end (exit name q ∷ []) (quiet, tt))))
+    record {
+      parts =
+          parts-around bytes name p q x begin left from to from to unread done named us starts ends h.parts
+          (around-reads bytes name p q from to done quiet h.parts.reads);
+      plain = λ whole.
+          plain-through bytes start start end (enter name p ∷ []) (done ++ exit name q ∷ [])
+          (quiet-from bytes start (enter name p ∷ []) (quiet, tt))
+          (plain-through bytes start end end done (exit name q ∷ []) (h.plain whole)
+          (quiet-from bytes end (exit name q ∷ []) (quiet, tt)));
+    }
 
 -- A line.
 
@@ -135,50 +113,28 @@ gap-between bytes row next gap =
     (fronts-prefixes bytes [] gap.behind next.first next.front refl gap.front))
 
 -- as between the lines of any leaf
-gap-parts : (bytes : List ℕ) (row next : Row) (x : Expression) (table : TableSoFar) → IsFilledLine bytes row →
-    IsFilledLine bytes next → (gap : IsGap bytes row next) → TakesPrefixes (behind n.LineEnding x) →
-    InsideFacts bytes row.end next.first x (behind n.LineEnding x) (TableLeaf table) (TableLeaf table)
-    (AtEnding OfCode) (ended_site bytes gap.behind (AtEnding OfCode)) (gap_events row next) (gap_events row next)
-gap-parts bytes row next x table is more gap takes =
-    subst₂
-    (λ (es : List Event) (leaf : OpenLeaf).
-    InsideFacts bytes row.end next.first x (behind n.LineEnding x) (TableLeaf table) leaf site again
-    (es ++ next.front) (es ++ next.front)) (sym (ending-is n.LineEnding row q gap.after)) (ended-table bytes q table)
-    (inside-append bytes row.end q next.first x (behind n.LineEnding x) (behind n.LineEnding x) (TableLeaf table)
-    (behind_ending bytes q (TableLeaf table)) (behind_ending bytes q (TableLeaf table)) site again again
-    (pair n.LineEnding row.end q) (pair n.LineEnding row.end q) next.front next.front
-    (record {
-      between = λ end. ending-behind bytes row.end q gap.ending;
-      clear = fronts-clear bytes [] q next.first next.front gap.front (line-clear bytes next more);
-    })
-    (ending-inside bytes row.end q x (TableLeaf table) site is.at.end_whole gap.ending tt)
-    (front-inside bytes q next.first (behind n.LineEnding x) (behind_ending bytes q (TableLeaf table)) again next.front
-    takes (on-ended bytes q site tt) gap.front))
-  where
-    q : Point
-    q = gap.behind
-
-    site : Site
-    site = AtEnding OfCode
-
-    again : Site
-    again = ended_site bytes q site
-
 gap-inside : (bytes : List ℕ) (row next : Row) (x : Expression) (table : TableSoFar) (spot : TablePlace) →
     IsFilledLine bytes row → IsFilledLine bytes next → IsGap bytes row next → TakesPrefixes (behind n.LineEnding x) →
     IsBetweenRows spot →
     InsideFacts bytes row.end next.first x (behind n.LineEnding x) (TableLeaf table) (TableLeaf table) (InTable spot)
     (InTable spot) (gap_events row next) (gap_events row next)
-gap-inside bytes row next x table spot is more gap takes apart =
-    let own = gap-parts bytes row next x table is more gap takes in
-    inside-of bytes row.end next.first x (behind n.LineEnding x) (TableLeaf table) (TableLeaf table) (InTable spot)
-    (InTable spot) (gap_events row next) (gap_events row next)
-    (parts-of bytes row.end next.first x (behind n.LineEnding x) (TableLeaf table) (TableLeaf table) (AtEnding OfCode)
-    (ended_site bytes gap.behind (AtEnding OfCode)) (gap_events row next) (gap_events row next) own)
-    (λ whole. record {
-      known = (own.plain whole).known;
-      lines = passes-between_rows bytes spot (gap_events row next) apart (gap-between bytes row next gap);
-    })
+gap-inside bytes row next x table spot is more gap takes apart = record {
+  parts =
+      subst₂
+      (λ (es : List Event) (leaf : OpenLeaf).
+      PartsFacts bytes row.end next.first x (behind n.LineEnding x) (TableLeaf table) leaf (es ++ next.front)
+      (es ++ next.front)) (sym (ending-is n.LineEnding row q gap.after)) (ended-table bytes q table)
+      (parts-append (parts-ended bytes row.end q x (TableLeaf table) is.at.end_whole gap.ending)
+      (parts-front bytes q next.first (behind n.LineEnding x) (behind_ending bytes q (TableLeaf table)) next.front takes
+      gap.front) (λ first last. ending-behind bytes row.end q gap.ending));
+  plain = λ whole. record {
+    known = (gap-plain bytes (gap_events row next) (gap-between bytes row next gap)).known;
+    lines = passes-between_rows bytes spot (gap_events row next) apart (gap-between bytes row next gap);
+  };
+}
+  where
+    q : Point
+    q = gap.behind
 
 -- where a line ends, and others stand behind it
 end-meets : (bytes : List ℕ) (row next : Row) (r : Point) → IsFilledLine bytes row → IsGap bytes row next →
@@ -219,15 +175,14 @@ rows-inside : (bytes : List ℕ) (row : Row) (rows : List Row) (x : Expression) 
     (row_part unread_text bytes row ++ rows_behind unread_text bytes row rows)
     (row_part (read_text bytes) bytes row ++ rows_behind (read_text bytes) bytes row rows)
 rows-inside bytes row [] x delimiter before left is are =
-    inside-append bytes row.first row.end row.end x behind_body_row behind_body_row (so_far delimiter before) to to
-    (InTable BehindRow) (InTable BehindRow) (InTable BehindRow) (row_part unread_text bytes row)
-    (row_part (read_text bytes) bytes row) [] [] (record { between = λ last. last; clear = end-clear bytes row is })
+    inside-append
     (subst
     (λ (y : Expression).
     InsideFacts bytes row.first row.end x y (so_far delimiter before) to (InTable BehindRow) (InTable BehindRow)
     (row_part unread_text bytes row) (row_part (read_text bytes) bytes row)) left
     (row-known bytes row BodyRow x delimiter before is))
     (inside-none bytes row.end behind_body_row to (InTable BehindRow))
+    (record { between = λ last. last; clear = end-clear bytes row is })
   where
     to : OpenLeaf
     to = so_far delimiter (before ++ row_cells (row_line bytes row) ∷ [])
@@ -239,23 +194,17 @@ rows-inside bytes row (next ∷ rows) x delimiter before left is are =
     (row_part unread_text bytes row ++ rows_behind unread_text bytes row (next ∷ rows))
     (row_part (read_text bytes) bytes row ++ rows_behind (read_text bytes) bytes row (next ∷ rows)))
     (append_assoc before (own ∷ []) (rows_cells bytes (next ∷ rows)))
-    (inside-append bytes row.first row.end last x behind_body_row behind_body_row (so_far delimiter before) mid to
-    (InTable BehindRow) (InTable BehindRow) (InTable BehindRow) (row_part unread_text bytes row)
-    (row_part (read_text bytes) bytes row) (rows_behind unread_text bytes row (next ∷ rows))
-    (rows_behind (read_text bytes) bytes row (next ∷ rows)) (end-meets bytes row next last is are.0.gap)
+    (inside-append
     (subst
     (λ (y : Expression).
     InsideFacts bytes row.first row.end x y (so_far delimiter before) mid (InTable BehindRow) (InTable BehindRow)
     (row_part unread_text bytes row) (row_part (read_text bytes) bytes row)) left
     (row-known bytes row BodyRow x delimiter before is))
-    (inside-append bytes row.end next.first last behind_body_row in_body behind_body_row mid mid to
-    (InTable BehindRow) (InTable BehindRow) (InTable BehindRow) (gap_events row next) (gap_events row next)
-    (row_part unread_text bytes next ++ rows_behind unread_text bytes next rows)
-    (row_part (read_text bytes) bytes next ++ rows_behind (read_text bytes) bytes next rows)
-    (first-meets bytes row next last are.0.line are.0.gap)
+    (inside-append
     (gap-inside bytes row next behind_body_row (record { delimiter = delimiter; rows = before ++ own ∷ [] }) BehindRow
     is are.0.line are.0.gap (refl, refl) tt)
-    (rows-inside bytes next rows in_body delimiter (before ++ own ∷ []) refl are.0.line are.1)))
+    (rows-inside bytes next rows in_body delimiter (before ++ own ∷ []) refl are.0.line are.1)
+    (first-meets bytes row next last are.0.line are.0.gap)) (end-meets bytes row next last is are.0.gap))
   where
     last : Point
     last = (last_row next rows).end
@@ -265,9 +214,6 @@ rows-inside bytes row (next ∷ rows) x delimiter before left is are =
 
     mid : OpenLeaf
     mid = so_far delimiter (before ++ own ∷ [])
-
-    to : OpenLeaf
-    to = so_far delimiter ((before ++ own ∷ []) ++ rows_cells bytes (next ∷ rows))
 
 -- The head.
 
@@ -286,29 +232,17 @@ head-inside : (bytes : List ℕ) (row next : Row) (rows : List Row) → IsTable 
     (so_far (trim (row_line bytes next)) (row_cells (row_line bytes row) ∷ [])) (InTable AtHead) (InTable BehindRow)
     (head_events unread_text bytes row next) (head_events (read_text bytes) bytes row next)
 head-inside bytes row next rows is =
-    inside-append bytes row.first row.end next.end head_begun behind_head_row (behind n.GfmTableDelimiterRow in_head)
-    (so_far [] []) mid to (InTable AtHead) (InTable BehindHead) (InTable BehindRow) (row_part unread_text bytes row)
-    (row_part (read_text bytes) bytes row) (gap_events row next ++ delimiter_part bytes next)
-    (gap_events row next ++ delimiter_part bytes next) (end-meets bytes row next next.end is.head is.gap)
-    (row-known bytes row HeadRow head_begun [] [] is.head)
-    (inside-append bytes row.end next.first next.end behind_head_row in_head (behind n.GfmTableDelimiterRow in_head) mid
-    mid to (InTable BehindHead) (InTable BehindHead) (InTable BehindRow) (gap_events row next) (gap_events row next)
-    (delimiter_part bytes next) (delimiter_part bytes next)
-    (first-meets bytes row next next.end is.delimiter is.gap)
+    inside-append (row-known bytes row HeadRow head_begun [] [] is.head)
+    (inside-append
     (gap-inside bytes row next behind_head_row (record { delimiter = []; rows = cells ∷ [] }) BehindHead is.head
     is.delimiter is.gap (refl, refl) tt)
     (delimiter-inside bytes (row_line bytes next) (drop next.end.index bytes) next.first next.end in_head (cells ∷ [])
     (line-at bytes next is.delimiter) (columns-cells (row_line bytes next) is.columns is.asked)
-    (sym (line-end bytes next is.delimiter))))
+    (sym (line-end bytes next is.delimiter))) (first-meets bytes row next next.end is.delimiter is.gap))
+    (end-meets bytes row next next.end is.head is.gap)
   where
     cells : List (List ℕ)
     cells = row_cells (row_line bytes row)
-
-    mid : OpenLeaf
-    mid = so_far [] (cells ∷ [])
-
-    to : OpenLeaf
-    to = so_far (trim (row_line bytes next)) (cells ∷ [])
 
 -- The table.
 
@@ -339,13 +273,7 @@ body-inside bytes row [] delimiter before is are =
     (InTable BehindRow) (InTable BehindRow) [] []) (sym (append-nil before))
     (inside-none bytes row.end behind_head (so_far delimiter before) (InTable BehindRow))
 body-inside bytes row (next ∷ rows) delimiter before is are =
-    inside-append bytes row.end next.first last behind_head at_body (behind n.GfmTableBody at_body) from from to
-    (InTable BehindRow) (InTable BehindRow) (InTable BehindRow) (gap_events row next) (gap_events row next)
-    (around n.GfmTableBody next.first last
-    (row_part unread_text bytes next ++ rows_behind unread_text bytes next rows))
-    (around n.GfmTableBody next.first last
-    (row_part (read_text bytes) bytes next ++ rows_behind (read_text bytes) bytes next rows))
-    (first-meets bytes row next last are.0.line are.0.gap)
+    inside-append
     (gap-inside bytes row next behind_head (record { delimiter = delimiter; rows = before }) BehindRow is are.0.line
     are.0.gap (refl, refl) tt)
     (inside-around bytes n.GfmTableBody next.first last at_body body_begun behind_body_row from to (InTable BehindRow)
@@ -360,6 +288,7 @@ body-inside bytes row (next ∷ rows) delimiter before is are =
       exits = λ p. refl;
     }) tt refl refl refl
     (rows-inside bytes next rows body_begun delimiter before refl are.0.line are.1))
+    (first-meets bytes row next last are.0.line are.0.gap)
   where
     last : Point
     last = (last_row next rows).end
@@ -382,12 +311,7 @@ pub table-inside : (bytes : List ℕ) (row next : Row) (rows : List Row) → IsT
     (InTable BehindRow) (table_inside unread_text bytes row next rows)
     (table_inside (read_text bytes) bytes row next rows)
 table-inside bytes row next rows is =
-    inside-append bytes row.first next.end (last_row next rows).end table_begun behind_head (table_left rows)
-    (so_far [] []) mid to (InTable AtHead) (InTable BehindRow) (InTable BehindRow)
-    (around n.GfmTableHead row.first next.end (head_events unread_text bytes row next))
-    (around n.GfmTableHead row.first next.end (head_events (read_text bytes) bytes row next))
-    (body_behind unread_text bytes next rows) (body_behind (read_text bytes) bytes next rows)
-    (body-meets bytes next rows is.delimiter is.body)
+    inside-append
     (inside-around bytes n.GfmTableHead row.first next.end table_begun head_begun
     (behind n.GfmTableDelimiterRow in_head) (so_far [] []) mid (InTable AtHead) (InTable BehindRow)
     (head_events unread_text bytes row next) (head_events (read_text bytes) bytes row next)
@@ -400,10 +324,7 @@ table-inside bytes row next rows is =
       exits = λ p. refl;
     }) tt refl refl refl (head-inside bytes row next rows is))
     (body-inside bytes next rows (trim (row_line bytes next)) (row_cells (row_line bytes row) ∷ []) is.delimiter
-    is.body)
+    is.body) (body-meets bytes next rows is.delimiter is.body)
   where
     mid : OpenLeaf
     mid = so_far (trim (row_line bytes next)) (row_cells (row_line bytes row) ∷ [])
-
-    to : OpenLeaf
-    to = so_far (trim (row_line bytes next)) (row_cells (row_line bytes row) ∷ rows_cells bytes rows)

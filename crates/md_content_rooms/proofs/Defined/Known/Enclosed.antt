@@ -15,8 +15,8 @@ use Rattle.md_seam.proofs.SpelledLemmas.{Quiet}
 use Rattle.md_frame.proofs.BetweenFacts.{is_low}
 use Rattle.md_content_rooms.proofs.Defined.Form.{IsByte}
 use Rattle.md_content_rooms.proofs.Defined.Known.Marks.{mark-before, mark-behind, mark-parts}
-use Rattle.md_frame.proofs.PartsAround.{PartsFacts}
-use Rattle.md_content_rooms.proofs.Defined.Known.Parts.{parts-append}
+use Rattle.md_frame.proofs.PartsFacts.{PartsFacts}
+use Rattle.md_frame.proofs.PartsFacts.{parts-append}
 
 -- what is asked of the name of a mark, each of which `refl` or `tt` proves
 pub record IsMarkName (name : Name) : Type 0 where
@@ -37,12 +37,11 @@ pub parts-enclosed : (bytes : List ℕ) (name : Name) (o c : ℕ) (p a b q : Poi
     PartsFacts bytes p q x (behind name y) from to (pair name p a ++ unread ++ pair name b q)
     (pair name p a ++ done ++ pair name b q)
 parts-enclosed bytes name o c p a b q x y from to unread done named first last opens closes h =
-    parts-append bytes p b q x y (behind name y) from to to (pair name p a ++ unread) (pair name p a ++ done)
-    (pair name b q) (pair name b q) (λ end. mark-before bytes c b q closes last.low)
-    (parts-append bytes p a b x (behind name x) y from from to (pair name p a) (pair name p a) unread done
-    (λ end. mark-behind bytes o p a opens first.low)
-    (mark-parts bytes name o p a x from opens named.quiet (named.others p a) named.ends first.over) h)
+    parts-append
+    (parts-append (mark-parts bytes name o p a x from opens named.quiet (named.others p a) named.ends first.over) h
+    (λ begin end. mark-behind bytes o p a opens first.low))
     (mark-parts bytes name c b q y to closes named.quiet (named.others b q) named.ends last.over)
+    (λ begin end. mark-before bytes c b q closes last.low)
 
 -- Events that fill their last line.
 

@@ -1,26 +1,25 @@
 -- What is known of the whitespace between two parts of a definition, with at most one line ending in it.
-use Rattle.std.proofs.Common.{◌≡◌, ℕ, Bool, true, false, cond, List, [], ◌++◌, length, refl, sym, subst}
+use Rattle.std.proofs.Common.{◌≡◌, ℕ, Bool, true, false, cond, List, [], length, refl, sym, subst}
 use Rattle.std.proofs.Common.{subst₂}
 use Rattle.std.specs.Prelude.{nat_lt}
 use Rattle.md_engine.specs.declared.event.Event.{Event}
 use Rattle.md_engine.specs.declared.event.Name.TheVariants as n
 use Rattle.md_engine.specs.declared.event.Point.{Point}
 use Rattle.md_outline.specs.Between.{is_between}
-use Rattle.md_outline.specs.LinesStand.{AtEnding}
-use Rattle.md_outline.proofs.LinesPass.{ended_site}
 use Rattle.md_seam.specs.Events.Grammar.{Expression, behind}
 use Rattle.md_seam.specs.Events.Inline.{pair_unless_empty}
 use Rattle.md_seam.specs.Events.Nested.{pair}
 use Rattle.md_seam.specs.Events.Places.{same_place}
-use Rattle.md_seam.specs.Events.Spelled.{DefinitionLeaf, DefinitionSoFar, OfCode, OpenLeaf}
+use Rattle.md_seam.specs.Events.Spelled.{DefinitionLeaf, DefinitionSoFar, OpenLeaf}
 use Rattle.md_frame.proofs.BetweenFacts.{ending-before, ending-behind}
 use Rattle.md_frame.proofs.ContainerNames.{TakesPrefixes}
 use Rattle.md_content_rooms.proofs.Defined.Form.{Gap, IsBreak, IsGap, IsWhite, OnLine, OverLine, gap_events}
 use Rattle.md_content_rooms.proofs.Defined.Known.Marks.{white-back, white-between, white-parts}
-use Rattle.md_frame.proofs.PartsAround.{PartsFacts, parts-of}
-use Rattle.md_content_rooms.proofs.Defined.Known.Parts.{parts-append}
+use Rattle.md_frame.proofs.PartsFacts.{PartsFacts}
+use Rattle.md_frame.proofs.PartsFacts.{parts-append}
 use Rattle.md_frame.proofs.FrontStands.{fronts-between}
-use Rattle.md_frame.proofs.LeafLines.Inside.{behind_ending, ending-inside, front-inside}
+use Rattle.md_frame.proofs.PartsFacts.{behind_ending}
+use Rattle.md_frame.proofs.PartsFacts.{parts-ended, parts-front}
 
 -- Places between characters.
 
@@ -102,15 +101,7 @@ ending-parts bytes e q r front x w d left is =
     (λ (z : Expression) (leaf : OpenLeaf).
     PartsFacts bytes e q x z (DefinitionLeaf d) leaf (pair n.LineEnding e q) (pair n.LineEnding e q)) left
     (ended-leaf bytes q d)
-    (parts-of bytes e q x (behind n.LineEnding x) (DefinitionLeaf d) (behind_ending bytes q (DefinitionLeaf d))
-    (AtEnding OfCode) (ended_site bytes q (AtEnding OfCode)) (pair n.LineEnding e q) (pair n.LineEnding e q)
-    (ending-inside bytes e q x (DefinitionLeaf d) (AtEnding OfCode) is.whole is.ending tt))
-
-front-parts : (bytes : List ℕ) (e q r : Point) (front : List Event) (w : Expression) (leaf : OpenLeaf) →
-    TakesPrefixes w → IsBreak bytes e q r front → PartsFacts bytes q r w w leaf leaf front front
-front-parts bytes e q r front w leaf takes is =
-    parts-of bytes q r w w leaf leaf (AtEnding OfCode) (AtEnding OfCode) front front
-    (front-inside bytes q r w leaf (AtEnding OfCode) front takes tt is.front_is)
+    (parts-ended bytes e q x (DefinitionLeaf d) is.whole is.ending)
 
 pub gap-parts : (bytes : List ℕ) (p q : Point) (x y w : Expression) (d : DefinitionSoFar) (g : Gap) → MayGap x y w →
     IsGap bytes p q g →
@@ -126,29 +117,20 @@ gap-parts bytes p q x y w d (OverLine a e b r s front) may is =
     (λ (u v : Point).
     PartsFacts bytes p v x w leaf leaf (gap_events (OverLine u e b r s front))
     (gap_events (OverLine u e b r s front))) (sym is.0) is.4
-    (parts-append bytes p r s x w w leaf leaf leaf (first ++ ended ++ front) (first ++ ended ++ front) then then
-    (λ last. break-between bytes e b r front is.2)
-    (parts-append bytes p b r x w w leaf leaf leaf (first ++ ended) (first ++ ended) front front
-    (λ last. ending-behind bytes e b is.2.ending)
-    (parts-append bytes p e b x z w leaf leaf leaf first first ended ended
-    (λ last. ending-before bytes e b is.2.ending) (white-to bytes p e x y leaf may.white is.1)
-    (ending-parts bytes e b r front z w d (go (same_place p e)) is.2))
-    (front-parts bytes e b r front w leaf may.takes is.2)) (white-same bytes r s w leaf may.takes.0 is.3))
+    (parts-append
+    (parts-append
+    (parts-append (white-to bytes p e x y leaf may.white is.1)
+    (ending-parts bytes e b r front z w d (go (same_place p e)) is.2)
+    (λ begin end. ending-before bytes e b is.2.ending))
+    (parts-front bytes b r w leaf front may.takes is.2.front_is)
+    (λ begin end. ending-behind bytes e b is.2.ending)) (white-same bytes r s w leaf may.takes.0 is.3)
+    (λ begin end. break-between bytes e b r front is.2))
   where
     leaf : OpenLeaf
     leaf = DefinitionLeaf d
 
     z : Expression
     z = cond (same_place p e) x y
-
-    first : List Event
-    first = pair_unless_empty n.SpaceOrTab p e
-
-    ended : List Event
-    ended = pair n.LineEnding e b
-
-    then : List Event
-    then = pair_unless_empty n.SpaceOrTab r s
 
     go : (t : Bool) → behind n.LineEnding (cond t x y) ≡ w
     go true = may.ended

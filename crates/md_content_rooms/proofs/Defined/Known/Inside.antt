@@ -22,8 +22,8 @@ use Rattle.md_content_rooms.proofs.Defined.Known.Left.{behind_gap, colon_left, e
 use Rattle.md_content_rooms.proofs.Defined.Known.Left.{target-left}
 use Rattle.md_content_rooms.proofs.Defined.Known.Left.{target_left, title-gap, title_left}
 use Rattle.md_content_rooms.proofs.Defined.Known.Marks.{mark-behind, mark-parts, white-back, white-parts, white_left}
-use Rattle.md_frame.proofs.PartsAround.{PartsFacts}
-use Rattle.md_content_rooms.proofs.Defined.Known.Parts.{parts-append}
+use Rattle.md_frame.proofs.PartsFacts.{PartsFacts}
+use Rattle.md_frame.proofs.PartsFacts.{parts-append}
 use Rattle.md_content_rooms.proofs.Defined.Known.Target.{StringParts, target-fills, target-parts}
 use Rattle.md_content_rooms.proofs.Defined.Known.Title.{TextParts, TitleParts, title-back, title-fills, title-parts}
 
@@ -51,20 +51,14 @@ gap-through : (bytes : List ℕ) (x : Form) (g t : Point) → IsForm bytes x g t
     PartsFacts bytes x.p g form_left (behind_gap target_left x.gap) (so_far [] [] None)
     (so_far (label_lines x) [] None) (through_gap strand_unread x) (through_gap (strand_done bytes) x)
 gap-through bytes x g t is known =
-    parts-append bytes x.p x.d g form_left target_left (behind_gap target_left x.gap) (so_far [] [] None)
-    (so_far (label_lines x) [] None) (so_far (label_lines x) [] None)
-    (label_by strand_unread x ++ pair n.DefinitionMarker x.c x.d)
-    (label_by (strand_done bytes) x ++ pair n.DefinitionMarker x.c x.d) (gap_events x.gap) (gap_events x.gap)
-    (λ end. mark-behind bytes 58 x.c x.d is.colon refl)
-    (parts-append bytes x.p x.c x.d form_left colon_left target_left (so_far [] [] None)
-    (so_far (label_lines x) [] None) (so_far (label_lines x) [] None) (label_by strand_unread x)
-    (label_by (strand_done bytes) x) (pair n.DefinitionMarker x.c x.d) (pair n.DefinitionMarker x.c x.d)
-    (λ end. mark-behind bytes 93 x.b x.c is.closes refl)
+    parts-append
+    (parts-append
     (label-parts bytes x form_left (so_far [] [] None) (so_far (label_lines x) [] None) is.opens is.closes known.label)
     (mark-parts bytes n.DefinitionMarker 58 x.c x.d colon_left (so_far (label_lines x) [] None) is.colon tt refl
-    (λ text. refl) refl))
+    (λ text. refl) refl) (λ begin end. mark-behind bytes 93 x.b x.c is.closes refl))
     (gap-parts bytes x.d g target_left (behind n.SpaceOrTab target_left) (behind n.LineEnding target_left)
     (record { label = label_lines x; destination = []; title = None }) x.gap target-gap is.gap)
+    (λ begin end. mark-behind bytes 58 x.c x.d is.colon refl)
 
 -- with it,
 abbrev pub through_target : (Strand → List Event) → (Point → Point → List Event) → Form → List Event
@@ -74,17 +68,14 @@ target-through : (bytes : List ℕ) (x : Form) (g t : Point) → IsForm bytes x 
     PartsFacts bytes x.p t form_left title_left (so_far [] [] None) (so_far (label_lines x) (target_text x.target) None)
     (through_target strand_unread string_unread x) (through_target (strand_done bytes) (string_done bytes) x)
 target-through bytes x g t is known =
-    parts-append bytes x.p g t form_left (behind_gap target_left x.gap) title_left (so_far [] [] None)
-    (so_far (label_lines x) [] None) (so_far (label_lines x) (target_text x.target) None) (through_gap strand_unread x)
-    (through_gap (strand_done bytes) x) (target_by string_unread x.target) (target_by (string_done bytes) x.target)
-    (λ end. gap-between bytes x.d g x.gap is.gap (mark-behind bytes 58 x.c x.d is.colon refl))
-    (gap-through bytes x g t is known)
+    parts-append (gap-through bytes x g t is known)
     (subst
     (λ (z : Expression).
     PartsFacts bytes g t (behind_gap target_left x.gap) z (so_far (label_lines x) [] None)
     (so_far (label_lines x) (target_text x.target) None) (target_by string_unread x.target)
     (target_by (string_done bytes) x.target)) (target-left x.gap)
     (target-parts bytes g t (behind_gap target_left x.gap) (label_lines x) x.target known.target is.target))
+    (λ begin end. gap-between bytes x.d g x.gap is.gap (mark-behind bytes 58 x.c x.d is.colon refl))
 
 -- and with the title.
 title-through : (bytes : List ℕ) (x : Form) (g t : Point) → IsForm bytes x g t → FormTexts bytes x →
@@ -93,13 +84,9 @@ title-through : (bytes : List ℕ) (x : Form) (g t : Point) → IsForm bytes x g
     (through_target strand_unread string_unread x ++ title_by strand_unread x.title)
     (through_target (strand_done bytes) (string_done bytes) x ++ title_by (strand_done bytes) x.title)
 title-through bytes x g t is known =
-    parts-append bytes x.p t x.e form_left title_left (end_left x.title) (so_far [] [] None)
-    (so_far (label_lines x) (target_text x.target) None)
-    (so_far (label_lines x) (target_text x.target) (title_lines x)) (through_target strand_unread string_unread x)
-    (through_target (strand_done bytes) (string_done bytes) x) (title_by strand_unread x.title)
-    (title_by (strand_done bytes) x.title) (title-back bytes t x.e x.title is.title)
-    (target-through bytes x g t is known)
+    parts-append (target-through bytes x g t is known)
     (title-parts bytes t x.e (label_lines x) (target_text x.target) x.title is.title known.title)
+    (λ begin end. title-back bytes t x.e x.title is.title end)
 
 -- All of it.
 pub form-inside : (bytes : List ℕ) (x : Form) (g t : Point) → IsForm bytes x g t → FormTexts bytes x →
@@ -107,16 +94,9 @@ pub form-inside : (bytes : List ℕ) (x : Form) (g t : Point) → IsForm bytes x
     (so_far (label_lines x) (target_text x.target) (title_lines x)) (inside_by strand_unread string_unread x)
     (inside_by (strand_done bytes) (string_done bytes) x)
 form-inside bytes x g t is known =
-    parts-append bytes x.p x.e x.last form_left (end_left x.title)
-    (white_left (same_place x.e x.last) (end_left x.title)) (so_far [] [] None)
-    (so_far (label_lines x) (target_text x.target) (title_lines x))
-    (so_far (label_lines x) (target_text x.target) (title_lines x))
-    (through_target strand_unread string_unread x ++ title_by strand_unread x.title)
-    (through_target (strand_done bytes) (string_done bytes) x ++ title_by (strand_done bytes) x.title)
-    (pair_unless_empty n.SpaceOrTab x.e x.last) (pair_unless_empty n.SpaceOrTab x.e x.last)
-    (white-back bytes x.e x.last is.white) (title-through bytes x g t is known)
+    parts-append (title-through bytes x g t is known)
     (white-parts bytes x.e x.last (end_left x.title) (so_far (label_lines x) (target_text x.target) (title_lines x))
-    is.white)
+    is.white) (λ begin end. white-back bytes x.e x.last is.white end)
 
 -- It fills the line on which it ends.
 

@@ -7,7 +7,7 @@ use Rattle.md_seam.specs.Events.Nested.{around, pair}
 use Rattle.md_seam.specs.Events.Spelled.{OpenLeaf}
 use Rattle.md_content_rooms.proofs.Defined.Known.Enclosed.{IsMarkName, parts-enclosed}
 use Rattle.md_content_rooms.proofs.Defined.Form.{Form, IsByte, label_by, strand_done, strand_unread}
-use Rattle.md_frame.proofs.PartsAround.{PartsFacts, around-reads, parts-around}
+use Rattle.md_frame.proofs.PartsFacts.{PartsFacts, around-reads, parts-around}
 
 label-mark : IsMarkName n.DefinitionLabelMarker
 label-mark = record { quiet = tt; others = λ p q. refl; ends = λ text. refl }

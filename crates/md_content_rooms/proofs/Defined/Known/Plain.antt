@@ -16,17 +16,16 @@ use Rattle.md_seam.specs.Events.Places.{same_place}
 use Rattle.md_seam.specs.Events.Spelled.{IsEnding, IsPrefix, IsQuiet, IsQuoteMarker, Role, role}
 use Rattle.md_seam.proofs.SpelledLemmas.{Between, Quiet, Roles, roles-append}
 use Rattle.md_content_rooms.proofs.Defined.Form.{Form, Gap, IsForm, IsGap, IsRun, IsTarget, IsText, IsTitle}
-use Rattle.md_content_rooms.proofs.Defined.Form.{Literal, OnLine, OverLine, Raw, Strand, Target, Titled, form_done}
+use Rattle.md_content_rooms.proofs.Defined.Form.{Literal, OnLine, OverLine, Raw, Strand, Target, Titled}
 use Rattle.md_content_rooms.proofs.Defined.Form.{gap_events, inside_by, label_by, strand_done, string_done, string_of}
 use Rattle.md_content_rooms.proofs.Defined.Form.{target_by, title_by}
 use Rattle.md_content_rooms.proofs.Defined.Known.Inside.{through_gap, through_target}
-use Rattle.md_content_rooms.proofs.Defined.Known.Marks.{white-lead}
 use Rattle.md_content_rooms.proofs.Defined.Known.Passes.{strand-passes}
 use Rattle.md_content_rooms.proofs.Defined.Strings.Lines.{strand-lines}
 use Rattle.md_content_rooms.proofs.Defined.Known.Target.{chunk-one}
 use Rattle.md_content_rooms.proofs.Defined.Known.Texts.{FormStrings, LabelString, TargetString, TextString, TitleString}
 use Rattle.md_frame.proofs.FrontNames.{fronts-prefixes}
-use Rattle.md_frame.proofs.PlainFacts.{ArePlain, ArePlainFrom, Untold, known-around, plain-append}
+use Rattle.md_frame.proofs.PlainFacts.{ArePlain, ArePlainFrom, Untold, known-around}
 use Rattle.md_frame.proofs.PlainFacts.{plain-none, plain-quiet, plain-through, plain-untold, quiet-from}
 use Rattle.md_frame.proofs.PrefixNames.{prefixes-roles}
 
@@ -235,24 +234,13 @@ inside-plain bytes x g t is known =
     end = BehindPart (title_ends (target_ends x.target) x.title)
 
 pub form-plain : (bytes : List ℕ) (x : Form) (g t : Point) → IsForm bytes x g t → FormStrings bytes x →
-    ArePlain bytes (form_done bytes x)
+    ArePlain bytes (around n.Definition x.p x.last (inside_by (strand_done bytes) (string_done bytes) x))
 form-plain bytes x g t is known =
-    plain-append bytes lead (around n.Definition x.p x.last inside)
-    (plain-quiet bytes lead (white-lead bytes x.first x.p is.indent).quiet)
-    (record {
+    let inside = inside_by (strand_done bytes) (string_done bytes) x in
+    let h = inside-plain bytes x g t is known in
+    record {
       known = known-around bytes n.Definition x.p x.last inside refl refl refl h.known;
       lines =
           passes-definition bytes n.Definition x.p x.last (title_ends (target_ends x.target) x.title) inside refl
           h.lines;
-    })
-  where
-    lead : List Event
-    lead = pair_unless_empty n.SpaceOrTab x.first x.p
-
-    inside : List Event
-    inside = inside_by (strand_done bytes) (string_done bytes) x
-
-    h :
-        ArePlainFrom bytes AtLabel (BehindPart (title_ends (target_ends x.target) x.title))
-        (inside_by (strand_done bytes) (string_done bytes) x)
-    h = inside-plain bytes x g t is known
+    }

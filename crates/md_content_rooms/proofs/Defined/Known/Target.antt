@@ -20,8 +20,8 @@ use Rattle.md_content_rooms.proofs.Defined.Form.{string_unread, target_by}
 use Rattle.md_content_rooms.proofs.Defined.Form.{target_text}
 use Rattle.md_content_rooms.proofs.Defined.Known.Left.{so_far}
 use Rattle.md_content_rooms.proofs.Defined.Known.Marks.{run-over, some-long}
-use Rattle.md_frame.proofs.PartsAround.{IsPartName, PartsFacts, around-reads, parts-around}
-use Rattle.md_content_rooms.proofs.Defined.Known.Parts.{parts-none}
+use Rattle.md_frame.proofs.PartsFacts.{IsPartName, PartsFacts, around-reads, parts-around}
+use Rattle.md_frame.proofs.PartsFacts.{parts-none}
 use Rattle.md_content_rooms.proofs.Defined.Strings.Lines.{run-end}
 use Rattle.md_frame.proofs.PieceFacts.{Starts}
 

@@ -1,47 +1,18 @@
 -- The texts of a definition as parts of it, by what is known of each.
-use Rattle.std.proofs.Common.{◌≡◌, ◌≢◌, ℕ, List, [], ◌∷◌, refl}
+use Rattle.std.proofs.Common.{◌≡◌, ◌≢◌, ℕ, List, [], ◌∷◌}
 use Rattle.std.specs.Prelude.{None, Option, Some}
-use Rattle.md_engine.specs.declared.event.Event.{Event}
-use Rattle.md_engine.specs.declared.event.Name.{Name}
 use Rattle.md_engine.specs.declared.event.Name.TheVariants as n
 use Rattle.md_engine.specs.declared.event.Point.{Point}
-use Rattle.md_seam.specs.Events.Grammar.{Expression, behind}
 use Rattle.md_seam.specs.Events.Inline.{plain_chunk}
-use Rattle.md_seam.specs.Events.Nested.{around, enter_link, exit}
-use Rattle.md_seam.specs.Events.Spelled.{AsDestination, AsLabel, AsTitle, DefinitionLeaf, DefinitionSoFar, Purpose}
+use Rattle.md_seam.specs.Events.Nested.{enter_link, exit}
+use Rattle.md_seam.specs.Events.Spelled.{AsDestination, AsLabel, AsTitle}
 use Rattle.md_link_definitions.specs.Chunks.{string_link}
 use Rattle.md_content_rooms.proofs.Defined.Form.{Form, IsRun, Strand, Titled, strand_done}
 use Rattle.md_content_rooms.proofs.Defined.Form.{strand_lines, strand_unread, target_text}
 use Rattle.md_content_rooms.proofs.Defined.Known.Inside.{FormTexts, label_lines}
 use Rattle.md_content_rooms.proofs.Defined.Known.Label.{label_text}
-use Rattle.md_frame.proofs.PartsAround.{PartsFacts}
-use Rattle.md_content_rooms.proofs.Defined.Strings.Facts.{MayBeParted, StringFacts, label_told, target_told, title_told}
+use Rattle.md_content_rooms.proofs.Defined.Strings.Facts.{StringFacts, label_told, target_told, title_told}
 use Rattle.md_content_rooms.proofs.Defined.Known.Title.{TextParts, TitleParts, title_text}
-
--- A text is a part, which says this of the definition.
-string-parts : (bytes : List ℕ) (name : Name) (purpose : Purpose) (p q : Point) (x : Expression) (d : DefinitionSoFar)
-    (tells : DefinitionSoFar → DefinitionSoFar) (unread done : List Event) →
-    MayBeParted purpose → StringFacts bytes name purpose p q tells unread done →
-    PartsFacts bytes p q x (behind name x) (DefinitionLeaf d) (DefinitionLeaf (tells d)) (around name p q unread)
-    (around name p q done)
-string-parts bytes name purpose p q x d tells unread done may h = record {
-  unread_nested = h.unread_nested;
-  nested = h.nested;
-  tiled = h.tiled;
-  unread_stood = h.unread_stood;
-  stood = h.stood;
-  unread_word = h.unread_word x;
-  word = h.word x;
-  unread_stays = h.unread_stays;
-  stays = h.stays;
-  unread_roles = h.unread_roles;
-  roles = h.roles;
-  parts = h.parts;
-  filled = h.filled;
-  between = h.between;
-  parted = h.parted may;
-  reads = h.reads d;
-}
 
 -- What is known of the texts of a definition: of its label, of any destination, and of its title, if it has one.
 
@@ -80,20 +51,12 @@ title-known bytes label target (Some t) h = go t.text h
     go : (text : Option Strand) → TextString bytes t.a t.b text → TextParts bytes label target t.a t.b text
     go None h = tt
     go (Some s) h =
-        string-parts bytes n.DefinitionTitleString AsTitle t.a t.b title_text
-        (record { label = label; destination = target; title = Some [] }) (title_told (strand_lines s))
-        (strand_unread s) (strand_done bytes s) refl h
+        h.facts title_text (record { label = label; destination = target; title = Some [] })
 
 pub form-texts : (bytes : List ℕ) (x : Form) → FormStrings bytes x → FormTexts bytes x
 form-texts bytes x h = record {
-  label =
-      string-parts bytes n.DefinitionLabelString AsLabel x.a x.b label_text
-      (record { label = []; destination = []; title = None }) (label_told (strand_lines x.label))
-      (strand_unread x.label) (strand_done bytes x.label) refl h.label;
+  label = h.label.facts label_text (record { label = []; destination = []; title = None });
   target = λ a b text y whole some run.
-      string-parts bytes n.DefinitionDestinationString AsDestination a b y
-      (record { label = label_lines x; destination = []; title = None }) (target_told text)
-      (enter_link n.Data a string_link ∷ exit n.Data b ∷ []) (plain_chunk bytes (record { first = a; after = b }))
-      tt (h.target a b text whole some run);
+      (h.target a b text whole some run).facts y (record { label = label_lines x; destination = []; title = None });
   title = title-known bytes (label_lines x) (target_text x.target) x.title h.title;
 }

@@ -17,15 +17,15 @@ use Rattle.md_seam.proofs.SpelledLemmas.{read-from}
 use Rattle.md_frame.proofs.FilledAround.{around-fills}
 use Rattle.md_content_rooms.proofs.Defined.Known.Enclosed.{IsMarkByte, IsMarkName, parts-enclosed}
 use Rattle.md_content_rooms.proofs.Defined.Form.{IsText, IsTitle, IsTitled, LastLine, NoLine, OneLine, Strand}
-use Rattle.md_content_rooms.proofs.Defined.Form.{Titled, gap_events, strand_done, strand_lines, strand_unread, string_of}
+use Rattle.md_content_rooms.proofs.Defined.Form.{Titled, strand_done, strand_lines, strand_unread, string_of}
 use Rattle.md_content_rooms.proofs.Defined.Form.{text_lines, title_by, titled_by}
 use Rattle.md_content_rooms.proofs.Defined.Known.Gap.{gap-back, gap-parts}
 use Rattle.md_content_rooms.proofs.Defined.Known.Left.{behind_gap, end_left, last_left, so_far, title-gap, title-left}
 use Rattle.md_content_rooms.proofs.Defined.Known.Left.{title_left}
 use Rattle.md_content_rooms.proofs.Defined.Known.Marks.{mark-before}
-use Rattle.md_frame.proofs.PartsAround.{IsPartName, PartsFacts, parts-around}
-use Rattle.md_content_rooms.proofs.Defined.Known.Parts.{parts-append, parts-none}
-use Rattle.md_frame.proofs.LeafLines.Inside.{ReadsLeaf}
+use Rattle.md_frame.proofs.PartsFacts.{IsPartName, PartsFacts, parts-around}
+use Rattle.md_frame.proofs.PartsFacts.{parts-append, parts-none}
+use Rattle.md_frame.proofs.PartsFacts.{ReadsLeaf}
 
 -- Its marks.
 
@@ -155,11 +155,7 @@ titled-parts bytes p q label target t is known =
     PartsFacts bytes p e title_left last_left (so_far label target None)
     (so_far label target (Some (text_lines t.text))) (titled_by strand_unread t) (titled_by (strand_done bytes) t))
     is.last
-    (parts-append bytes p t.p t.q title_left (behind_gap title_left t.gap) last_left (so_far label target None)
-    (so_far label target None) (so_far label target (Some (text_lines t.text))) (gap_events t.gap) (gap_events t.gap)
-    (around n.DefinitionTitle t.p t.q (marked strand_unread t))
-    (around n.DefinitionTitle t.p t.q (marked (strand_done bytes) t))
-    (λ end. mark-before bytes t.opener t.p t.a is.opens marks.0.low)
+    (parts-append
     (gap-parts bytes p t.p title_left (behind n.SpaceOrTab title_left) (behind n.LineEnding title_left)
     (record { label = label; destination = target; title = None }) t.gap title-gap is.gap)
     (subst
@@ -175,7 +171,8 @@ titled-parts bytes p q label target t is known =
     (λ (l : List (List ℕ)).
     ReadsLeaf bytes (so_far label target None) (so_far label target (Some l))
     (around n.DefinitionTitle t.p t.q (marked (strand_done bytes) t))) h.1
-    (title-reads bytes label h.0 target t.p t.q (marked (strand_done bytes) t) h.2.reads)))))
+    (title-reads bytes label h.0 target t.p t.q (marked (strand_done bytes) t) h.2.reads))))
+    (λ begin end. mark-before bytes t.opener t.p t.a is.opens marks.0.low))
   where
     marks : IsMarkByte n.DefinitionTitleMarker t.opener × IsMarkByte n.DefinitionTitleMarker t.closer
     marks = title-marks t.opener t.closer is.closer_is

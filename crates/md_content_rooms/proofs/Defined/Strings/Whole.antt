@@ -27,7 +27,7 @@ use Rattle.md_seam.proofs.SpelledLemmas.{Between, Roles, roles-append, text_afte
 use Rattle.md_frame.proofs.BetweenFacts.{around-between}
 use Rattle.md_content_rooms.proofs.Defined.Form.{IsRun, IsStrand, LastLine, Strand, strand_chunks, strand_done}
 use Rattle.md_content_rooms.proofs.Defined.Form.{strand_lines, strand_unread}
-use Rattle.md_content_rooms.proofs.Defined.Strings.Facts.{FurtherFilled, IsString, MayBeParted, StringFacts, label_told}
+use Rattle.md_content_rooms.proofs.Defined.Strings.Facts.{FurtherFilled, IsString, StringFacts, label_told}
 use Rattle.md_content_rooms.proofs.Defined.Strings.Facts.{target_told, title_told}
 use Rattle.md_content_rooms.proofs.Defined.Strings.Lines.{AreLines, Last, More, NoneLeft, strand-lines}
 use Rattle.md_content_rooms.proofs.Defined.Strings.Parted.{line-sits, strand-sits}
@@ -47,8 +47,9 @@ use Rattle.md_frame.proofs.PartsStand.{stands-part}
 use Rattle.md_frame.proofs.PieceFacts.{stood-around}
 use Rattle.md_frame.proofs.PiecesLemmas.{tiled-around}
 use Rattle.md_frame.proofs.PlainFacts.{ArePlain, chunk-plain, known-around, plain-append, plain-nil}
-use Rattle.md_frame.proofs.LeafLines.Inside.{ReadsLeaf}
+use Rattle.md_frame.proofs.PartsFacts.{ReadsLeaf}
 use Rattle.md_frame.proofs.SpanLemmas.{around-nested}
+use Rattle.md_frame.proofs.Stretch.{Stretch}
 
 -- nothing in them is told
 done-plain : (bytes : List ℕ) (p q : Point) (s : Strand) → AreLines bytes p q s → ArePlain bytes (strand_done bytes s)
@@ -85,47 +86,35 @@ string-roles : (name : Name) (purpose : Purpose) (p q : Point) (es : List Event)
 string-roles name purpose p q es named h =
     (named.part, roles-append IsPart es (exit name q ∷ []) (between-parts es h) (named.part, tt))
 
--- all of it, where it may be parted and is read
+-- all of it, where it is parted and read so
 string-facts : (bytes : List ℕ) (name : Name) (purpose : Purpose) (p q : Point)
     (tells : DefinitionSoFar → DefinitionSoFar) (s : Strand) → IsString name purpose → p.vs ≡ 0 → HasLine s →
-    AreLines bytes p q s → (MayBeParted purpose → PrefixesAtLineStart bytes (around name p q (strand_done bytes s))) →
+    AreLines bytes p q s → PrefixesAtLineStart bytes (around name p q (strand_done bytes s)) →
     ((d : DefinitionSoFar) →
     ReadsLeaf bytes (DefinitionLeaf d) (DefinitionLeaf (tells d)) (around name p q (strand_done bytes s))) →
     StringFacts bytes name purpose p q tells (strand_unread s) (strand_done bytes s)
 string-facts bytes name purpose p q tells s named whole has lines parted reads = record {
-  unread_nested = around-nested name p q unread (unread-nested bytes p q s lines);
-  nested = around-nested name p q done (done-nested bytes p q s lines);
-  tiled = tiled-around name p q unread (unread-tiled bytes p q s lines);
-  unread_stood = stood-around bytes name p q unread (unread-starts s has) (unread-stood bytes p q s lines);
-  stood = stood-around bytes name p q done (done-starts bytes p q s has lines) (done-stood bytes p q s lines);
-  unread_word =
-      λ x. leads-around unread_text x name p q unread
-      (subst (λ (y : Expression). IsWord unread_text (y ∷ []) unread) (sym (named.inside_is unread_text))
-      (unread-word bytes p q s has lines));
-  word =
-      λ x. leads-around plain_text x name p q done
-      (subst (λ (y : Expression). IsWord plain_text (y ∷ []) done) (sym (named.inside_is plain_text))
-      (done-word bytes true p q s lines));
-  unread_stays = string-stays name purpose p q unread named (unread-stays bytes p q s lines);
-  stays = string-stays name purpose p q done named (done-stays bytes p q s lines);
-  unread_roles = string-roles name purpose p q unread named (unread-texts bytes p q s lines);
-  roles = string-roles name purpose p q done named (done-texts bytes p q s lines);
+  facts = λ x d. record {
+    stretch = stretch;
+    unread_word =
+        leads-around unread_text x name p q unread
+        (subst (λ (y : Expression). IsWord unread_text (y ∷ []) unread) (sym (named.inside_is unread_text))
+        (unread-word bytes p q s has lines));
+    word =
+        leads-around plain_text x name p q done
+        (subst (λ (y : Expression). IsWord plain_text (y ∷ []) done) (sym (named.inside_is plain_text))
+        (done-word bytes true p q s lines));
+    unread_stays = string-stays name purpose p q unread named (unread-stays bytes p q s lines);
+    stays = string-stays name purpose p q done named (done-stays bytes p q s lines);
+    reads = reads d;
+  };
   texts = done-texts bytes p q s lines;
-  parts =
-      stands-part bytes name String p q chunks unread named.kind (strand-inside bytes p q s lines)
-      (strand-begins bytes p q s has lines) (strand-one bytes p q s lines);
-  filled =
-      fill-part bytes name String p q chunks unread done named.kind (strand-inside bytes p q s lines)
-      (plain-fills bytes p chunks (strand-order bytes p q s lines)) (strand-filled bytes p q s lines);
-  between = λ begin end. around-between bytes name p q done begin end (done-between bytes p q s lines begin end);
-  parted = parted;
   known = λ unlisted.
       known-around bytes name p q done (ap is_unlisted named.tells ∙ unlisted)
       (or_right (not (is_told (role name))) (clear bytes p) (whole-clear bytes p whole))
       (or_right (not (is_told (role name))) (clear bytes q)
       (whole-clear bytes q (end-whole bytes p q s lines)))
       (done-plain bytes p q s lines).known;
-  reads = reads;
 }
   where
     unread : List Event
@@ -136,6 +125,25 @@ string-facts bytes name purpose p q tells s named whole has lines parted reads =
 
     chunks : List Chunk
     chunks = strand_chunks s
+
+    stretch : Stretch IsPart bytes p q (around name p q (strand_unread s)) (around name p q (strand_done bytes s))
+    stretch = record {
+      unread_roles = string-roles name purpose p q unread named (unread-texts bytes p q s lines);
+      roles = string-roles name purpose p q done named (done-texts bytes p q s lines);
+      unread_nested = around-nested name p q unread (unread-nested bytes p q s lines);
+      nested = around-nested name p q done (done-nested bytes p q s lines);
+      tiled = tiled-around name p q unread (unread-tiled bytes p q s lines);
+      unread_stood = stood-around bytes name p q unread (unread-starts s has) (unread-stood bytes p q s lines);
+      stood = stood-around bytes name p q done (done-starts bytes p q s has lines) (done-stood bytes p q s lines);
+      parts =
+          stands-part bytes name String p q chunks unread named.kind (strand-inside bytes p q s lines)
+          (strand-begins bytes p q s has lines) (strand-one bytes p q s lines);
+      filled =
+          fill-part bytes name String p q chunks unread done named.kind (strand-inside bytes p q s lines)
+          (plain-fills bytes p chunks (strand-order bytes p q s lines)) (strand-filled bytes p q s lines);
+      between = λ begin end. around-between bytes name p q done begin end (done-between bytes p q s lines begin end);
+      parted = parted;
+    }
 
 -- A label.
 
@@ -168,7 +176,7 @@ label-facts bytes p q s whole is filled =
     let lines : AreLines bytes p q s = strand-lines bytes p q s is in
     string-facts bytes n.DefinitionLabelString AsLabel p q (label_told (strand_lines s)) s label-name whole
     (strand-some bytes p q s is) lines
-    (λ may. strand-sits bytes n.DefinitionLabelString AsLabel p q s refl may filled lines)
+    (strand-sits bytes n.DefinitionLabelString AsLabel p q s refl refl filled lines)
     (λ d. label-reads bytes p q s d whole filled lines)
 
 -- A title.
@@ -199,7 +207,7 @@ title-facts bytes p q s whole is filled =
     let lines : AreLines bytes p q s = strand-lines bytes p q s is in
     string-facts bytes n.DefinitionTitleString AsTitle p q (title_told (strand_lines s)) s title-name whole
     (strand-some bytes p q s is) lines
-    (λ may. strand-sits bytes n.DefinitionTitleString AsTitle p q s refl may filled lines)
+    (strand-sits bytes n.DefinitionTitleString AsTitle p q s refl refl filled lines)
     (λ d. title-reads bytes p q s d whole filled lines)
 
 -- A destination, which is on one line.
@@ -231,5 +239,5 @@ pub target-facts : (bytes : List ℕ) (p q : Point) (text : List ℕ) → p.vs �
 target-facts bytes p q text whole some run =
     string-facts bytes n.DefinitionDestinationString AsDestination p q (target_told text) (LastLine p q text)
     target-name whole tt (Last p q text some run)
-    (λ may. line-sits bytes n.DefinitionDestinationString AsDestination p q refl)
+    (line-sits bytes n.DefinitionDestinationString AsDestination p q refl)
     (λ d. target-reads bytes text p q d whole some run)
