@@ -4,7 +4,6 @@ pub mod Further
 pub mod Laws
 pub mod Open
 pub mod Opening
-pub mod Plain
 pub mod Rest
 pub mod OutlineSites
 pub mod Walk

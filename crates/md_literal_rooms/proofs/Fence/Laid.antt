@@ -8,7 +8,6 @@ use Rattle.std.specs.Option.{is_some}
 use Rattle.std.proofs.lemmas.Bool.Decides.{nat_tests}
 use Rattle.std.proofs.lemmas.List.{take-append-drop}
 use Rattle.md_engine.specs.declared.configuration.ParseOptions.{ParseOptions}
-use Rattle.md_engine.specs.declared.event.Event.{Event}
 use Rattle.md_engine.specs.declared.event.Point.{Point}
 use Rattle.md_meaning.specs.Leaves.{fence_at}
 use Rattle.md_meaning.specs.Rest.{Rest, is_white, trim_start}
@@ -21,10 +20,9 @@ use Rattle.md_seam.specs.Events.Places.{past_byte, past_text}
 use Rattle.md_seam.proofs.FeedLines.{past_text-whole}
 use Rattle.md_seam.proofs.InlineLemmas.{past_text-append}
 use Rattle.md_frame.specs.RestLine.{rest_line}
-use Rattle.md_literal_rooms.specs.Leaf.Fence.{Inner, fence_parts, past_white, white_part}
+use Rattle.md_literal_rooms.specs.Leaf.Fence.{past_white}
 use Rattle.md_literal_rooms.proofs.Fence.Opened.{IsFence, fence-starts}
 use Rattle.md_frame.proofs.LineWalk.{At, past-stands}
-use Rattle.md_literal_rooms.proofs.Fence.Walk.{Walks, parts-walk, white-mid, white-walks}
 use Rattle.md_frame.proofs.LeafFacts.{LineAt}
 use Rattle.md_frame.proofs.LineTexts.{line-stands}
 use Rattle.md_frame.proofs.PieceFacts.{CutsFirst}
@@ -88,29 +86,3 @@ laid options bytes r p q starts is = record {
 
     fence : IsFence options (trim_start (rest_line r))
     fence = subst (IsFence options) (sym (rest-trim r)) (fence-starts options r starts).fence
-
--- What holds of its whitespace, and of what stands in it.
-pub record Walked (inner read : Inner) (M : Point → Type 0) (Q : Point → Point → List Event → List Event → Type 0)
-    (line : List ℕ) (p : Point) : Type 0 where
-  pub mid : M (past_white line p)
-  pub white : Q p (past_white line p) (white_part line p) (white_part line p)
-  pub parts : Q (past_white line p) (past_text line p)
-      (fence_parts inner (first_byte (trim_start line)) (trim_start line) (past_white line p))
-      (fence_parts read (first_byte (trim_start line)) (trim_start line) (past_white line p))
-
-pub line-walk : (options : ParseOptions) (bytes : List ℕ) (inner read : Inner) (M : Point → Type 0)
-    (Q : Point → Point → List Event → List Event → Type 0) →
-    Walks bytes inner read M Q → (line rest : List ℕ) (p : Point) → Laid options bytes line p rest → M p →
-    M (past_text line p) → Walked inner read M Q line p
-line-walk options bytes inner read M Q walks line rest p is mid end =
-    let text = trim_start line in
-    let q = past_white line p in
-    let m = first_byte text in
-    let next = white-mid bytes inner read M Q walks line rest p is.stands mid in
-    record {
-      mid = next;
-      white = white-walks bytes inner read M Q walks line rest p is.stands is.cut mid;
-      parts =
-          subst (λ (e : Point). Q q e (fence_parts inner m text q) (fence_parts read m text q)) is.ends
-          (parts-walk options bytes inner read M Q walks text rest q is.fence next (subst M (sym is.ends) end) is.at);
-    }

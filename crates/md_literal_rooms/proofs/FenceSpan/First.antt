@@ -1,7 +1,7 @@
 -- The opening line of fenced code or math as the first line of its block: what is known of what stands in it behind its
 -- begin.
-use Rattle.std.proofs.Common.{◌≡◌, ℕ, Bool, true, false, cond, List, [], ◌∷◌, length, take, drop, refl, sym, ap, ◌∙◌}
-use Rattle.std.proofs.Common.{◌||◌, not, suc, subst, arith}
+use Rattle.std.proofs.Common.{◌≡◌, ℕ, Bool, true, false, cond, List, [], ◌∷◌, length, take, drop, refl, ap, ◌∙◌}
+use Rattle.std.proofs.Common.{◌||◌, not, suc, arith}
 use Rattle.std.specs.Prelude.{◌==◌, Option, Some, None}
 use Rattle.std.proofs.lemmas.Bool.Decides.{nat_tests}
 use Rattle.md_engine.specs.declared.configuration.ParseOptions.{ParseOptions}
@@ -19,38 +19,32 @@ use Rattle.md_seam.specs.Events.Nested.{around}
 use Rattle.md_seam.specs.Events.Pieces.{stands_over}
 use Rattle.md_seam.specs.Events.Places.{past_text}
 use Rattle.md_seam.specs.Events.Spelled.{OpenLeaf, Reading, fresh, read, role}
-use Rattle.md_seam.proofs.FeedLines.{past_text-whole}
 use Rattle.md_seam.proofs.EndingsLemmas.{AreOthers, stays-others}
 use Rattle.md_seam.proofs.GrammarLemmas.{Leads, leads-around}
 use Rattle.md_outline.specs.LinesStand.{AtEnding, begun_site}
 use Rattle.md_outline.specs.Roles.{is_told, is_unlisted}
 use Rattle.md_literal_rooms.specs.Leaf.Fence.{Inner, fence_parts, linked, past_white, read_inner}
-use Rattle.md_frame.proofs.BetweenFacts.{AreBetween}
-use Rattle.md_literal_rooms.proofs.Fence.Between as place
-use Rattle.md_frame.proofs.PlaceBetween as place_between
 use Rattle.md_literal_rooms.proofs.Fence.Each.{by-math}
-use Rattle.md_literal_rooms.proofs.Fence.Kept as kept
 use Rattle.md_frame.proofs.OtherNames as other_names
-use Rattle.md_literal_rooms.proofs.Fence.Laid.{Laid, Walked, line-walk}
-use Rattle.md_literal_rooms.proofs.Fence.Nested as nest
-use Rattle.md_literal_rooms.proofs.Fence.Pieces as piece
+use Rattle.md_literal_rooms.proofs.Fence.Laid.{Laid}
 use Rattle.md_literal_rooms.proofs.Fence.Reads as reading
-use Rattle.md_literal_rooms.proofs.Fence.Texts as texts
-use Rattle.md_literal_rooms.proofs.Fence.Walk.{Anywhere, parts-walk, sequence-over}
+use Rattle.md_literal_rooms.proofs.Fence.Walk.{sequence-over}
 use Rattle.md_literal_rooms.proofs.Fence.Words.{Word, fence-word, linked-word, read-word}
 use Rattle.md_literal_rooms.proofs.FenceFurther.Grammar.{behind_line}
-use Rattle.md_frame.proofs.IndentRemoved.Shown.{whole-clear}
 use Rattle.md_literal_rooms.proofs.FenceSpan.Open.{AreMarks, begin_of, kind_of, leaf_by, leaf_of}
-use Rattle.md_literal_rooms.proofs.FenceSpan.Plain.{walks-known}
 use Rattle.md_literal_rooms.proofs.FenceSpan.OutlineSites.{first-passes}
 use Rattle.md_frame.proofs.FillFacts.{PartsRead}
-use Rattle.md_frame.proofs.PartedFacts.{PrefixesAtLineStart, Still, clear}
-use Rattle.md_frame.proofs.PartsStand.{PartsWhole}
-use Rattle.md_frame.proofs.PiecesLemmas.{Covered}
-use Rattle.md_frame.proofs.PlainFacts.{AreKnown, known-around}
+use Rattle.md_frame.proofs.PartedFacts.{Still, clear}
+use Rattle.md_frame.proofs.PlainFacts.{known-around}
 use Rattle.md_frame.proofs.LeafLines.Inside.{InsideFacts}
 use Rattle.md_containers.specs.ItemsStand.{IsPart}
 use Rattle.md_frame.proofs.Stretch.{stretch-around}
+use Rattle.md_code.specs.Fence.{block_name}
+use Rattle.md_literal_rooms.specs.Leaf.Fence.{fence_line, white_part}
+use Rattle.md_literal_rooms.proofs.Fence.Facts.{FenceInside, fence-inside}
+use Rattle.md_literal_rooms.proofs.FenceSpan.White.{white-lead}
+use Rattle.md_frame.proofs.FillFacts.{fill-append, fill-around}
+use Rattle.md_seam.specs.Events.Tiles.{part_kind}
 
 -- What a fence opens, by what stands behind its whitespace.
 abbrev pub opened_by : ℕ → List ℕ → Opening
@@ -114,6 +108,9 @@ first-leads text inner word line p e =
     leads-around text (begin_of m) (fence_name m) q e (fence_parts inner m xs q)
     (fence-word text inner word (m == 36) (drop size xs) q (past_text (take size xs) q))
 
+fence-kind : (m : ℕ) → part_kind (fence_name m) ≡ None
+fence-kind m = by-math (λ x. part_kind x ≡ None) (m == 36) n.MathFlowFence n.CodeFencedFence refl refl
+
 fence-known : (m : ℕ) → is_unlisted (role (fence_name m)) ≡ true
 fence-known m =
     by-math (λ x. is_unlisted (role x) ≡ true) (m == 36) n.MathFlowFence n.CodeFencedFence refl refl
@@ -135,34 +132,22 @@ first-facts options bytes line rest p columns is = record {
         stretch-around name
         (record {
           role_is = by-math (λ x. IsPart (role x)) (m == 36) n.MathFlowFence n.CodeFencedFence tt tt;
-          no_part = texts.fence-kind m;
+          no_part = fence-kind m;
           still = by-math (λ x. Still (role x)) (m == 36) n.MathFlowFence n.CodeFencedFence tt tt;
         }) refl refl
-        (record {
-          unread_roles = kept.parts-roles linked kept.linked-parts m text q;
-          roles = kept.parts-roles (read_inner bytes) (kept.read-parts bytes) m text q;
-          unread_nested = nested.parts.0;
-          nested = nested.parts.1;
-          tiled = tiled.parts;
-          unread_stood = stood.parts.0;
-          stood = stood.parts.1;
-          parts = stand.parts;
-          filled = filled.parts;
-          between = between;
-          parted = sits.parts;
-        });
+        h.stretch;
     unread_word = first-leads unread_text linked linked-word line p e;
     word = first-leads plain_text (read_inner bytes) (read-word bytes) line p e;
     unread_stays =
-        stays-others (around name q e unread) (other_names.others-around name q e unread other others.parts.0);
-    stays = stays-others (around name q e done) (other_names.others-around name q e done other others.parts.1);
+        stays-others (around name q e unread) (other_names.others-around name q e unread other h.unread_others);
+    stays = stays-others (around name q e done) (other_names.others-around name q e done other h.others);
     reads = λ s none at.
         ap (λ (o : Option OpenLeaf). read bytes (record s { leaf = o }) (around name q e done)) at
         ∙ reading.fence-opened options bytes line rest p e s is none
         ∙ ap (λ (l : OpenLeaf). let x : Reading = record s { leaf = Some l } in x) (leaf-same columns text);
   };
   plain = λ first. record {
-    known = known-around bytes name q e done (fence-known m) (untold q) (untold e) (known first);
+    known = known-around bytes name q e done (fence-known m) (untold q) (untold e) (h.known first);
     lines = first-passes options bytes line rest p e is;
   };
 }
@@ -192,50 +177,8 @@ first-facts options bytes line rest p columns is = record {
     other =
         by-math other_names.Other (first_byte (trim_start line) == 36) n.MathFlowFence n.CodeFencedFence refl refl
 
-    nested : Walked linked (read_inner bytes) Anywhere nest.Both line p
-    nested =
-        line-walk options bytes linked (read_inner bytes) Anywhere nest.Both (nest.walks-nested bytes) line rest p is tt tt
-
-    tiled : Walked linked linked Anywhere (λ p q es ds. Covered p q es) line p
-    tiled =
-        line-walk options bytes linked linked Anywhere (λ p q es ds. Covered p q es) (nest.walks-tiled bytes) line rest p is
-        tt tt
-
-    stood : Walked linked (read_inner bytes) Anywhere (piece.Both bytes) line p
-    stood =
-        line-walk options bytes linked (read_inner bytes) Anywhere (piece.Both bytes) (piece.walks-stood bytes) line rest
-        p is tt tt
-
-    others : Walked linked (read_inner bytes) Anywhere kept.Both line p
-    others =
-        line-walk options bytes linked (read_inner bytes) Anywhere kept.Both (kept.walks-others bytes) line rest p is tt tt
-
-    stand : Walked linked linked Anywhere (λ p q es ds. PartsWhole bytes es) line p
-    stand =
-        line-walk options bytes linked linked Anywhere (λ p q es ds. PartsWhole bytes es) (texts.walks-stand bytes) line rest
-        p is tt tt
-
-    filled : Walked linked (read_inner bytes) Anywhere (λ p q es ds. PartsRead bytes es ds) line p
-    filled =
-        line-walk options bytes linked (read_inner bytes) Anywhere (λ p q es ds. PartsRead bytes es ds)
-        (texts.walks-filled bytes) line rest p is tt tt
-
-    sits : Walked (read_inner bytes) (read_inner bytes) Anywhere (λ p q es ds. PrefixesAtLineStart bytes es) line p
-    sits =
-        line-walk options bytes (read_inner bytes) (read_inner bytes) Anywhere (λ p q es ds. PrefixesAtLineStart bytes es)
-        (place.walks-sit bytes) line rest p is tt tt
-
-    between : place_between.IsPlace bytes q → place_between.IsPlace bytes e → AreBetween bytes done
-    between first last =
-        parts-walk options bytes (read_inner bytes) (read_inner bytes) (place_between.IsPlace bytes)
-        (λ p q es ds. AreBetween bytes es) (place.walks-between bytes) text rest q is.fence first
-        (subst (place_between.IsPlace bytes) (sym is.ends) last) is.at
-
-    known : clear bytes q ≡ true → AreKnown bytes done
-    known first =
-        parts-walk options bytes (read_inner bytes) (read_inner bytes) (λ p. clear bytes p ≡ true)
-        (λ p q es ds. AreKnown bytes es) (walks-known bytes) text rest q is.fence first
-        (whole-clear bytes (past_text text q) (past_text-whole text q is.at.whole)) is.at
+    h : FenceInside bytes q e unread done
+    h = fence-inside options bytes line rest p is
 
     untold : (x : Point) → (not (is_told (role (fence_name (first_byte (trim_start line))))) || clear bytes x) ≡ true
     untold x = ap (λ (b : Bool). not b || clear bytes x) (fence-untold (first_byte (trim_start line)))
@@ -246,10 +189,27 @@ pub first-others : (options : ParseOptions) (bytes line rest : List ℕ) (p e : 
 first-others options bytes line rest p e is =
     let m = first_byte (trim_start line) in
     let q = past_white line p in
-    let walked = line-walk options bytes linked (read_inner bytes) Anywhere kept.Both (kept.walks-others bytes) line rest p
-    is tt tt in
+    let h = fence-inside options bytes line rest p is in
     let other : other_names.Other (fence_name m) =
     by-math other_names.Other (m == 36) n.MathFlowFence n.CodeFencedFence refl refl in (
-      other_names.others-around (fence_name m) q e (fence_parts linked m (trim_start line) q) other walked.parts.0,
-      other_names.others-around (fence_name m) q e (fence_parts (read_inner bytes) m (trim_start line) q) other walked.parts.1,
+      other_names.others-around (fence_name m) q e (fence_parts linked m (trim_start line) q) other h.unread_others,
+      other_names.others-around (fence_name m) q e (fence_parts (read_inner bytes) m (trim_start line) q) other h.others,
     )
+
+-- What is read of all of the line fills its texts.
+pub fence-filled : (options : ParseOptions) (bytes line rest : List ℕ) (p : Point) → Laid options bytes line p rest →
+    PartsRead bytes (fence_line linked line p) (fence_line (read_inner bytes) line p)
+fence-filled options bytes line rest p is =
+    let m = first_byte (trim_start line) in
+    let q = past_white line p in
+    let e = past_text line p in
+    let us = fence_parts linked m (trim_start line) q in
+    let es = fence_parts (read_inner bytes) m (trim_start line) q in
+    let block : part_kind (block_name m) ≡ None =
+    by-math (λ x. part_kind x ≡ None) (m == 36) n.MathFlow n.CodeFenced refl refl in
+    fill-append bytes (white_part line p) (white_part line p)
+    (around (block_name m) q e (around (fence_name m) q e us))
+    (around (block_name m) q e (around (fence_name m) q e es))
+    (white-lead bytes line rest p is.stands is.cut).stretch.filled
+    (fill-around bytes (block_name m) q e (around (fence_name m) q e us) (around (fence_name m) q e es) block
+    (fill-around bytes (fence_name m) q e us es (fence-kind m) (fence-inside options bytes line rest p is).stretch.filled))

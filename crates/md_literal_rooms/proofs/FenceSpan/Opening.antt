@@ -26,10 +26,10 @@ use Rattle.md_code.specs.Fence.{is_open as is_fence}
 use Rattle.md_frame.specs.Row.{Row, but_end}
 use Rattle.md_literal_rooms.proofs.Fence.Laid.{Laid, laid}
 use Rattle.md_literal_rooms.proofs.Fence.Opened.{fence-starts}
-use Rattle.md_literal_rooms.proofs.Fence.Texts.{fence-filled}
 use Rattle.md_literal_rooms.proofs.FenceFurther.Definition.{held_of, opening-fence}
 use Rattle.md_literal_rooms.proofs.FenceFurther.Grammar.{behind_line}
-use Rattle.md_literal_rooms.proofs.FenceSpan.First.{first-facts, first_inside, marks-are, marks_of, opened_by}
+use Rattle.md_literal_rooms.proofs.FenceSpan.First.{fence-filled, first-facts, first_inside, marks-are, marks_of}
+use Rattle.md_literal_rooms.proofs.FenceSpan.First.{opened_by}
 use Rattle.md_literal_rooms.proofs.FenceSpan.Open.{AreMarks, begin_of, kind_of, leaf_of}
 use Rattle.md_frame.proofs.LeafLines.Rest.{goes_back, row_done, row_unread}
 use Rattle.md_literal_rooms.proofs.FenceSpan.White.{white-lead}
