@@ -1,8 +1,8 @@
 -- Places between two characters of a text, and events that stand there.
-use Rattle.std.proofs.Common.{◌≡◌, ℕ, suc, ◌+◌, ◌-◌, ◌<◌, ◌≤◌, Bool, true, false, cond, List, [], ◌∷◌, ◌++◌, length}
+use Rattle.std.proofs.Common.{◌≡◌, ℕ, ◌+◌, ◌-◌, ◌<◌, ◌≤◌, Bool, true, false, cond, List, [], ◌∷◌, ◌++◌, length}
 use Rattle.std.proofs.Common.{get_or, drop, slice_range, refl, ap, sym, ◌∙◌, subst, arith}
-use Rattle.std.specs.Prelude.{◌==◌, IsTrue, nat_lt, slice_index}
-use Rattle.std.specs.List.{list_all, prefix_len}
+use Rattle.std.specs.Prelude.{◌==◌, nat_lt, slice_index}
+use Rattle.std.specs.List.{list_all}
 use Rattle.std.proofs.lemmas.Bool.{and_parts, and_from, eqb-true}
 use Rattle.std.proofs.lemmas.Bool.Decides.{nat_tests}
 use Rattle.std.proofs.lemmas.List.{get_or-drop, get_or_past, get_or-take}
@@ -13,15 +13,13 @@ use Rattle.md_engine.specs.declared.event.Name.{Name}
 use Rattle.md_engine.specs.declared.event.Name.TheVariants as n
 use Rattle.md_engine.specs.declared.event.Point.{Point}
 use Rattle.md_seam.specs.Events.Inline.{line_end, pair_unless_empty, plain_chunk}
-use Rattle.md_seam.specs.Events.Nested.{Forward, around, enter, exit, last_point, pair}
-use Rattle.md_seam.specs.Events.Places.{at_or_before, same_place}
-use Rattle.md_meaning.specs.Rest.{is_blank, is_white, trim_start}
-use Rattle.md_seam.proofs.NestedLemmas.{at_or_before-trans, forward-last}
+use Rattle.md_seam.specs.Events.Nested.{around, enter, exit, pair}
+use Rattle.md_seam.specs.Events.Places.{same_place}
+use Rattle.md_meaning.specs.Rest.{is_blank, is_white}
 use Rattle.md_seam.proofs.PlacesLemmas.{all-append}
 use Rattle.md_meaning.proofs.TextsLemmas.{Both, Ending, LineFeed, Return, ending_bytes}
 use Rattle.md_outline.specs.Between.{is_between}
 use Rattle.md_seam.proofs.FeedLines.{IsEnding}
-use Rattle.md_frame.proofs.SpanLemmas.{order-grows}
 
 abbrev pub is_low : ℕ → Bool
 is_low b = nat_lt b 128
@@ -38,20 +36,6 @@ white-low b h = grind (arith, nat_tests)
 
 pub blank-low : (line : List ℕ) → is_blank line ≡ true → list_all is_low line ≡ true
 blank-low line h = all-more is_white is_low line white-low h
-
--- whitespace before bytes of ASCII
-pub trim-low : (line : List ℕ) → list_all is_low (trim_start line) ≡ true → list_all is_low line ≡ true
-trim-low [] h = refl
-trim-low (b ∷ line) h = go (is_white b) refl (trim-low line) h
-  where
-    go : (x : Bool) → is_white b ≡ x → (list_all is_low (trim_start line) ≡ true → list_all is_low line ≡ true) →
-        list_all is_low (drop (cond x (1 + prefix_len is_white line) 0) (b ∷ line)) ≡ true →
-        list_all is_low (b ∷ line) ≡ true
-    go false e rest h = h
-    go true e rest h =
-        let next : 1 + prefix_len is_white line ≡ suc (prefix_len is_white line) = omega arith in
-        and_from (is_low b) (list_all is_low line) (white-low b e)
-        (rest (subst (λ (i : ℕ). list_all is_low (drop i (b ∷ line)) ≡ true) next h))
 
 -- a byte of a part of the text that is of ASCII
 pub low-at : (bytes line : List ℕ) (a e i : ℕ) → slice_range bytes a e ≡ line → e ≡ a + length line →
@@ -126,33 +110,6 @@ between-unless bytes name p q h k = go (same_place p q)
     go : (x : Bool) → AreBetween bytes (cond x [] (pair name p q))
     go true = refl
     go false = between-pair bytes name p q h k
-
--- events that go forward lie between two places
-pub forward-between : (bytes : List ℕ) (p q : Point) (es : List Event) → Forward p es →
-    IsTrue (at_or_before (last_point p es) q) → ((i : ℕ) → p.index ≤ i → i ≤ q.index → is_between bytes i ≡ true) →
-    AreBetween bytes es
-forward-between bytes p q [] f h all = refl
-forward-between bytes p q (e ∷ es) f h all =
-    let from : p.index ≤ e.point.index = order-grows p e.point f.0 in
-    let to : e.point.index ≤
-    q.index = order-grows e.point q
-    (at_or_before-trans e.point (last_point e.point es) q (forward-last e.point es f.1) h) in
-    between-more bytes e es (all e.point.index from to)
-    (forward-between bytes e.point q es f.1 h (λ i g k. all i (omega arith) k))
-
--- and so do those on bytes of ASCII, if such a place stands behind these
-pub low-between : (bytes line : List ℕ) (p q : Point) (es : List Event) → slice_range bytes p.index q.index ≡ line →
-    q.index ≡ p.index + length line → list_all is_low line ≡ true → Forward p es →
-    IsTrue (at_or_before (last_point p es) q) → is_between bytes q.index ≡ true →
-    AreBetween bytes es
-low-between bytes line p q es text size low f h end =
-    forward-between bytes p q es f h (λ i from to. at i from to (i == q.index) refl)
-  where
-    at : (i : ℕ) → p.index ≤ i → i ≤ q.index → (x : Bool) → (i == q.index) ≡ x → is_between bytes i ≡ true
-    at i from to true e = subst (λ (j : ℕ). is_between bytes j ≡ true) (sym (eqb-true i q.index e)) end
-    at i from to false e =
-        let below : i < q.index = grind (arith, nat_tests) in
-        between-before bytes i (low-at bytes line p.index q.index i text size low from below)
 
 pub chunk-between : (bytes : List ℕ) (p e q : Point) → line_end bytes (record { first = p; after = q }) ≡ e →
     is_between bytes p.index ≡ true → is_between bytes e.index ≡ true → is_between bytes q.index ≡ true →

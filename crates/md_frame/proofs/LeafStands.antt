@@ -129,9 +129,6 @@ pub quiet-part : (x : Role) → Quiet x → IsPart x
 quiet-part IsQuiet h = tt
 quiet-part _ h = absurd h
 
-pub quiets-parts : (es : List Event) → Roles Quiet es → Roles IsPart es
-quiets-parts es h = roles-as quiet-part es h
-
 -- and stands between blocks
 pub quiets-between : (es : List Event) → Roles Quiet es → Roles Between es
 quiets-between es h = roles-as one es h

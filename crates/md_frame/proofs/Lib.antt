@@ -67,6 +67,7 @@ pub mod SpannedFacts
 pub mod Stretch
 pub mod SubstitutedLemmas
 pub mod TextBehind
+pub mod TextInside
 pub mod TextLaws
 pub mod Unmarked
 pub mod UnturnedFacts

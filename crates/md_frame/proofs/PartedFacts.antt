@@ -10,7 +10,8 @@ use Rattle.md_engine.specs.declared.event.Point.{Point}
 use Rattle.md_seam.specs.declared.inline.Chunk.{Chunk}
 use Rattle.md_seam.specs.Events.Inline.{plain_chunk}
 use Rattle.md_seam.specs.Events.Nested.{around, enter, exit}
-use Rattle.md_seam.specs.Events.Spelled.{IsEnding as EndingRole, IsPrefix as PrefixRole, IsQuiet, Role, TextRole, byte_at}
+use Rattle.md_seam.specs.Events.Spelled.{IsEnding as EndingRole, IsPrefix as PrefixRole, IsQuiet, Role, TextRole}
+use Rattle.md_seam.specs.Events.Spelled.{byte_at}
 use Rattle.md_seam.specs.Events.Spelled.{role}
 use Rattle.md_seam.proofs.SpelledLemmas.{Quiet, QuietOrEnding, Roles}
 use Rattle.md_outline.specs.Between.{is_between}
@@ -115,10 +116,6 @@ pub passes-chunk : (bytes : List ℕ) (s : Option OpenTextSpan) (chunk : Chunk) 
     are_parted bytes s (plain_chunk bytes chunk ++ ys) ≡ are_parted bytes s ys
 passes-chunk bytes s chunk ys =
     passes bytes s (plain_chunk bytes chunk) ys (chunk-roles QuietOrEnding bytes chunk tt tt)
-
-pub from-none : (bytes : List ℕ) (s : Option OpenTextSpan) (es : List Event) → s ≡ None → are_parted bytes None es ≡ true →
-    are_parted bytes s es ≡ true
-from-none bytes s es e h = ap (λ (t : Option OpenTextSpan). are_parted bytes t es) e ∙ h
 
 pub around-sits : (bytes : List ℕ) (name : Name) (p q : Point) (inside : List Event) → Still (role name) →
     PrefixesAtLineStart bytes inside → PrefixesAtLineStart bytes (around name p q inside)

@@ -8,7 +8,6 @@ pub mod Order
 pub mod Parted
 pub mod Parts
 pub mod Pieces
-pub mod Places
 pub mod Reads
 pub mod Stands
 pub mod Words

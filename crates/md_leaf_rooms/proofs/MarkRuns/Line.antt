@@ -3,8 +3,7 @@ use Rattle.std.proofs.Common.{◌≡◌, ℕ, ◌<◌, Bool, true, false, ◌||�
 use Rattle.std.proofs.Common.{slice_range, refl, ap, sym, subst, ◌∙◌, append_assoc, arith}
 use Rattle.std.specs.Prelude.{◌==◌}
 use Rattle.std.specs.List.{list_all}
-use Rattle.std.proofs.lemmas.Bool.{and_from, and_parts, eqb-true, or_left, or_parts, or_right}
-use Rattle.std.proofs.lemmas.List.Folds.{list_all-append}
+use Rattle.std.proofs.lemmas.Bool.{and_parts, eqb-true, or_left, or_parts, or_right}
 use Rattle.md_engine.specs.declared.event.Event.{Event}
 use Rattle.md_engine.specs.declared.event.Name.{Name}
 use Rattle.md_engine.specs.declared.event.Name.TheVariants as n
@@ -17,7 +16,6 @@ use Rattle.md_seam.proofs.FeedLines.{drop-past, slice-front}
 use Rattle.md_seam.proofs.InlineLemmas.{past-index}
 use Rattle.md_frame.specs.MarkRuns.{Apart, Marks, White, mark_runs}
 use Rattle.md_frame.specs.Row.{blank_line}
-use Rattle.md_frame.proofs.BetweenFacts.{all-more, blank-low, is_low}
 use Rattle.md_frame.proofs.LineTexts.{past-whole}
 use Rattle.md_leaf_rooms.proofs.MarkRuns.Cells.{white-other}
 use Rattle.md_frame.proofs.PieceFacts.{CutsFirst}
@@ -211,18 +209,3 @@ run-marks m line is =
     subst (AreMarks m) (sym is.is)
     (marks-append m is.front (is.marks ++ is.back) (blank-marks m is.front is.front_white)
     (marks-append m is.marks is.back (all-marks m is.marks is.all) (blank-marks m is.back is.back_white)))
-
--- of ASCII if the marker is
-marks-low : (m : ℕ) (bs : List ℕ) → is_low m ≡ true → list_all (λ b. b == m) bs ≡ true → list_all is_low bs ≡ true
-marks-low m bs low all =
-    all-more (λ b. b == m) is_low bs (λ b e. subst (λ (c : ℕ). is_low c ≡ true) (sym (eqb-true b m e)) low) all
-
--- the whole line
-pub run-low : (m : ℕ) (line : List ℕ) → is_low m ≡ true → HasRun m line → list_all is_low line ≡ true
-run-low m line low is =
-    ap (list_all is_low) is.is
-    ∙ list_all-append is_low is.front (is.marks ++ is.back)
-    ∙ and_from (list_all is_low is.front) (list_all is_low (is.marks ++ is.back)) (blank-low is.front is.front_white)
-    (list_all-append is_low is.marks is.back
-    ∙ and_from (list_all is_low is.marks) (list_all is_low is.back) (marks-low m is.marks low is.all)
-    (blank-low is.back is.back_white))

@@ -96,7 +96,6 @@ pub record Walks (bytes : List ℕ) (inner read : Inner) (M : Point → Type 0) 
         (around name p (past_text (b ∷ bs) p) (inner p (past_text (b ∷ bs) p)))
         (around name p (past_text (b ∷ bs) p) (read p (past_text (b ∷ bs) p)))
 
-
 -- whitespace in front is blank
 pub front-blank : (xs : List ℕ) → is_blank (take (prefix_len is_white xs) xs) ≡ true
 front-blank [] = refl

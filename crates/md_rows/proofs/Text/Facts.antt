@@ -4,51 +4,43 @@ use Rattle.std.specs.Prelude.{◌==◌, ◌||◌, Some}
 use Rattle.md_engine.specs.declared.configuration.ParseOptions.{ParseOptions}
 use Rattle.md_engine.specs.declared.event.Event.{Event}
 use Rattle.md_engine.specs.declared.event.Point.{Point}
-use Rattle.md_seam.specs.declared.inline.Chunk.{Chunk}
 use Rattle.md_seam.specs.declared.inline.PartKind.TheVariants.{Text}
 use Rattle.md_seam.specs.Events.Grammar.{blocks, plain_text, unread_text}
 use Rattle.md_seam.specs.Events.Spelled.{AsParagraph, byte_at}
 use Rattle.md_meaning.specs.State.{texts}
 use Rattle.md_seam.proofs.EndingsLemmas.{leaf-leads}
 use Rattle.md_seam.proofs.GrammarLemmas.{leads-around}
-use Rattle.md_seam.proofs.InlineLemmas.{plain-fills}
-use Rattle.md_seam.proofs.SpelledLemmas.{Between, Roles, roles-append}
+use Rattle.md_seam.proofs.SpelledLemmas.{Between}
 use Rattle.md_outline.specs.Between.{is_between}
 use Rattle.md_frame.specs.TextLines.{text_leaf}
 use Rattle.md_rows.specs.BlockList.{lines_unread}
-use Rattle.md_frame.specs.Row.{Row, chunks_of, last_row, read_lines}
+use Rattle.md_frame.specs.Row.{Row, last_row, read_lines}
 use Rattle.md_rows.specs.Rows.{lines_done}
 use Rattle.md_rows.specs.BlockList.{unread_lines}
-use Rattle.md_frame.proofs.BetweenFacts.{around-between}
-use Rattle.md_frame.proofs.FillFacts.{fill-part}
 use Rattle.md_rows.proofs.GroupLines.{AreLines}
 use Rattle.md_rows.proofs.GroupLemmas.{chunks-lines}
 use Rattle.md_rows.proofs.GroupLines.{kept-of}
 use Rattle.md_frame.proofs.LeafFacts.{LeafFacts}
 use Rattle.md_frame.proofs.PartedFacts.{clear}
-use Rattle.md_frame.proofs.PartsStand.{stands-part}
-use Rattle.md_frame.proofs.PieceFacts.{stood-around}
-use Rattle.md_frame.proofs.PiecesLemmas.{tiled-around}
 use Rattle.md_frame.proofs.PlainFacts.{plain-around}
 use Rattle.md_registry.proofs.Registry.{text-laws}
-use Rattle.md_frame.proofs.SpanLemmas.{around-nested}
-use Rattle.md_frame.proofs.ParagraphLines.{IsRead, fronts-between}
+use Rattle.md_frame.proofs.ParagraphLines.{IsRead}
 use Rattle.md_rows.proofs.SpelledParagraphs.{read-lines, read-more, read-one}
 use Rattle.md_rows.proofs.Text.Endings.{linked-filling, read-filling}
 use Rattle.md_rows.proofs.Text.Order.{chunks-order}
 use Rattle.md_rows.proofs.Text.Parted.{text-sits}
-use Rattle.md_rows.proofs.Text.Parts.{chunks-begin, lines-filled, lines-inside}
-use Rattle.md_rows.proofs.Text.Pieces.{linked-starts, read-starts, read-stood, unread-stood}
-use Rattle.md_rows.proofs.Text.Places.{read-between, read-nested, read-plain, unread-nested, unread-tiled}
+use Rattle.md_rows.proofs.Text.Parts.{chunks-begin, lines-inside}
+use Rattle.md_rows.proofs.Text.Pieces.{linked-starts, read-starts}
 use Rattle.md_rows.proofs.Text.Words.{linked-word, read-word}
 use Rattle.md_engine.specs.declared.event.Name.{Name}
-use Rattle.md_seam.specs.Events.Nested.{around, exit}
+use Rattle.md_seam.specs.Events.Nested.{around}
 use Rattle.md_seam.specs.Events.Spelled.{Role, role}
 use Rattle.md_seam.specs.Events.Tiles.{part_kind}
 use Rattle.md_frame.proofs.EventNames.{NoContainer, part-no_container}
 use Rattle.md_frame.proofs.LeafStands.{between-part}
 use Rattle.md_frame.proofs.PartedFacts.{PrefixesAtLineStart}
-use Rattle.md_frame.proofs.Stretch.{Stretch, roles-as}
+use Rattle.md_frame.proofs.Stretch.{Stretch}
+use Rattle.md_frame.proofs.TextInside.{stretch-part}
 
 -- they are read as these
 pub lines-read : (options : ParseOptions) (bytes : List ℕ) (row : Row) (rows : List Row) →
@@ -58,19 +50,6 @@ lines-read options bytes row [] h = read-one options bytes h.0 row h.1 h.2
 lines-read options bytes row (next ∷ rows) h =
     read-more options bytes h.0 row next rows h.3 (kept-of options bytes next rows h.7) h.1 h.2 h.5 h.6
     (lines-read options bytes next rows h.7)
-
--- before that, it is chunks of text, with what stands in front of further lines
-pub unread-between : (options : ParseOptions) (bytes : List ℕ) (row : Row) (rows : List Row) →
-    AreLines options bytes row rows → Roles Between (unread_lines row rows)
-unread-between options bytes row [] h = (tt, (tt, tt))
-unread-between options bytes row (next ∷ rows) h = (
-  tt,
-  (
-    tt,
-    roles-append Between next.front (unread_lines next rows)
-        (fronts-between bytes [] h.3 next.first next.front h.6 refl) (unread-between options bytes next rows h.7),
-  ),
-)
 
 -- the last one ends in no tab
 pub end-clear : (options : ParseOptions) (bytes : List ℕ) (row : Row) (rows : List Row) →
@@ -87,44 +66,10 @@ pub lines-stretch : (R : Role → Type 0) (options : ParseOptions) (bytes : List
     Stretch R bytes row.first (last_row row rows).end
     (around name row.first (last_row row rows).end (unread_lines row rows))
     (around name row.first (last_row row rows).end (read_lines bytes row rows))
-lines-stretch R options bytes name row rows named apart kind parted h = record {
-  unread_roles = roles unread (unread-between options bytes row rows h);
-  roles = roles done (lines-read options bytes row rows h).between;
-  unread_nested = around-nested name row.first end unread (unread-nested options bytes row rows h);
-  nested = around-nested name row.first end done (read-nested options bytes row rows h);
-  tiled = tiled-around name row.first end unread (unread-tiled options bytes row rows h);
-  unread_stood =
-      stood-around bytes name row.first end unread (linked-starts row rows) (unread-stood options bytes row rows h);
-  stood =
-      stood-around bytes name row.first end done (read-starts options bytes row rows h)
-      (read-stood options bytes row rows h);
-  parts =
-      stands-part bytes name Text row.first end chunks unread kind (lines-inside options bytes row rows h)
-      (chunks-begin row rows) (chunks-lines options bytes row rows h);
-  filled =
-      fill-part bytes name Text row.first end chunks unread done kind (lines-inside options bytes row rows h)
-      (plain-fills bytes row.first chunks (chunks-order options bytes row rows h))
-      (lines-filled options bytes row rows h);
-  between =
-      λ first last. around-between bytes name row.first end done first last
-      (read-between options bytes row rows h first last);
-  parted = parted;
-}
-  where
-    end : Point
-    end = (last_row row rows).end
-
-    unread : List Event
-    unread = unread_lines row rows
-
-    done : List Event
-    done = read_lines bytes row rows
-
-    chunks : List Chunk
-    chunks = chunks_of row rows
-
-    roles : (es : List Event) → Roles Between es → Roles R (around name row.first end es)
-    roles es h = (named, roles-append R es (exit name end ∷ []) (roles-as apart es h) (named, tt))
+lines-stretch R options bytes name row rows named apart kind parted h =
+    stretch-part R name named apart kind (linked-starts row rows) (read-starts options bytes row rows h)
+    (chunks-begin row rows) (chunks-lines options bytes row rows h) (chunks-order options bytes row rows h) parted
+    (lines-inside options bytes row rows h)
 
 pub text-facts : (options : ParseOptions) (bytes : List ℕ) (row : Row) (rows : List Row) →
     (h : AreLines options bytes row rows) →
@@ -148,7 +93,7 @@ text-facts options bytes row rows h = record {
     stands = λ held. text-laws.stands bytes held row.first end done (lines-read options bytes row rows h).between;
     plain =
         λ first. plain-around bytes text_leaf.name row.first end done refl first
-        (end-clear options bytes row rows h) (read-plain options bytes row rows h);
+        (end-clear options bytes row rows h) (lines-inside options bytes row rows h).plain;
   };
   reads =
       λ r text leaf. read-lines bytes row rows (kept-of options bytes row rows h) r

@@ -1,27 +1,21 @@
--- The pieces of the lines of a text stand over their bytes, before they are read and once they are.
-use Rattle.std.proofs.Common.{◌≡◌, ℕ, true, List, [], ◌∷◌, ◌++◌, slice_range, refl, ap, sym, ◌∙◌, subst}
-use Rattle.std.proofs.lemmas.Bool.{and_from}
+-- The chunks of the lines of a text.
+use Rattle.std.proofs.Common.{◌≡◌, ℕ, List, [], ◌∷◌, ◌++◌, slice_range, refl, ap, sym, ◌∙◌, subst}
 use Rattle.md_engine.specs.declared.configuration.ParseOptions.{ParseOptions}
 use Rattle.md_engine.specs.declared.event.Event.{Event}
-use Rattle.md_engine.specs.declared.event.Name.TheVariants as n
 use Rattle.md_engine.specs.declared.event.Point.{Point}
 use Rattle.md_seam.specs.Events.Inline.{plain_chunk}
-use Rattle.md_seam.specs.Events.Nested.{enter_link, exit}
-use Rattle.md_seam.specs.Events.Pieces.{piece_stands}
-use Rattle.md_frame.specs.TextLines.{text_leaf}
 use Rattle.md_frame.specs.Row.{Row, TextRow, behind_row, read_lines}
 use Rattle.md_rows.specs.BlockList.{unread_lines}
 use Rattle.md_rows.proofs.GroupLemmas.{text-some}
 use Rattle.md_rows.proofs.GroupLines.{AreLines}
-use Rattle.md_frame.proofs.PieceFacts.{Starts, PiecesValid, chunk_span, starts-append, stood-append}
+use Rattle.md_frame.proofs.PieceFacts.{Starts, starts-append}
 use Rattle.md_frame.proofs.ChunkFacts.{Chunked, chunked-alone, chunked-ended}
 use Rattle.md_seam.proofs.FeedLines.{IsEnding}
 use Rattle.md_rows.proofs.RowFacts.{IsRow}
-use Rattle.md_frame.proofs.FrontStands.{fronts-stood}
 use Rattle.md_rows.proofs.JoinedLemmas.{behind-is}
 
 -- a line alone
-line-alone : (options : ParseOptions) (bytes line : List ℕ) (row : Row) → IsRow options bytes line row →
+pub line-alone : (options : ParseOptions) (bytes line : List ℕ) (row : Row) → IsRow options bytes line row →
     row.kind ≡ TextRow →
     Chunked bytes row.first row.end
 line-alone options bytes line row is text =
@@ -29,7 +23,7 @@ line-alone options bytes line row is text =
     (text-some options bytes line row is text) is.no_ending is.end_whole is.size is.text
 
 -- a line with its ending
-line-ended : (options : ParseOptions) (bytes : List ℕ) (row next : Row) (rows : List Row) →
+pub line-ended : (options : ParseOptions) (bytes : List ℕ) (row next : Row) (rows : List Row) →
     AreLines options bytes row (next ∷ rows) → Chunked bytes row.first (behind_row row)
 line-ended options bytes row next rows h =
     subst (λ (q : Point). Chunked bytes row.first q) (sym (behind-is row h.3 h.4))
@@ -37,42 +31,10 @@ line-ended options bytes row next rows h =
     (ap (λ (r : Point). slice_range bytes row.first.index r.index) (sym h.1.end) ∙ h.1.text)
     (subst (λ (r : Point). IsEnding bytes r h.3) h.1.end h.5))
 
--- a chunk
-pub linked-chunk : (bytes : List ℕ) (p q : Point) → Chunked bytes p q →
-    PiecesValid bytes (enter_link n.Data p text_leaf.link ∷ exit n.Data q ∷ [])
-linked-chunk bytes p q h = record {
-  ends = refl;
-  stand = and_from (piece_stands bytes (chunk_span n.Data p q)) true h.linked refl;
-}
-
 -- a chunk comes first
 pub linked-starts : (row : Row) (rows : List Row) → Starts (unread_lines row rows)
 linked-starts row [] = refl
 linked-starts row (next ∷ rows) = refl
-
--- before they are read
-pub unread-stood : (options : ParseOptions) (bytes : List ℕ) (row : Row) (rows : List Row) →
-    AreLines options bytes row rows →
-    PiecesValid bytes (unread_lines row rows)
-unread-stood options bytes row [] h = linked-chunk bytes row.first row.end (line-alone options bytes h.0 row h.1 h.2)
-unread-stood options bytes row (next ∷ rows) h =
-    let chunk : List Event = enter_link n.Data row.first text_leaf.link ∷ exit n.Data (behind_row row) ∷ [] in
-    stood-append bytes chunk (next.front ++ unread_lines next rows)
-    (linked-chunk bytes row.first (behind_row row) (line-ended options bytes row next rows h))
-    (stood-append bytes next.front (unread_lines next rows) (fronts-stood bytes [] h.3 next.first next.front h.6)
-    (unread-stood options bytes next rows h.7))
-
--- and once they are
-pub read-stood : (options : ParseOptions) (bytes : List ℕ) (row : Row) (rows : List Row) →
-    AreLines options bytes row rows →
-    PiecesValid bytes (read_lines bytes row rows)
-read-stood options bytes row [] h = (line-alone options bytes h.0 row h.1 h.2).read
-read-stood options bytes row (next ∷ rows) h =
-    let chunk : List Event = plain_chunk bytes (record { first = row.first; after = behind_row row }) in
-    stood-append bytes (chunk ++ next.front) (read_lines bytes next rows)
-    (stood-append bytes chunk next.front (line-ended options bytes row next rows h).read
-    (fronts-stood bytes [] h.3 next.first next.front h.6))
-    (read-stood options bytes next rows h.7)
 
 -- the text of the first line comes first
 pub read-starts : (options : ParseOptions) (bytes : List ℕ) (row : Row) (rows : List Row) →

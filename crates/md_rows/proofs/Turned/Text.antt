@@ -22,7 +22,7 @@ use Rattle.md_frame.proofs.ParagraphLines.{IsRead}
 use Rattle.md_rows.proofs.Text.Endings.{linked-filling, read-filling}
 use Rattle.md_rows.proofs.Text.Facts.{end-clear, lines-read}
 use Rattle.md_rows.proofs.Text.Parted.{text-sits}
-use Rattle.md_rows.proofs.Text.Places.{read-plain}
+use Rattle.md_rows.proofs.Text.Parts.{lines-inside}
 use Rattle.md_rows.proofs.Text.Words.{linked-word, read-word}
 use Rattle.md_rows.proofs.Turned.Events.{heading_left, so_far, text_events, under_left}
 use Rattle.md_rows.proofs.Turned.TextReads.{text-reads}
@@ -61,7 +61,7 @@ text-inside options bytes row rows h = record {
   plain = λ first. record {
     known =
         known-around bytes turn_leaf.text row.first end done refl first (end-clear options bytes row rows h)
-        (read-plain options bytes row rows h).known;
+        (lines-inside options bytes row rows h).plain.known;
     lines = passes-title bytes turn_leaf.text row.first end done refl read.between;
   };
 }

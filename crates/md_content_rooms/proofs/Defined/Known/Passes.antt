@@ -19,8 +19,7 @@ use Rattle.md_seam.proofs.SpelledLemmas.{Between, QuietOrEnding, Roles, roles-ap
 use Rattle.md_content_rooms.proofs.Defined.Form.{IsBreak, IsRun, Strand, strand_done}
 use Rattle.md_content_rooms.proofs.Defined.Strings.Lines.{AreLines, Last, More}
 use Rattle.md_content_rooms.proofs.Defined.Strings.Lines as lines
-use Rattle.md_content_rooms.proofs.Defined.Strings.Places.{done-nested}
-use Rattle.md_content_rooms.proofs.Defined.Strings.Words.{done-texts}
+use Rattle.md_content_rooms.proofs.Defined.Strings.Parts.{strand-inside}
 use Rattle.md_frame.proofs.FrontLemmas.{fronts-balanced, fronts-spans}
 use Rattle.md_frame.proofs.FrontNames.{fronts-prefixes}
 use Rattle.md_frame.proofs.PlainRoles.{chunk-roles}
@@ -55,14 +54,14 @@ further-nested : (bytes : List ℕ) (e b r q : Point) (front : List Event) (s : 
 further-nested bytes e b r q front s break more =
     nested_in-append b r q front (strand_done bytes s)
     (fronts-balanced bytes [] b r front break.front_is refl, fronts-spans bytes [] b r front break.front_is)
-    (done-nested bytes r q s more)
+    (strand-inside bytes r q s more).nested
 
 further-between : (bytes : List ℕ) (e b r q : Point) (front : List Event) (s : Strand) → IsBreak bytes e b r front →
     AreLines bytes r q s → Roles Between (front ++ strand_done bytes s)
 further-between bytes e b r q front s break more =
     roles-append Between front (strand_done bytes s)
     (prefixes-roles Between front tt tt tt (fronts-prefixes bytes [] b r front refl break.front_is))
-    (done-texts bytes r q s more)
+    (strand-inside bytes r q s more).roles
 
 pub strand-passes : (bytes : List ℕ) (part : Part) (name : Name) (p q : Point) (s : Strand) →
     role name ≡ TextRole (part_purpose part) → p.vs ≡ 0 → AreLines bytes p q s →

@@ -14,13 +14,13 @@ use Rattle.md_seam.specs.declared.inline.PartKind.TheVariants.{String}
 use Rattle.md_seam.specs.Events.Endings.{on_line}
 use Rattle.md_seam.specs.Events.Grammar.{Expression, behind, inside}
 use Rattle.md_seam.specs.Events.Nested.{around}
-use Rattle.md_seam.specs.Events.Spelled.{AsDestination, DefinitionLeaf, DefinitionSoFar, Purpose, TextRole, first_told}
+use Rattle.md_seam.specs.Events.Spelled.{DefinitionLeaf, DefinitionSoFar, Purpose, TextRole, first_told}
 use Rattle.md_seam.specs.Events.Spelled.{role}
 use Rattle.md_seam.specs.Events.Spelled.{with_title}
 use Rattle.md_seam.specs.Events.Tiles.{part_kind}
 use Rattle.md_seam.proofs.EndingsLemmas.{is_other}
 use Rattle.md_seam.proofs.SpelledLemmas.{Between, Roles}
-use Rattle.md_outline.specs.Roles.{is_unlisted, may_part}
+use Rattle.md_outline.specs.Roles.{is_unlisted}
 use Rattle.md_content_rooms.proofs.Defined.Form.{LastLine, NoLine, OneLine, Strand}
 use Rattle.md_frame.proofs.PlainFacts.{AreKnown}
 use Rattle.md_frame.proofs.PartsFacts.{PartsFacts}
@@ -57,11 +57,6 @@ pub record IsString (name : Name) (purpose : Purpose) : Type 0 where
   pub inside_is : (text : Expression) → inside text name ≡ text
   pub other : is_other (on_line name) ≡ true
   pub part : IsPart (role name)
-
--- whether such a text may be parted by prefixes, where it may have several lines
-abbrev pub MayBeParted : Purpose → Type 0
-MayBeParted AsDestination = Unit {0}
-MayBeParted purpose = may_part purpose ≡ true
 
 -- A text of this name stands around these events from a point to a point, before it is read, and around those once it
 -- is. It says this of the definition that is open.

@@ -10,8 +10,6 @@ use Rattle.md_containers.specs.ItemsStand.{IsPart}
 use Rattle.md_outline.specs.Between.{is_between}
 use Rattle.md_outline.specs.Roles.{is_told, is_unlisted}
 use Rattle.md_link_definitions.specs.Chunks.{string_link}
-use Rattle.md_seam.specs.declared.inline.Chunk.{Chunk}
-use Rattle.md_seam.specs.declared.inline.PartKind.TheVariants.{String}
 use Rattle.md_seam.specs.Events.Endings.{on_line}
 use Rattle.md_seam.specs.Events.Grammar.{Expression, plain_text, unread_text}
 use Rattle.md_seam.specs.Events.Inline.{plain_chunk}
@@ -22,45 +20,25 @@ use Rattle.md_seam.specs.Events.Spelled.{first_told, with_title}
 use Rattle.md_seam.proofs.BlocksLemmas.{read-told}
 use Rattle.md_seam.proofs.EndingsLemmas.{AreOthers, Stays, is_other, stays-append, stays-others}
 use Rattle.md_seam.proofs.GrammarLemmas.{IsWord, leads-around}
-use Rattle.md_seam.proofs.InlineLemmas.{plain-fills}
-use Rattle.md_seam.proofs.SpelledLemmas.{Between, Roles, roles-append, text_after}
-use Rattle.md_frame.proofs.BetweenFacts.{around-between}
-use Rattle.md_content_rooms.proofs.Defined.Form.{IsRun, IsStrand, LastLine, Strand, strand_chunks, strand_done}
+use Rattle.md_seam.proofs.SpelledLemmas.{text_after}
+use Rattle.md_content_rooms.proofs.Defined.Form.{IsRun, IsStrand, LastLine, Strand, strand_done}
 use Rattle.md_content_rooms.proofs.Defined.Form.{strand_lines, strand_unread}
 use Rattle.md_content_rooms.proofs.Defined.Strings.Facts.{FurtherFilled, IsString, StringFacts, label_told}
 use Rattle.md_content_rooms.proofs.Defined.Strings.Facts.{target_told, title_told}
 use Rattle.md_content_rooms.proofs.Defined.Strings.Lines.{AreLines, Last, More, NoneLeft, strand-lines}
 use Rattle.md_content_rooms.proofs.Defined.Strings.Parted.{line-sits, strand-sits}
-use Rattle.md_content_rooms.proofs.Defined.Strings.Parts.{strand-begins, strand-filled, strand-inside, strand-one}
+use Rattle.md_content_rooms.proofs.Defined.Strings.Parts.{strand-begins, strand-inside, strand-one}
 use Rattle.md_content_rooms.proofs.Defined.Strings.Parts.{strand-order}
-use Rattle.md_content_rooms.proofs.Defined.Strings.Places.{HasLine, done-between, done-nested, done-starts, done-stood}
-use Rattle.md_content_rooms.proofs.Defined.Strings.Places.{strand-some, unread-nested, unread-starts, unread-stood}
-use Rattle.md_content_rooms.proofs.Defined.Strings.Places.{unread-tiled}
+use Rattle.md_content_rooms.proofs.Defined.Strings.Places.{HasLine, done-starts}
+use Rattle.md_content_rooms.proofs.Defined.Strings.Places.{strand-some, unread-starts}
 use Rattle.md_content_rooms.proofs.Defined.Strings.Reads.{told-line, told-lines}
-use Rattle.md_content_rooms.proofs.Defined.Strings.Words.{done-stays, done-texts, done-word, unread-stays, unread-texts}
+use Rattle.md_content_rooms.proofs.Defined.Strings.Words.{done-stays, done-word, unread-stays}
 use Rattle.md_content_rooms.proofs.Defined.Strings.Words.{unread-word}
-use Rattle.md_frame.proofs.FillFacts.{fill-part}
-use Rattle.md_frame.proofs.FrontStands.{plain-front}
-use Rattle.md_frame.proofs.LeafStands.{between-parts}
+use Rattle.md_frame.proofs.LeafStands.{between-part}
 use Rattle.md_frame.proofs.PartedFacts.{PrefixesAtLineStart, clear}
-use Rattle.md_frame.proofs.PartsStand.{stands-part}
-use Rattle.md_frame.proofs.PieceFacts.{stood-around}
-use Rattle.md_frame.proofs.PiecesLemmas.{tiled-around}
-use Rattle.md_frame.proofs.PlainFacts.{ArePlain, chunk-plain, known-around, plain-append, plain-nil}
+use Rattle.md_frame.proofs.PlainFacts.{known-around}
 use Rattle.md_frame.proofs.PartsFacts.{ReadsLeaf}
-use Rattle.md_frame.proofs.SpanLemmas.{around-nested}
-use Rattle.md_frame.proofs.Stretch.{Stretch}
-
--- nothing in them is told
-done-plain : (bytes : List ℕ) (p q : Point) (s : Strand) → AreLines bytes p q s → ArePlain bytes (strand_done bytes s)
-done-plain bytes q _ _ (NoneLeft _ whole) = plain-nil bytes
-done-plain bytes p q _ (Last _ _ text some run) = chunk-plain bytes (record { first = p; after = q })
-done-plain bytes p q _ (More _ e b r _ text front s run break more) =
-    let chunk : Chunk = record { first = p; after = b } in
-    plain-append bytes (plain_chunk bytes chunk ++ front) (strand_done bytes s)
-    (plain-append bytes (plain_chunk bytes chunk) front (chunk-plain bytes chunk)
-    (plain-front bytes [] b r front break.front_is))
-    (done-plain bytes r q s more)
+use Rattle.md_frame.proofs.TextInside.{stretch-part}
 
 -- it ends in no tab
 end-whole : (bytes : List ℕ) (p q : Point) (s : Strand) → AreLines bytes p q s → q.vs ≡ 0
@@ -81,11 +59,6 @@ string-stays name purpose p q es named h =
     stays-append (enter name p ∷ []) (es ++ exit name q ∷ []) (stays-others (enter name p ∷ []) begin)
     (stays-append es (exit name q ∷ []) h (stays-others (exit name q ∷ []) end))
 
-string-roles : (name : Name) (purpose : Purpose) (p q : Point) (es : List Event) → IsString name purpose →
-    Roles Between es → Roles IsPart (around name p q es)
-string-roles name purpose p q es named h =
-    (named.part, roles-append IsPart es (exit name q ∷ []) (between-parts es h) (named.part, tt))
-
 -- all of it, where it is parted and read so
 string-facts : (bytes : List ℕ) (name : Name) (purpose : Purpose) (p q : Point)
     (tells : DefinitionSoFar → DefinitionSoFar) (s : Strand) → IsString name purpose → p.vs ≡ 0 → HasLine s →
@@ -95,7 +68,10 @@ string-facts : (bytes : List ℕ) (name : Name) (purpose : Purpose) (p q : Point
     StringFacts bytes name purpose p q tells (strand_unread s) (strand_done bytes s)
 string-facts bytes name purpose p q tells s named whole has lines parted reads = record {
   facts = λ x d. record {
-    stretch = stretch;
+    stretch =
+        stretch-part IsPart name named.part between-part named.kind (unread-starts s has)
+        (done-starts bytes p q s has lines) (strand-begins bytes p q s has lines) (strand-one bytes p q s lines)
+        (strand-order bytes p q s lines) parted (strand-inside bytes p q s lines);
     unread_word =
         leads-around unread_text x name p q unread
         (subst (λ (y : Expression). IsWord unread_text (y ∷ []) unread) (sym (named.inside_is unread_text))
@@ -108,13 +84,13 @@ string-facts bytes name purpose p q tells s named whole has lines parted reads =
     stays = string-stays name purpose p q done named (done-stays bytes p q s lines);
     reads = reads d;
   };
-  texts = done-texts bytes p q s lines;
+  texts = (strand-inside bytes p q s lines).roles;
   known = λ unlisted.
       known-around bytes name p q done (ap is_unlisted named.tells ∙ unlisted)
       (or_right (not (is_told (role name))) (clear bytes p) (whole-clear bytes p whole))
       (or_right (not (is_told (role name))) (clear bytes q)
       (whole-clear bytes q (end-whole bytes p q s lines)))
-      (done-plain bytes p q s lines).known;
+      (strand-inside bytes p q s lines).plain.known;
 }
   where
     unread : List Event
@@ -122,28 +98,6 @@ string-facts bytes name purpose p q tells s named whole has lines parted reads =
 
     done : List Event
     done = strand_done bytes s
-
-    chunks : List Chunk
-    chunks = strand_chunks s
-
-    stretch : Stretch IsPart bytes p q (around name p q (strand_unread s)) (around name p q (strand_done bytes s))
-    stretch = record {
-      unread_roles = string-roles name purpose p q unread named (unread-texts bytes p q s lines);
-      roles = string-roles name purpose p q done named (done-texts bytes p q s lines);
-      unread_nested = around-nested name p q unread (unread-nested bytes p q s lines);
-      nested = around-nested name p q done (done-nested bytes p q s lines);
-      tiled = tiled-around name p q unread (unread-tiled bytes p q s lines);
-      unread_stood = stood-around bytes name p q unread (unread-starts s has) (unread-stood bytes p q s lines);
-      stood = stood-around bytes name p q done (done-starts bytes p q s has lines) (done-stood bytes p q s lines);
-      parts =
-          stands-part bytes name String p q chunks unread named.kind (strand-inside bytes p q s lines)
-          (strand-begins bytes p q s has lines) (strand-one bytes p q s lines);
-      filled =
-          fill-part bytes name String p q chunks unread done named.kind (strand-inside bytes p q s lines)
-          (plain-fills bytes p chunks (strand-order bytes p q s lines)) (strand-filled bytes p q s lines);
-      between = λ begin end. around-between bytes name p q done begin end (done-between bytes p q s lines begin end);
-      parted = parted;
-    }
 
 -- A label.
 
@@ -157,7 +111,7 @@ label-reads : (bytes : List ℕ) (p q : Point) (s : Strand) (d : DefinitionSoFar
 label-reads bytes p q s d whole filled lines r none opened =
     let text : Text = text_after bytes (begun p) (strand_done bytes s) in
     read-told bytes r n.DefinitionLabelString AsLabel p q (strand_done bytes s) refl none
-    (done-texts bytes p q s lines)
+    (strand-inside bytes p q s lines).roles
     ∙ ap
     (λ (o : Option OpenLeaf).
     record r {
@@ -191,7 +145,7 @@ title-reads : (bytes : List ℕ) (p q : Point) (s : Strand) (d : DefinitionSoFar
 title-reads bytes p q s d whole filled lines r none opened =
     let text : Text = text_after bytes (begun p) (strand_done bytes s) in
     read-told bytes r n.DefinitionTitleString AsTitle p q (strand_done bytes s) refl none
-    (done-texts bytes p q s lines)
+    (strand-inside bytes p q s lines).roles
     ∙ ap
     (λ (o : Option OpenLeaf).
     record r {
@@ -223,7 +177,7 @@ target-reads bytes text p q d whole some run r none opened =
     let chunk : List Event = plain_chunk bytes (record { first = p; after = q }) in
     let read_text : Text = text_after bytes (begun p) chunk in
     read-told bytes r n.DefinitionDestinationString AsDestination p q chunk refl none
-    (done-texts bytes p q (LastLine p q text) (Last p q text some run))
+    (strand-inside bytes p q (LastLine p q text) (Last p q text some run)).roles
     ∙ ap
     (λ (o : Option OpenLeaf).
     record r {

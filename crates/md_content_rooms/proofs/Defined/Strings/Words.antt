@@ -12,16 +12,13 @@ use Rattle.md_seam.specs.Events.Nested.{enter_link, exit, pair}
 use Rattle.md_seam.proofs.EndingsLemmas.{Stays, stays-append, stays-others}
 use Rattle.md_seam.proofs.GrammarLemmas.{IsWord, Leads, leads-append, leads-pair, leads-unless, maybe, word-behind}
 use Rattle.md_seam.proofs.PlacesLemmas.{apart-later}
-use Rattle.md_seam.proofs.SpelledLemmas.{Between, Roles, roles-append}
 use Rattle.md_frame.proofs.ChunkFacts.{chunk-word, text_left}
 use Rattle.md_content_rooms.proofs.Defined.Form.{IsRun, Strand, strand_done, strand_unread}
 use Rattle.md_content_rooms.proofs.Defined.Strings.Lines.{AreLines, Last, More, NoneLeft, ended-end}
 use Rattle.md_content_rooms.proofs.Defined.Strings.Places.{HasLine}
 use Rattle.md_frame.proofs.FrontStands.{fronts-others}
 use Rattle.md_frame.proofs.GrammarFronts.{front-stays}
-use Rattle.md_frame.proofs.PlainRoles.{chunk-roles}
 use Rattle.md_seam.proofs.FeedLines.{IsEnding}
-use Rattle.md_frame.proofs.ParagraphLines.{fronts-between}
 use Rattle.md_content_rooms.proofs.Text.ChunkStays.{chunk-stays}
 use Rattle.md_content_rooms.proofs.Text.Unread.{ending-grows, unread_rest}
 
@@ -132,28 +129,3 @@ done-stays bytes p q _ (More _ e b r _ text front s run break more) =
     (stays-append (plain_chunk bytes chunk) front (chunk-stays bytes chunk)
     (stays-others front (fronts-others bytes [] b r front break.front_is)))
     (done-stays bytes r q s more)
-
--- What they are to the tree: nothing, endings and prefixes.
-
-pub unread-texts : (bytes : List ℕ) (p q : Point) (s : Strand) → AreLines bytes p q s → Roles Between (strand_unread s)
-unread-texts bytes q _ _ (NoneLeft _ whole) = tt
-unread-texts bytes p q _ (Last _ _ text some run) = (tt, (tt, tt))
-unread-texts bytes p q _ (More _ e b r _ text front s run break more) = (
-  tt,
-  (
-    tt,
-    roles-append Between front (strand_unread s) (fronts-between bytes [] b r front break.front_is refl)
-        (unread-texts bytes r q s more),
-  ),
-)
-
-pub done-texts : (bytes : List ℕ) (p q : Point) (s : Strand) → AreLines bytes p q s →
-    Roles Between (strand_done bytes s)
-done-texts bytes q _ _ (NoneLeft _ whole) = tt
-done-texts bytes p q _ (Last _ _ text some run) = chunk-roles Between bytes (record { first = p; after = q }) tt tt
-done-texts bytes p q _ (More _ e b r _ text front s run break more) =
-    let chunk : Chunk = record { first = p; after = b } in
-    roles-append Between (plain_chunk bytes chunk ++ front) (strand_done bytes s)
-    (roles-append Between (plain_chunk bytes chunk) front (chunk-roles Between bytes chunk tt tt)
-    (fronts-between bytes [] b r front break.front_is refl))
-    (done-texts bytes r q s more)
