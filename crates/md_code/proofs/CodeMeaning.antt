@@ -17,8 +17,7 @@ use Rattle.md_engine.specs.declared.state.space_or_tab.State.TheVariants as spac
 use Rattle.md_engine.specs.declared.tokenizer.Frame.{Frame}
 use Rattle.md_engine.specs.declared.tokenizer.Scratch.{Scratch}
 use Rattle.md_engine.specs.Meaning.{Accepts, Behaviour, Cell, Fails, Feed, Here, Outcome, Refuses, Steps, goes, here}
-use Rattle.md_engine.specs.Meaning.{restored}
-use Rattle.md_engine.specs.Meaning.{resume}
+use Rattle.md_engine.specs.Meaning.{restored, resume}
 use Rattle.md_engine.specs.Scheme.{position}
 use Rattle.md_engine.specs.World.{World, after}
 use Rattle.md_engine.specs.Sees.{Sees, ahead, cell_here}

@@ -18,8 +18,7 @@ use Rattle.md_seam.specs.Ahead.{from_ending, line_bytes, line_cells, line_end, p
 use Rattle.md_seam.specs.Events.Places.{past_byte, past_text}
 use Rattle.md_seam.specs.Look.{first_seen}
 use Rattle.md_seam.specs.Spaces.{any_size, is_current}
-use Rattle.md_seam.proofs.FeedLines.{Stops, byte-one, cell, columns_more}
-use Rattle.md_seam.proofs.FeedLines.{spread, tab_cells}
+use Rattle.md_seam.proofs.FeedLines.{Stops, byte-one, cell, columns_more, spread, tab_cells}
 use Rattle.md_seam.proofs.RestLines.{blank-spread, count-none, count-one}
 
 -- The end of a line.

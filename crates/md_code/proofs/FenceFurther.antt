@@ -32,8 +32,7 @@ use Rattle.md_engine.specs.Place.{is_ending}
 use Rattle.md_seam.specs.Spaces.{any_size, ends_line, is_current, small_indent}
 use Rattle.md_seam.proofs.FeedLines.{Stops, spread, tab_cells, tab_end}
 use Rattle.md_seam.proofs.LostColumns.{lose-walk}
-use Rattle.md_seam.proofs.RestCells.{RestAt, cells_by}
-use Rattle.md_seam.proofs.RestCells.{indent-length, indent-over, indent-taken, lose-no_ending}
+use Rattle.md_seam.proofs.RestCells.{RestAt, cells_by, indent-length, indent-over, indent-taken, lose-no_ending}
 use Rattle.md_seam.proofs.RestCells.{past_rest, rest_cells, white-length}
 use Rattle.md_seam.proofs.RestLines.{bare-spread, indent-trims, large-room, rest-from, rest-past, small-room}
 

@@ -25,8 +25,7 @@ use Rattle.md_seam.specs.Ahead.{white_end, white_rest}
 use Rattle.md_seam.specs.Events.Places.{past_byte, past_text}
 use Rattle.md_seam.specs.Spaces.{any_size}
 use Rattle.md_seam.proofs.FeedLines.{Stops, past-next, past_text-column, past_text-whole, spread, stops-white}
-use Rattle.md_seam.proofs.RestCells.{Bare, Cut, HasIndent, RestAt, bare, indent-length, indent-taken}
-use Rattle.md_seam.proofs.RestCells.{white-length}
+use Rattle.md_seam.proofs.RestCells.{Bare, Cut, HasIndent, RestAt, bare, indent-length, indent-taken, white-length}
 use Rattle.md_seam.proofs.RestLines.{bare-spread, count-none, count-one, indent-trims, rest-past}
 
 -- Where bytes stand.

@@ -13,8 +13,7 @@ use Rattle.md_containers.specs.Footnote.{footnote_width, may_begin}
 use Rattle.md_containers.specs.FootnotePrefix.{as_footnote, footnote_behind, footnote_ended, footnote_further}
 use Rattle.md_containers.specs.FootnotePrefix.{footnote_labelled, footnote_marked, footnote_new}
 use Rattle.md_containers.specs.FootnoteRule.{LabelCells, at_bracket, bracket_events, caret_events, footnote_at}
-use Rattle.md_containers.specs.FootnoteRule.{label_cells}
-use Rattle.md_containers.specs.FootnoteRule.{label_ended, may_have}
+use Rattle.md_containers.specs.FootnoteRule.{label_cells, label_ended, may_have}
 use Rattle.md_containers.specs.ItemPrefix.{ItemPassed, item_further, item_indented, item_same}
 use Rattle.md_containers.specs.QuoteRule.{indent_events}
 use Rattle.md_containers.proofs.StartLooked.{start-looked}

@@ -1,6 +1,5 @@
 -- The states of a footnote definition stand and end in any table that has them.
-use Rattle.std.proofs.Common.{◌≡◌, ℕ, ◌+◌, ◌<◌, Bool, true, false, nat_eq, Option, Some, None, refl}
-use Rattle.std.proofs.Common.{arith, ap, sym}
+use Rattle.std.proofs.Common.{◌≡◌, ℕ, ◌+◌, ◌<◌, Bool, true, false, nat_eq, Option, Some, None, refl, arith, ap, sym}
 use Rattle.std.specs.Prelude.{nat_le}
 use Rattle.std.proofs.lemmas.Bool.Decides.{nat_tests}
 use Rattle.md_engine.specs.declared.event.Name.TheVariants as parts
@@ -13,10 +12,9 @@ use Rattle.md_engine.proofs.Falls.{later, later_at, passed}
 use Rattle.md_engine.proofs.Local.{accepts, consumes, refuses, refuses_later, turns}
 use Rattle.md_engine.proofs.Points.{takes, takes_past}
 use Rattle.md_containers.specs.Footnote.{breaks_label, closed_code, footnote_ready, footnote_scheme}
-use Rattle.md_containers.specs.Footnote.{footnote_transition, label_after_code, label_at_marker_code}
-use Rattle.md_containers.specs.Footnote.{label_before_code, label_escape_code, label_inside_code, marker_after_code}
-use Rattle.md_containers.specs.Footnote.{most}
-use Rattle.md_containers.specs.Footnote.{sees_mark, taken_as}
+use Rattle.md_containers.specs.Footnote.{footnote_transition, label_after_code, label_at_marker_code, label_before_code}
+use Rattle.md_containers.specs.Footnote.{label_escape_code, label_inside_code, marker_after_code, most, sees_mark}
+use Rattle.md_containers.specs.Footnote.{taken_as}
 use Rattle.md_containers.specs.Item.{without_size}
 use Rattle.md_containers.proofs.LaterStart.{good-later_start}
 use Rattle.md_meaning.specs.Ascii.{caret, colon, left_bracket}

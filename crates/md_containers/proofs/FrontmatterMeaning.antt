@@ -14,8 +14,7 @@ use Rattle.md_engine.specs.declared.state.State.{State}
 use Rattle.md_engine.specs.declared.state.State.TheVariants.{Next}
 use Rattle.md_engine.specs.declared.tokenizer.Frame.{Frame}
 use Rattle.md_engine.specs.declared.tokenizer.Scratch.{Scratch}
-use Rattle.md_engine.specs.Meaning.{Accepts, Behaviour, Cell, Fails, Feed, Here, Outcome, Refuses, Steps, here}
-use Rattle.md_engine.specs.Meaning.{resume}
+use Rattle.md_engine.specs.Meaning.{Accepts, Behaviour, Cell, Fails, Feed, Here, Outcome, Refuses, Steps, here, resume}
 use Rattle.md_engine.specs.World.{Flags, World, after}
 use Rattle.md_engine.specs.Sees.{Sees, ahead, cell_here}
 use Rattle.md_engine.proofs.StepOf.{begins, moves, passes, steps-as}
@@ -29,9 +28,8 @@ use Rattle.md_seam.specs.Spaces.{any_size, ends_line, is_current, sees_white}
 use Rattle.md_seam.proofs.LookLemmas.{first-seen}
 use Rattle.md_seam.proofs.WhiteMeaning.{begins-seen, white-tried}
 use Rattle.md_containers.specs.Frontmatter.{after_code, begun, behind_part, cleared, close_after_code, close_start_code}
-use Rattle.md_containers.specs.Frontmatter.{content_end_code, content_inside_code, content_start_code}
-use Rattle.md_containers.specs.Frontmatter.{front_transition, is_marker, open_after_code, sequence_code, start_at}
-use Rattle.md_containers.specs.Frontmatter.{start_by, start_code}
+use Rattle.md_containers.specs.Frontmatter.{content_end_code, content_inside_code, content_start_code, front_transition}
+use Rattle.md_containers.specs.Frontmatter.{is_marker, open_after_code, sequence_code, start_at, start_by, start_code}
 use Rattle.md_containers.specs.FrontmatterRule.{FrontMeans, HasFront, at_line, behind_ending, behind_front, behind_line}
 use Rattle.md_containers.specs.FrontmatterRule.{chunk_begun, chunk_ended, close_end, closed_or, fence_begun}
 use Rattle.md_containers.specs.FrontmatterRule.{front_begun, front_here, in_close, in_lines, in_open, in_sequence}

@@ -1,7 +1,6 @@
 -- What is left of a list item at rest is what it takes of a line by the cells.
-use Rattle.std.proofs.Common.{◌≡◌, ℕ, ◌+◌, Bool, true, false, cond, not, ◌&&◌, ◌||◌, nat_eq}
-use Rattle.std.proofs.Common.{nat_lt, List, [], ◌∷◌, ◌++◌, Option, None, refl, sym, ◌∙◌, ap, ap₂, arith}
-use Rattle.std.proofs.Common.{append_assoc, append-nil, subst}
+use Rattle.std.proofs.Common.{◌≡◌, ℕ, ◌+◌, Bool, true, false, cond, not, ◌&&◌, ◌||◌, nat_eq, nat_lt, List, [], ◌∷◌}
+use Rattle.std.proofs.Common.{◌++◌, Option, None, refl, sym, ◌∙◌, ap, ap₂, arith, append_assoc, append-nil, subst}
 use Rattle.md_engine.specs.declared.configuration.ParseOptions.{ParseOptions}
 use Rattle.md_engine.specs.declared.event.Event.{Event}
 use Rattle.md_engine.specs.declared.event.Name.TheVariants.{ListItem, ListItemMarker, ListItemPrefix, ListItemValue}
@@ -12,9 +11,8 @@ use Rattle.md_engine.specs.declared.tokenizer.TheConstants.Scratch.{REST}
 use Rattle.md_engine.specs.Meaning.{Accepts, Cell, Here, Outcome, Refuses}
 use Rattle.md_containers.specs.Interrupts.{interrupts}
 use Rattle.md_containers.specs.Item.{ends_value, is_item_marker, width_here}
-use Rattle.md_containers.specs.ItemPrefix.{ItemPassed, digits_of, item_behind, item_by, item_closed}
-use Rattle.md_containers.specs.ItemPrefix.{item_marked, item_new, item_numbered, item_padded, item_valued, padding}
-use Rattle.md_containers.specs.ItemPrefix.{padding_room}
+use Rattle.md_containers.specs.ItemPrefix.{ItemPassed, digits_of, item_behind, item_by, item_closed, item_marked}
+use Rattle.md_containers.specs.ItemPrefix.{item_new, item_numbered, item_padded, item_valued, padding, padding_room}
 use Rattle.md_containers.specs.ItemRule.{at_bullet, at_marker, at_value, behind_columns, behind_indent, behind_marker}
 use Rattle.md_containers.specs.ItemRule.{behind_prefix, behind_value, digits_end, digits_rest, digits_size, filled_at}
 use Rattle.md_containers.specs.ItemRule.{in_value, item_at, one_column}

@@ -12,9 +12,8 @@ use Rattle.md_engine.specs.declared.tokenizer.container.Container.{Container as 
 use Rattle.md_engine.specs.Meaning.{Cell, Here, Refuses}
 use Rattle.md_containers.specs.Item.{at_least_one, ends_value, may_begin}
 use Rattle.md_containers.specs.ItemPrefix.{ItemPassed, Padded, digits_of, held_as, item_behind, item_closed}
-use Rattle.md_containers.specs.ItemPrefix.{item_further}
-use Rattle.md_containers.specs.ItemPrefix.{item_holds, item_marked, item_new, item_numbered, item_padded, item_valued}
-use Rattle.md_containers.specs.ItemPrefix.{padding}
+use Rattle.md_containers.specs.ItemPrefix.{item_further, item_holds, item_marked, item_new, item_numbered, item_padded}
+use Rattle.md_containers.specs.ItemPrefix.{item_valued, padding}
 use Rattle.md_containers.specs.ItemRule.{behind_indent, digits_end, digits_rest, digits_size, item_at}
 use Rattle.md_containers.specs.QuoteRule.{indent_events}
 use Rattle.md_containers.proofs.StartLooked.{start-looked}

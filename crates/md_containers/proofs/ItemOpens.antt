@@ -1,8 +1,7 @@
 -- A list item opens by the cells of a line where it does by the definition of lines, and leaves what that says.
-use Rattle.std.proofs.Common.{◌≡◌, ℕ, ◌+◌, ◌^◌, ◌<◌, ◌≤◌, Bool, true, false, cond, not, ◌&&◌, ◌||◌}
-use Rattle.std.proofs.Common.{List, [], ◌∷◌, ◌++◌, length, drop, Option, Some, None, refl, sym, ap, ap₂, ◌∙◌, subst}
-use Rattle.std.proofs.Common.{arith}
-use Rattle.std.proofs.Common.{append_assoc, nat_lt}
+use Rattle.std.proofs.Common.{◌≡◌, ℕ, ◌+◌, ◌^◌, ◌<◌, ◌≤◌, Bool, true, false, cond, not, ◌&&◌, ◌||◌, List, [], ◌∷◌, ◌++◌}
+use Rattle.std.proofs.Common.{length, drop, Option, Some, None, refl, sym, ap, ap₂, ◌∙◌, subst, arith, append_assoc}
+use Rattle.std.proofs.Common.{nat_lt}
 use Rattle.std.specs.Prelude.{◌==◌, nat_le}
 use Rattle.std.specs.List.{list_all, take_while}
 use Rattle.std.proofs.lemmas.Bool.Decides.{nat_tests}
@@ -31,8 +30,7 @@ use Rattle.md_meaning.specs.Containers.{Marker, Taken, is_bullet, is_digit, item
 use Rattle.md_meaning.specs.Containers.{marker_behind, may_interrupt, opens_item}
 use Rattle.md_meaning.specs.Leaves.{is_rule, is_rule_marker}
 use Rattle.md_meaning.specs.Lines.{begins_with}
-use Rattle.md_meaning.specs.Rest.{Rest, behind, behind_indent, has_small_indent, indent, is_blank, is_parted}
-use Rattle.md_meaning.specs.Rest.{is_white}
+use Rattle.md_meaning.specs.Rest.{Rest, behind, behind_indent, has_small_indent, indent, is_blank, is_parted, is_white}
 use Rattle.md_meaning.specs.State.{InItem}
 use Rattle.md_meaning.proofs.TextsLemmas.{NoEnding, no_ending-drop}
 use Rattle.md_seam.specs.Ahead.{begins_white, line_bytes, white_end, white_rest}
@@ -41,8 +39,7 @@ use Rattle.md_seam.specs.Events.Nested.{enter, exit, pair}
 use Rattle.md_seam.specs.Events.Places.{past_byte, past_text}
 use Rattle.md_seam.specs.Spaces.{small_indent}
 use Rattle.md_seam.proofs.FeedLines.{Stops, cell, past-next, spread}
-use Rattle.md_seam.proofs.RestCells.{Bare, RestAt}
-use Rattle.md_seam.proofs.RestCells.{past_rest, rest_cells}
+use Rattle.md_seam.proofs.RestCells.{Bare, RestAt, past_rest, rest_cells}
 
 abbrev rest : ℕ → List ℕ → Rest
 rest column bytes = record { column = column; spaces = 0; bytes = bytes }

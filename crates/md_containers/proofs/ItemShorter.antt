@@ -14,11 +14,10 @@ use Rattle.md_containers.specs.ItemPrefix.{ItemPassed, Padded, digits_of, item_b
 use Rattle.md_containers.specs.ItemPrefix.{item_indented, item_marked, item_new, item_numbered, item_padded}
 use Rattle.md_containers.specs.ItemPrefix.{item_valued, padding, padding_room}
 use Rattle.md_containers.specs.QuoteRule.{indent_events}
-use Rattle.md_containers.specs.ItemRule.{digits_end, digits_size}
+use Rattle.md_containers.specs.ItemRule.{digits_end, digits_size, at_bullet, at_marker, at_value, behind_indent}
+use Rattle.md_containers.specs.ItemRule.{behind_marker, behind_prefix, behind_value, digits_rest, filled_at, in_value}
+use Rattle.md_containers.specs.ItemRule.{indent_at, inside_indent, item_at, item_on, one_column}
 use Rattle.md_containers.proofs.ItemFurther.{blank-white, size-white}
-use Rattle.md_containers.specs.ItemRule.{at_bullet, at_marker, at_value, behind_indent, behind_marker, behind_prefix}
-use Rattle.md_containers.specs.ItemRule.{behind_value, digits_rest, filled_at, in_value, indent_at, inside_indent}
-use Rattle.md_containers.specs.ItemRule.{item_at, item_on, one_column}
 use Rattle.md_containers.proofs.Shorter.{Shortens, cond-shortens}
 use Rattle.md_meaning.specs.Containers.{is_bullet, is_digit}
 use Rattle.md_meaning.specs.Leaves.{is_rule}

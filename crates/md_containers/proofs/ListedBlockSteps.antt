@@ -1,6 +1,5 @@
 -- Among the blocks of a container: each event keeps what is known of both readings.
-use Rattle.std.proofs.Common.{◌≡◌, ℕ, Bool, true, false, cond, List, [], ◌∷◌, map}
-use Rattle.std.proofs.Common.{refl, ap, sym, subst, ◌∙◌}
+use Rattle.std.proofs.Common.{◌≡◌, ℕ, Bool, true, false, cond, List, [], ◌∷◌, map, refl, ap, sym, subst, ◌∙◌}
 use Rattle.std.specs.Prelude.{◌==◌, ◌||◌, if◌then◌else◌, Option, Some, None, get_or}
 use Rattle.std.proofs.lemmas.Bool.{eqb-true}
 use Rattle.md_engine.specs.declared.event.Kind.{Kind}
@@ -11,20 +10,15 @@ use Rattle.md_meaning.specs.Grouped.{grouped, grouped_block}
 use Rattle.md_meaning.specs.State.{then_block}
 use Rattle.md_meaning.specs.Tree.{Block, Blocks, End, Item, ListOf, More}
 use Rattle.md_seam.specs.Events.Blocks.{is_block}
-use Rattle.md_seam.specs.Events.Spelled.{OpenContainer, AsDigits}
-use Rattle.md_seam.specs.Events.Spelled.{FootnoteShape, ContainerRole, IsEnding, IsPrefix, IsQuiet, IsQuoteMarker}
-use Rattle.md_seam.specs.Events.Spelled.{ItemShape, OpenLeaf, LeafRole, OrderedShape}
-use Rattle.md_seam.specs.Events.Spelled.{Purpose, Reading, Role, Shape, TextRole, Text, UnorderedShape, begun}
-use Rattle.md_seam.specs.Events.Spelled.{block_around, fresh, is_ordered, left}
-use Rattle.md_seam.specs.Events.Spelled.{read_by}
-use Rattle.md_containers.specs.ItemsStand.{AmongBlocks, InFront, InLabel, InLeaf, InText, Inner}
-use Rattle.md_containers.specs.ItemsStand.{IsBetween, IsOfItself, MayBegin, MayEnd}
-use Rattle.md_containers.specs.ItemsStand.{is_list_marker, site_after}
-use Rattle.md_containers.specs.Listed.{goes_on}
-use Rattle.md_containers.specs.Listed.{marker_by, next_by}
-use Rattle.md_containers.proofs.GroupedLemmas.{IsOther, NoLists, grouped-item, grouped-other}
-use Rattle.md_containers.proofs.GroupedLemmas.{last-apart, last-same, no-lists-then, other-is-no-list, other-no-list}
-use Rattle.md_containers.proofs.GroupedLemmas.{with_last}
+use Rattle.md_seam.specs.Events.Spelled.{OpenContainer, AsDigits, FootnoteShape, ContainerRole, IsEnding, IsPrefix}
+use Rattle.md_seam.specs.Events.Spelled.{IsQuiet, IsQuoteMarker, ItemShape, OpenLeaf, LeafRole, OrderedShape, Purpose}
+use Rattle.md_seam.specs.Events.Spelled.{Reading, Role, Shape, TextRole, Text, UnorderedShape, begun, block_around}
+use Rattle.md_seam.specs.Events.Spelled.{fresh, is_ordered, left, read_by}
+use Rattle.md_containers.specs.ItemsStand.{AmongBlocks, InFront, InLabel, InLeaf, InText, Inner, IsBetween, IsOfItself}
+use Rattle.md_containers.specs.ItemsStand.{MayBegin, MayEnd, is_list_marker, site_after}
+use Rattle.md_containers.specs.Listed.{goes_on, marker_by, next_by}
+use Rattle.md_containers.proofs.GroupedLemmas.{IsOther, NoLists, grouped-item, grouped-other, last-apart, last-same}
+use Rattle.md_containers.proofs.GroupedLemmas.{no-lists-then, other-is-no-list, other-no-list, with_last}
 use Rattle.md_containers.proofs.ListedOpen.{Agree, AgreeAt, Apart, Fits, HasBlocks, Heads, IsItemOf, IsNoItem, Known}
 use Rattle.md_containers.proofs.ListedOpen.{Knows, OpenList, Passes, Stepped, list_around, list_shape, outer_by, passed}
 use Rattle.md_containers.proofs.ListedOpen.{passes-here, place_of}

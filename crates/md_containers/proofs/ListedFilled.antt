@@ -20,8 +20,7 @@ use Rattle.md_seam.specs.Events.Nested.{exit, is_exit, pair}
 use Rattle.md_seam.specs.Events.Places.{same_place}
 use Rattle.md_seam.specs.Events.Spelled.{IsEnding, IsQuiet, Role, role}
 use Rattle.md_seam.specs.Events.Tiles.{chunks_stand, depth_behind, filled, filled_from, first_list, further_lists}
-use Rattle.md_seam.specs.Events.Tiles.{is_chunk}
-use Rattle.md_seam.specs.Events.Tiles.{is_data, is_part, parts, plain_lists, plain_read, stands_in_part}
+use Rattle.md_seam.specs.Events.Tiles.{is_chunk, is_data, is_part, parts, plain_lists, plain_read, stands_in_part}
 use Rattle.md_seam.proofs.FilledLemmas.{EachInline}
 use Rattle.md_seam.proofs.SpelledLemmas.{QuietOrEnding, Roles, roles-append}
 

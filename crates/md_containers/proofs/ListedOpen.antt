@@ -3,8 +3,7 @@
 -- Both are read side by side. What is read of the one follows from what is read of the other and from the lists that are
 -- open (`as_listed`): for each open item, its list with the items so far; and the list whose next item is to come, if
 -- one goes on. `Stepped` says that an event keeps this.
-use Rattle.std.proofs.Common.{◌≡◌, ℕ, Bool, true, false, List, [], ◌∷◌, ◌++◌, map, length}
-use Rattle.std.proofs.Common.{refl, ap, sym, subst, ◌∙◌}
+use Rattle.std.proofs.Common.{◌≡◌, ℕ, Bool, true, false, List, [], ◌∷◌, ◌++◌, map, length, refl, ap, sym, subst, ◌∙◌}
 use Rattle.std.specs.Prelude.{if◌then◌else◌, nat_lt, Option, Some, None, get_or}
 use Rattle.std.specs.Option.{is_some}
 use Rattle.md_engine.specs.declared.event.Event.{Event}
@@ -15,17 +14,15 @@ use Rattle.md_engine.specs.declared.event.Point.{Point}
 use Rattle.md_meaning.specs.Grouped.{grouped}
 use Rattle.md_meaning.specs.State.{then_block}
 use Rattle.md_meaning.specs.Tree.{Blocks, End, Item, Line, ListOf, More}
-use Rattle.md_seam.specs.Events.Spelled.{OpenContainer, ContainerRole, IsEnding, IsQuoteMarker}
-use Rattle.md_seam.specs.Events.Spelled.{ItemShape, OpenLeaf, LeafRole, OrderedShape, Purpose}
-use Rattle.md_seam.specs.Events.Spelled.{Reading, Role, Shape, TextRole, Text, UnorderedShape, at_ending, begun}
-use Rattle.md_seam.specs.Events.Spelled.{is_ordered, left}
-use Rattle.md_seam.specs.Events.Spelled.{next_line, on_leaf, read, read_by, role, text_to, told, told_at}
+use Rattle.md_seam.specs.Events.Spelled.{OpenContainer, ContainerRole, IsEnding, IsQuoteMarker, ItemShape, OpenLeaf}
+use Rattle.md_seam.specs.Events.Spelled.{LeafRole, OrderedShape, Purpose, Reading, Role, Shape, TextRole, Text}
+use Rattle.md_seam.specs.Events.Spelled.{UnorderedShape, at_ending, begun, is_ordered, left, next_line, on_leaf, read}
+use Rattle.md_seam.specs.Events.Spelled.{read_by, role, text_to, told, told_at}
 use Rattle.md_seam.specs.Events.Told.{OfItself, OfLeaf, Told, told_of}
 use Rattle.md_seam.specs.Events.Nested.{exit}
 use Rattle.md_seam.proofs.ToldLemmas.{told-noted}
-use Rattle.md_containers.specs.ItemsStand.{AmongBlocks, InFront, InLabel, InLeaf, InMarker, InText, Inner}
-use Rattle.md_containers.specs.ItemsStand.{IsForItself, IsForLeaf, IsMarkerAt, IsOfItself, IsOfLeaf}
-use Rattle.md_containers.specs.ItemsStand.{Site, is_list_marker}
+use Rattle.md_containers.specs.ItemsStand.{AmongBlocks, InFront, InLabel, InLeaf, InMarker, InText, Inner, IsForItself}
+use Rattle.md_containers.specs.ItemsStand.{IsForLeaf, IsMarkerAt, IsOfItself, IsOfLeaf, Site, is_list_marker}
 use Rattle.md_containers.specs.Listed.{Begins, Ends, Place, Stays, Turn, given_by, goes_on, list_begin, list_end, list_name}
 use Rattle.md_containers.specs.Listed.{place_by, turn}
 use Rattle.md_containers.proofs.GroupedLemmas.{NoLists}

@@ -14,20 +14,15 @@ use Rattle.md_meaning.specs.Tree.{Block, Blocks, End, Line}
 use Rattle.md_seam.specs.Events.Spelled.{OpenContainer, AsDigits, AsFootnoteLabel, AsItemMarker, BreakLeaf}
 use Rattle.md_seam.specs.Events.Spelled.{ContainerRole, IsCell, IsEnding, IsFence, IsPrefix, IsQuiet, IsQuoteMarker}
 use Rattle.md_seam.specs.Events.Spelled.{IsRow, ItemShape, OpenLeaf, LeafRole, OrderedShape, Purpose, UnorderedShape}
-use Rattle.md_seam.specs.Events.Spelled.{Reading, Role, Shape, TextRole, Text, at_ending, begun}
-use Rattle.md_seam.specs.Events.Spelled.{block_of, finished, named}
-use Rattle.md_seam.specs.Events.Spelled.{next_line, on_leaf, on_shape, read_by, text_to, told_at}
-use Rattle.md_seam.specs.Events.Spelled.{after_prefix, before_prefix, noted}
+use Rattle.md_seam.specs.Events.Spelled.{Reading, Role, Shape, TextRole, Text, at_ending, begun, block_of, finished}
+use Rattle.md_seam.specs.Events.Spelled.{named, next_line, on_leaf, on_shape, read_by, text_to, told_at, after_prefix}
+use Rattle.md_seam.specs.Events.Spelled.{before_prefix, noted}
 use Rattle.md_seam.specs.Events.Told.{block_told}
 use Rattle.md_seam.proofs.ToldLemmas.{told-block, told-noted}
-use Rattle.md_containers.specs.ItemsStand.{AmongBlocks, InFront, InLabel, InLeaf, InMarker, InText, Inner}
-use Rattle.md_containers.specs.ItemsStand.{IsBetween, IsMarkerAt, IsOfLeaf, IsPart, MayBegin, MayEnd}
-use Rattle.md_containers.specs.ItemsStand.{is_list_marker, site_after}
-use Rattle.md_containers.specs.Listed.{Stays, Turn}
-use Rattle.md_containers.specs.Listed.{marker_by, next_by}
-use Rattle.md_containers.specs.Listed.{place_by, turn}
-use Rattle.md_containers.proofs.GroupedLemmas.{IsOther, NoLists, grouped-other}
-use Rattle.md_containers.proofs.GroupedLemmas.{no-lists-then, other-is-no-list}
+use Rattle.md_containers.specs.ItemsStand.{AmongBlocks, InFront, InLabel, InLeaf, InMarker, InText, Inner, IsBetween}
+use Rattle.md_containers.specs.ItemsStand.{IsMarkerAt, IsOfLeaf, IsPart, MayBegin, MayEnd, is_list_marker, site_after}
+use Rattle.md_containers.specs.Listed.{Stays, Turn, marker_by, next_by, place_by, turn}
+use Rattle.md_containers.proofs.GroupedLemmas.{IsOther, NoLists, grouped-other, no-lists-then, other-is-no-list}
 use Rattle.md_containers.proofs.ListedOpen.{Agree, AgreeFront, Apart, IsBegun, IsItemOf, IsNoItem, Known, OpenList, Passes}
 use Rattle.md_containers.proofs.ListedOpen.{Stepped, as_listed, first_marker, moved, of-itself, of-leaf, outer_by, passed}
 use Rattle.md_containers.proofs.ListedOpen.{passes-here, place_of, read_turn}

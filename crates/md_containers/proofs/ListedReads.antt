@@ -1,22 +1,17 @@
 -- What events with lists around their items are read as: what the events are read as, grouped.
-use Rattle.std.proofs.Common.{◌≡◌, ℕ, Bool, List, [], ◌∷◌}
-use Rattle.std.proofs.Common.{refl, ap, ◌∙◌}
+use Rattle.std.proofs.Common.{◌≡◌, ℕ, Bool, List, [], ◌∷◌, refl, ap, ◌∙◌}
 use Rattle.std.specs.Prelude.{Option, Some, None, get_or}
 use Rattle.md_engine.specs.declared.event.Event.{Event}
 use Rattle.md_engine.specs.declared.event.Kind.{Kind}
 use Rattle.md_engine.specs.declared.event.Kind.TheVariants.{Enter, Exit}
 use Rattle.md_engine.specs.declared.event.Point.{Point}
 use Rattle.md_meaning.specs.Grouped.{grouped}
-use Rattle.md_seam.specs.Events.Spelled.{Reading, Role}
-use Rattle.md_seam.specs.Events.Spelled.{read, read_by, role, spelled}
-use Rattle.md_seam.specs.Events.Spelled.{unread}
+use Rattle.md_seam.specs.Events.Spelled.{Reading, Role, read, read_by, role, spelled, unread}
 use Rattle.md_seam.proofs.SpelledLemmas.{read-append}
-use Rattle.md_containers.specs.ItemsStand.{AmongBlocks, InFront, InLabel, InLeaf, InMarker, InText, Inner}
-use Rattle.md_containers.specs.ItemsStand.{ItemsStand}
+use Rattle.md_containers.specs.ItemsStand.{AmongBlocks, InFront, InLabel, InLeaf, InMarker, InText, Inner, ItemsStand}
 use Rattle.md_containers.specs.ItemsStand.{MayStand, Site, root, site_after}
-use Rattle.md_containers.specs.Listed.{Place, given, listed}
-use Rattle.md_containers.specs.Listed.{listed_from, marker_ahead, marker_by, next_by, next_item, place_after}
-use Rattle.md_containers.specs.Listed.{turn}
+use Rattle.md_containers.specs.Listed.{Place, given, listed, listed_from, marker_ahead, marker_by, next_by, next_item}
+use Rattle.md_containers.specs.Listed.{place_after, turn}
 use Rattle.md_containers.proofs.ListedOpen.{OpenList, as_listed, place_of, Knows, Known, read-turn, Stepped}
 use Rattle.md_containers.proofs.ListedBlockSteps.{none-some, apart-end, among-begin, among-end}
 use Rattle.md_containers.proofs.ListedPartSteps.{front-begin, front-end, label-begin, label-end, leaf-begin, leaf-end}

@@ -1,6 +1,5 @@
 -- The prefix `> ` that is taken at once is what the states of a quote take.
-use Rattle.std.proofs.Common.{◌≡◌, Bool, true, false, ◌∷◌, [], length, Some, refl, ◌∙◌}
-use Rattle.std.proofs.Common.{ap, arith}
+use Rattle.std.proofs.Common.{◌≡◌, Bool, true, false, ◌∷◌, [], length, Some, refl, ◌∙◌, ap, arith}
 use Rattle.md_engine.specs.declared.event.Name.TheVariants.{BlockQuoteMarker, BlockQuotePrefix}
 use Rattle.md_engine.specs.declared.state.Name.{Name as StateName}
 use Rattle.md_engine.specs.declared.state.Name.TheVariants as n

@@ -1,7 +1,7 @@
 -- Lines of content are joined one event after another.
 use Rattle.std.proofs.Common.{◌≡◌, ℕ, ◌+◌, ◌<◌, ◌≤◌, Bool, true, false, ◌&&◌, List, [], ◌∷◌, ◌++◌, length, length-drop}
 use Rattle.std.proofs.Common.{get_or, set, take, drop, refl, sym, ◌∙◌, ap, append_assoc, append-nil, arith, ◌-◌}
-use Rattle.std.proofs.Common.{length-set, subst}
+use Rattle.std.proofs.Common.{length-set, subst, cond, suc}
 use Rattle.std.proofs.lemmas.Bool.{true≢false}
 use Rattle.std.proofs.lemmas.List.{drop-drop, drop-set-add, drop-set-lt, drop_all, drop_more, get_or-drop}
 use Rattle.std.proofs.lemmas.List.{take-set-le, take_all, take_more, take_more_set}
@@ -12,15 +12,13 @@ use Rattle.md_content.specs.Joined.{content_behind, ends_content, goes_on, is_co
 use Rattle.md_content.specs.Joined.{joined_with}
 use Rattle.md_engine.specs.declared.event.Name.{Name}
 use Rattle.md_engine.specs.declared.event.Name.TheVariants as name
-use Rattle.md_seam.specs.Events.Nested.{is_enter}
+use Rattle.md_seam.specs.Events.Nested.{is_enter, is_exit}
 use Rattle.md_seam.specs.Events.Prefix.{is_prefix}
-use Rattle.std.proofs.Common.{cond, suc}
 use Rattle.std.proofs.Math.Seq.{take-add}
 use Rattle.std.specs.List.{position_or_len, prefix_len}
 use Rattle.std.specs.Prelude.{not}
 use Rattle.std.proofs.lemmas.List.Sums.{passes_at_first}
 use Rattle.md_seam.specs.Events.Inline.{is_line_ending}
-use Rattle.md_seam.specs.Events.Nested.{is_exit}
 use Rattle.md_seam.specs.Parts.{ArePlaced}
 
 -- the first of some events, and those that are joined with it

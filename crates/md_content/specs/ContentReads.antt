@@ -1,6 +1,5 @@
 -- What a part of content is read as, over the text of its chunks.
-use Rattle.std.specs.Prelude.{◌≡◌, ℕ, Bool, true, false, ◌&&◌, ◌||◌, if◌then◌else◌, nat_le, List, []}
-use Rattle.std.specs.Prelude.{◌∷◌}
+use Rattle.std.specs.Prelude.{◌≡◌, ℕ, Bool, true, false, ◌&&◌, ◌||◌, if◌then◌else◌, nat_le, List, [], ◌∷◌}
 use Rattle.md_engine.specs.declared.configuration.ParseOptions.{ParseOptions}
 use Rattle.md_engine.specs.declared.event.Content.{Content}
 use Rattle.md_engine.specs.declared.event.Content.TheVariants as content

@@ -1,5 +1,5 @@
 -- The labels of the definitions among events whose text parts are not read yet (CommonMark 6.3).
-use Rattle.std.specs.Prelude.{ℕ, ◌&&◌, if◌then◌else◌, List, [], ◌∷◌, ◌++◌, slice_range}
+use Rattle.std.specs.Prelude.{ℕ, ◌&&◌, if◌then◌else◌, List, [], ◌∷◌, ◌++◌, slice_range, Bool, true, false}
 use Rattle.md_engine.specs.declared.event.Event.{Event}
 use Rattle.md_engine.specs.declared.event.Name.{Name}
 use Rattle.md_engine.specs.declared.event.Name.TheVariants as n
@@ -7,7 +7,6 @@ use Rattle.md_meaning.specs.Label.{normal_form}
 use Rattle.md_meaning.specs.Texts.{split_lines}
 use Rattle.md_seam.specs.Events.Nested.{is_enter, is_exit}
 use Rattle.md_seam.specs.Events.Tiles.{is_data}
-use Rattle.std.specs.Prelude.{Bool, true, false}
 
 abbrev pub is_label : Name → Bool
 is_label n.DefinitionLabelString = true

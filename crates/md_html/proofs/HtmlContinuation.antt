@@ -21,10 +21,9 @@ use Rattle.md_meaning.specs.Html.{is_raw_name}
 use Rattle.md_meaning.specs.Rest.{is_white}
 use Rattle.md_leaves.specs.Further.{further_link}
 use Rattle.md_html.specs.Html.{IsStop, blank_move, cleared, close_code, continuation_code, data_ended, ends_in_front}
-use Rattle.md_html.specs.Html.{in_letters}
-use Rattle.md_html.specs.Html.{further_code, html_transition, inside_move, line_before_code, marked, moved, name_here}
-use Rattle.md_html.specs.Html.{name_text, raw_end_move, raw_open_code, sees_letter, shut, stop_move, stop_of, text_move}
-use Rattle.md_html.specs.Html.{twice_move}
+use Rattle.md_html.specs.Html.{in_letters, further_code, html_transition, inside_move, line_before_code, marked, moved}
+use Rattle.md_html.specs.Html.{name_here, name_text, raw_end_move, raw_open_code, sees_letter, shut, stop_move, stop_of}
+use Rattle.md_html.specs.Html.{text_move, twice_move}
 use Rattle.md_html.specs.HtmlRule.{HasHtml, closes, ends_by, entering, further_at, further_begun, goes_on, line_at}
 use Rattle.md_html.specs.HtmlRule.{line_done, nonblank_at, refuses, stops}
 use Rattle.md_html.proofs.HtmlBytes.{begins-current, begins-letter, end-here, letter-dark, line-goes}

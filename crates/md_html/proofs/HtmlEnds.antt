@@ -7,8 +7,7 @@ use Rattle.std.specs.Str.{str_eq_ignore_ascii_case}
 use Rattle.std.proofs.lemmas.Bool.{and_parts, eqb-true}
 use Rattle.std.proofs.lemmas.Bool.Decides.{nat_tests}
 use Rattle.md_meaning.specs.Bytes.{begins}
-use Rattle.md_meaning.specs.Html.{html_ends, holds, is_name_of, is_raw_end, is_raw_name}
-use Rattle.md_meaning.specs.Html.{raw_names, starts_in_any_case}
+use Rattle.md_meaning.specs.Html.{html_ends, holds, is_name_of, is_raw_end, is_raw_name, raw_names, starts_in_any_case}
 use Rattle.md_html.specs.Html.{IsStop, are_letters}
 use Rattle.md_html.specs.HtmlRule.{ends_by, stops}
 

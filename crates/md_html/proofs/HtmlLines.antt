@@ -18,8 +18,7 @@ use Rattle.md_meaning.specs.Rest.{Rest, has_small_indent, indent, is_blank, is_w
 use Rattle.md_meaning.specs.Rest.{behind_indent as rest_behind}
 use Rattle.md_meaning.proofs.TextsLemmas.{NoEnding}
 use Rattle.md_html.specs.Html.{ends_in_front, is_open_text}
-use Rattle.md_html.specs.HtmlLine.{behind_indent, html_goes, html_keeps, html_keeps_on}
-use Rattle.md_html.specs.HtmlLine.{kind_at, left_by, left_of}
+use Rattle.md_html.specs.HtmlLine.{behind_indent, html_goes, html_keeps, html_keeps_on, kind_at, left_by, left_of}
 use Rattle.md_html.specs.HtmlRule.{allowed, left}
 use Rattle.md_html.proofs.HtmlSpread.{Blind, Wide, blind-trim, byte, ended, ends-blind, kind-none, of-white, white}
 use Rattle.md_html.proofs.HtmlSpread.{wide-kind, wider}
@@ -29,8 +28,7 @@ use Rattle.md_seam.specs.Spaces.{small_indent}
 use Rattle.md_seam.proofs.FeedLines.{Stops, bytes_of, cell, columns_more, next_column, spread, tab_cells, tab_end}
 use Rattle.md_seam.proofs.RestCells.{HasIndent, RestAt, cells_by, indent-length, indent-over, indent-taken}
 use Rattle.md_seam.proofs.RestCells.{lose-no_ending, rest_cells}
-use Rattle.md_seam.proofs.RestLines.{bare-spread, blank-cells, indent-trims, large-room, rest-line}
-use Rattle.md_seam.proofs.RestLines.{small-room}
+use Rattle.md_seam.proofs.RestLines.{bare-spread, blank-cells, indent-trims, large-room, rest-line, small-room}
 
 -- Cells are bytes of which whitespace is wider: those of a tab,
 tab-wide : (line : Line) (n b : ℕ) (p : Point) (bs : List ℕ) (cs : List Cell) → is_white b ≡ true →

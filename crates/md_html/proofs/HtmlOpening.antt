@@ -1,7 +1,6 @@
 -- Each state of HTML in front of the name of a tag takes one step of its rule (CommonMark 4.6).
-use Rattle.std.proofs.Common.{◌≡◌, ℕ, zero, suc, ◌+◌, ◌-◌, ◌≤◌, Bool, true, false, cond, ◌&&◌, ◌||◌, nat_eq}
-use Rattle.std.proofs.Common.{nat_lt, List, [], ◌∷◌, ◌++◌, None, refl, sym, ◌∙◌, ap, ap₂, arith, append-nil}
-use Rattle.std.proofs.Common.{append_assoc}
+use Rattle.std.proofs.Common.{◌≡◌, ℕ, zero, suc, ◌+◌, ◌-◌, ◌≤◌, Bool, true, false, cond, ◌&&◌, ◌||◌, nat_eq, nat_lt}
+use Rattle.std.proofs.Common.{List, [], ◌∷◌, ◌++◌, None, refl, sym, ◌∙◌, ap, ap₂, arith, append-nil, append_assoc}
 use Rattle.std.specs.Prelude.{◌==◌, codes}
 use Rattle.std.specs.Char.{is_ascii_alphabetic}
 use Rattle.std.proofs.lemmas.Bool.{eqb-true}
@@ -20,8 +19,7 @@ use Rattle.md_engine.specs.World.{World}
 use Rattle.md_engine.specs.Sees.{Sees}
 use Rattle.md_engine.proofs.StepOf.{moves, passes}
 use Rattle.md_meaning.specs.Bytes.{begins}
-use Rattle.md_meaning.specs.Html.{Basic, Cdata, Comment, Declaration, HtmlKind, Instruction, Raw, html_ends}
-use Rattle.md_meaning.specs.Html.{html_kind}
+use Rattle.md_meaning.specs.Html.{Basic, Cdata, Comment, Declaration, HtmlKind, Instruction, Raw, html_ends, html_kind}
 use Rattle.md_meaning.specs.Rest.{is_white}
 use Rattle.md_html.specs.Html.{Stops, Takes, Turns, before_move, by_byte, cdata_byte, cdata_move, cleared}
 use Rattle.md_html.specs.Html.{close_start_move, comment_move, declaration_byte, html_transition, indent_move, marked}

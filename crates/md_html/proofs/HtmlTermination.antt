@@ -17,18 +17,17 @@ use Rattle.md_engine.proofs.Local.{accepts, consumes, refuses, turns}
 use Rattle.md_engine.proofs.Points.{stays, takes}
 use Rattle.md_meaning.specs.Html.{begins_attribute, is_attribute_byte, is_value_byte}
 use Rattle.md_meaning.specs.Rest.{is_white}
-use Rattle.md_html.specs.Html.{in_letters}
-use Rattle.md_html.proofs.HtmlBytes.{letters-more, letters-none}
-use Rattle.md_html.proofs.HtmlNames.{name-kept, name-starts}
-use Rattle.md_html.specs.Html.{Move, Takes, Turns, TakesAs, TurnsAs, Stops, IsStop, basic_name_code, before_move}
-use Rattle.md_html.specs.Html.{blank_move, by_byte, cdata_move, cleared, close_code, close_start_move, closing_move}
-use Rattle.md_html.specs.Html.{comment_move, complete_after_move, complete_name_code, continuation_code}
+use Rattle.md_html.specs.Html.{in_letters, Move, Takes, Turns, TakesAs, TurnsAs, Stops, IsStop, basic_name_code}
+use Rattle.md_html.specs.Html.{before_move, blank_move, by_byte, cdata_move, cleared, close_code, close_start_move}
+use Rattle.md_html.specs.Html.{closing_move, comment_move, complete_after_move, complete_name_code, continuation_code}
 use Rattle.md_html.specs.Html.{declaration_byte, end_move, further_code, html_rank, html_ready, html_scheme}
 use Rattle.md_html.specs.Html.{html_transition, in_html, in_name, indent_move, inside_move, line_before_code}
 use Rattle.md_html.specs.Html.{line_entered, marked, moved, name_after_byte, name_before_byte, name_byte, name_code}
 use Rattle.md_html.specs.Html.{open_byte, quoted_byte, raw_end_move, raw_open_code, sees_letter, sees_tag_byte}
-use Rattle.md_html.specs.Html.{self_closing_move, start_code, stop_move, stop_of, tag_name_move, text_move}
-use Rattle.md_html.specs.Html.{twice_move, unquoted_byte, value_before_byte}
+use Rattle.md_html.specs.Html.{self_closing_move, start_code, stop_move, stop_of, tag_name_move, text_move, twice_move}
+use Rattle.md_html.specs.Html.{unquoted_byte, value_before_byte}
+use Rattle.md_html.proofs.HtmlBytes.{letters-more, letters-none}
+use Rattle.md_html.proofs.HtmlNames.{name-kept, name-starts}
 use Rattle.md_seam.specs.Spaces.{IsRest, ends_line, is_current, rest_ready, sees_white}
 use Rattle.md_seam.specs.Transition.{entered, exited, taken}
 use Rattle.md_seam.proofs.SpacesTermination.{Does, goes-on, seen-in, seen-some}

@@ -1,7 +1,6 @@
 -- HTML, a line at a time: what its states do.
-use Rattle.std.specs.Prelude.{[], ◌∷◌}
-use Rattle.std.specs.Prelude.{◌≡◌, refl, ℕ, zero, suc, ◌+◌, ◌≤◌, Bool, true, false, ◌&&◌, ◌||◌, ◌==◌, not, nat_lt}
-use Rattle.std.specs.Prelude.{if◌then◌else◌, List, Option, Some, None, ◌⊎◌}
+use Rattle.std.specs.Prelude.{[], ◌∷◌, ◌≡◌, refl, ℕ, zero, suc, ◌+◌, ◌≤◌, Bool, true, false, ◌&&◌, ◌||◌, ◌==◌, not}
+use Rattle.std.specs.Prelude.{nat_lt, if◌then◌else◌, List, Option, Some, None, ◌⊎◌}
 use Rattle.std.specs.Char.{is_ascii_alphabetic}
 use Rattle.std.specs.List.{list_all}
 use Rattle.md_engine.specs.declared.event.Name.TheVariants.{HtmlFlow, HtmlFlowData}

@@ -1,6 +1,5 @@
 -- A heading takes a whole line, or refuses it.
-use Rattle.std.proofs.Common.{◌≡◌, ℕ, Bool, true, false, List, ◌++◌, refl, sym, ◌∙◌, ap}
-use Rattle.std.proofs.Common.{append_assoc}
+use Rattle.std.proofs.Common.{◌≡◌, ℕ, Bool, true, false, List, ◌++◌, refl, sym, ◌∙◌, ap, append_assoc}
 use Rattle.std.proofs.lemmas.Bool.{and_parts}
 use Rattle.md_engine.specs.declared.configuration.ParseOptions.{ParseOptions}
 use Rattle.md_engine.specs.declared.event.Event.{Event}

@@ -13,9 +13,8 @@ use Rattle.md_engine.specs.Place.{IsPlaced}
 use Rattle.md_leaves.specs.declared.spans.Place.{Place}
 use Rattle.md_leaves.specs.declared.spans.Place.TheVariants.{Between, Inside, Outside}
 use Rattle.md_leaves.specs.Spanned.{Begins, Ends, GoesOn, Stays, Turn, given, given_by, goes_on, has_lines}
-use Rattle.md_leaves.specs.Spanned.{is_blank_ending, is_code_line, passes_on}
-use Rattle.md_leaves.specs.Spanned.{is_renamed, links_back, name_at, passes, place_after, place_by, renamed}
-use Rattle.md_leaves.specs.Spanned.{spanned, spanned_from, turn, turn_by}
+use Rattle.md_leaves.specs.Spanned.{is_blank_ending, is_code_line, passes_on, is_renamed, links_back, name_at, passes}
+use Rattle.md_leaves.specs.Spanned.{place_after, place_by, renamed, spanned, spanned_from, turn, turn_by}
 use Rattle.md_leaves.specs.Turned.{HoldNoUnderline, is_no_underline, is_underline}
 use Rattle.md_seam.specs.Events.Spelled.{role}
 use Rattle.md_seam.specs.Parts.{ArePlaced}

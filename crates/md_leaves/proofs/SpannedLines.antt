@@ -8,9 +8,8 @@ use Rattle.md_engine.specs.declared.event.Kind.{Kind}
 use Rattle.md_engine.specs.declared.event.Kind.TheVariants.{Enter, Exit}
 use Rattle.md_leaves.specs.declared.spans.Place.{Place}
 use Rattle.md_leaves.specs.declared.spans.Place.TheVariants.{Between, Inside, Outside}
-use Rattle.md_leaves.specs.Spanned.{Begins, Ends, GoesOn, Turn, begins_further, given_by, goes_on}
-use Rattle.md_leaves.specs.Spanned.{has_lines, links_back, passes, place_by, renamed}
-use Rattle.md_leaves.specs.Spanned.{spanned_from, turn, turn_by}
+use Rattle.md_leaves.specs.Spanned.{Begins, Ends, GoesOn, Turn, begins_further, given_by, goes_on, has_lines}
+use Rattle.md_leaves.specs.Spanned.{links_back, passes, place_by, renamed, spanned_from, turn, turn_by}
 use Rattle.md_leaves.proofs.SpannedLemmas.{passes-given, stays-given}
 use Rattle.md_seam.specs.Events.Blocks.{is_block}
 use Rattle.md_seam.specs.Events.Spelled.{LeafRole, Role, role}

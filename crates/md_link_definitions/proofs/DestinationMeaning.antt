@@ -23,14 +23,13 @@ use Rattle.md_link_definitions.specs.Destination.{text_entered, text_exited, wit
 use Rattle.md_link_definitions.specs.DestinationRule.{DestinationMeans, HasDestination, before_literal, destination_at, destination_behaves}
 use Rattle.md_link_definitions.specs.DestinationRule.{in_literal, in_raw}
 use Rattle.md_link_definitions.specs.DestinationRule.{literal_begin, literal_end, raw_begin, raw_end, text_begin, text_end}
-use Rattle.md_link_definitions.proofs.DestinationLemmas.{before-closes, before-text, begin-is, begins-literal, begins-neither}
-use Rattle.md_link_definitions.proofs.DestinationLemmas.{escaped-enclosed, escaped-raw}
-use Rattle.md_link_definitions.proofs.DestinationLemmas.{begins-none, begins-raw, enclosed-is, literal-backslash, literal-bare}
+use Rattle.md_link_definitions.proofs.DestinationLemmas.{before-closes, before-text, begin-is, begins-literal}
+use Rattle.md_link_definitions.proofs.DestinationLemmas.{begins-neither, escaped-enclosed, escaped-raw, begins-none}
+use Rattle.md_link_definitions.proofs.DestinationLemmas.{begins-raw, enclosed-is, literal-backslash, literal-bare}
 use Rattle.md_link_definitions.proofs.DestinationLemmas.{literal-closes, literal-ends, literal-escaped, literal-none}
-use Rattle.md_link_definitions.proofs.DestinationLemmas.{literal-opens}
-use Rattle.md_link_definitions.proofs.DestinationLemmas.{literal-other, raw-backslash, raw-bare, raw-closes, raw-done}
-use Rattle.md_link_definitions.proofs.DestinationLemmas.{raw-escaped, raw-is, raw-left, raw-opens, raw-other, raw-refuses}
-use Rattle.md_link_definitions.proofs.DestinationLemmas.{raw-stops}
+use Rattle.md_link_definitions.proofs.DestinationLemmas.{literal-opens, literal-other, raw-backslash, raw-bare}
+use Rattle.md_link_definitions.proofs.DestinationLemmas.{raw-closes, raw-done, raw-escaped, raw-is, raw-left, raw-opens}
+use Rattle.md_link_definitions.proofs.DestinationLemmas.{raw-other, raw-refuses, raw-stops}
 use Rattle.md_seam.specs.Spaces.{IsRest, is_current}
 use Rattle.md_seam.specs.Transition.{taken}
 

@@ -1,7 +1,6 @@
 -- Each state of whitespace with at most one line ending takes one step of its rule.
 use Rattle.std.proofs.Common.{◌≡◌, ℕ, Bool, true, false, List, ◌∷◌, ◌++◌, [], length, Option, Some, None, refl, sym}
-use Rattle.std.proofs.Common.{◌∙◌, ap}
-use Rattle.std.proofs.Common.{append-nil, ap₂, arith, nat_eq}
+use Rattle.std.proofs.Common.{◌∙◌, ap, append-nil, ap₂, arith, nat_eq}
 use Rattle.md_engine.specs.declared.event.Event.{Event}
 use Rattle.md_engine.specs.declared.event.Name.TheVariants.{LineEnding}
 use Rattle.md_engine.specs.declared.state.Name.TheVariants as n

@@ -3,8 +3,7 @@ use Rattle.std.proofs.Common.{◌≡◌, ℕ, ◌<◌, Bool, true, false, nat_eq
 use Rattle.md_meaning.specs.Ascii.{backslash}
 use Rattle.md_meaning.specs.Definition.{title_closer}
 use Rattle.md_engine.specs.declared.event.Event.{Event}
-use Rattle.md_engine.specs.declared.event.Name.TheVariants.{Data}
-use Rattle.md_engine.specs.declared.event.Name.TheVariants.{DefinitionTitleString}
+use Rattle.md_engine.specs.declared.event.Name.TheVariants.{Data, DefinitionTitleString}
 use Rattle.md_engine.specs.declared.state.Name.TheVariants as n
 use Rattle.md_engine.specs.declared.state.Name.{Name as StateName}
 use Rattle.md_engine.specs.declared.state.title.State.{State as TitleState}

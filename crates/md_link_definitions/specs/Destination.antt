@@ -1,8 +1,7 @@
 -- The destination of a definition (CommonMark 6.3).
 use Rattle.std.specs.Prelude.{refl, ℕ, ◌+◌, ◌-◌, ◌≤◌, Bool, true, false, ◌==◌, if◌then◌else◌, nat_lt}
 use Rattle.std.specs.Prelude.{Option, Some, None}
-use Rattle.md_meaning.specs.Ascii.{backslash, greater_than, left_parenthesis, less_than, line_feed}
-use Rattle.md_meaning.specs.Ascii.{right_parenthesis}
+use Rattle.md_meaning.specs.Ascii.{backslash, greater_than, left_parenthesis, less_than, line_feed, right_parenthesis}
 use Rattle.md_meaning.specs.Definition.{is_raw_byte}
 use Rattle.md_engine.specs.declared.event.Name.TheVariants.{Data, DefinitionDestination, DefinitionDestinationLiteral}
 use Rattle.md_engine.specs.declared.event.Name.TheVariants.{DefinitionDestinationLiteralMarker}

@@ -1,7 +1,6 @@
 -- The rule of a destination, as what is left of it at each state (CommonMark 6.3).
 use Rattle.std.specs.Prelude.{◌≡◌, ℕ, suc, Bool, true, false, ◌==◌, if◌then◌else◌, List, [], ◌∷◌, ◌++◌, length, take}
-use Rattle.std.specs.Prelude.{drop}
-use Rattle.std.specs.Prelude.{Option, Some, None}
+use Rattle.std.specs.Prelude.{drop, Option, Some, None}
 use Rattle.std.specs.List.{take_while}
 use Rattle.md_meaning.specs.Ascii.{greater_than, less_than}
 use Rattle.md_meaning.specs.Definition.{Destination, balanced, is_raw_byte}

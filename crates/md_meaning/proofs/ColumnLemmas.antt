@@ -7,9 +7,8 @@ use Rattle.std.specs.Option.{option_or, is_some}
 use Rattle.md_engine.specs.declared.configuration.ParseOptions.{ParseOptions}
 use Rattle.md_meaning.specs.declared.alert.AlertKind.{AlertKind}
 use Rattle.md_meaning.specs.Alert.{alert_at, first_kind, is_marked, kinds, marker_of}
-use Rattle.md_meaning.specs.Containers.{Labelled, Marker, Taken, continues, footnote_by, footnote_continues}
-use Rattle.md_meaning.specs.Containers.{taken_as, with_kind}
-use Rattle.md_meaning.specs.Containers.{footnote_label, item_by, item_continues, item_padding, list_marker}
+use Rattle.md_meaning.specs.Containers.{Labelled, Marker, Taken, continues, footnote_by, footnote_continues, taken_as}
+use Rattle.md_meaning.specs.Containers.{with_kind, footnote_label, item_by, item_continues, item_padding, list_marker}
 use Rattle.md_meaning.specs.Containers.{may_interrupt, opens, opens_footnote, opens_item, opens_quote, quote_taken}
 use Rattle.md_meaning.specs.Html.{HtmlKind, html_kind}
 use Rattle.md_meaning.specs.Leaves.{ParagraphContext, LeafResult, Finished, LazyText, NoText, Opened, Text, break_at}

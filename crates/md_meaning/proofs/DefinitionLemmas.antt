@@ -7,8 +7,7 @@ use Rattle.md_meaning.specs.Rest.{is_blank, is_parted, trim_start}
 use Rattle.md_meaning.specs.Enclosed.{Enclosed, Closed, Open, Broken, enclosed, Lines, with_line, enclosed_lines}
 use Rattle.md_meaning.specs.Definition.{Defined, is_label, label_at, after_colon, after_gap, Destination}
 use Rattle.md_meaning.specs.Definition.{destination_at, title_closer, alone, title_at, title_after, Cut, with_title}
-use Rattle.md_meaning.specs.Definition.{with_destination, definition_at, with_definition, cut_at_most}
-use Rattle.md_meaning.specs.Definition.{cut_definitions}
+use Rattle.md_meaning.specs.Definition.{with_destination, definition_at, with_definition, cut_at_most, cut_definitions}
 
 with_line-rest : (line : List ℕ) (found : Option Lines) (text : Lines) → with_line line found ≡ Some text →
     (t : Lines) × (found ≡ Some t) × (t.rest ≡ text.rest)

@@ -7,9 +7,8 @@ use Rattle.std.proofs.lemmas.Bool.{eq-eqb, eqb-true}
 use Rattle.md_meaning.specs.declared.alert.AlertKind.{AlertKind}
 use Rattle.md_meaning.specs.declared.outline.Word.{Word}
 use Rattle.md_meaning.specs.declared.outline.Word.TheVariants as word
-use Rattle.md_meaning.specs.Outline.{Entry, block_entries, entries, entry, entry_with, line_entries}
-use Rattle.md_meaning.specs.Outline.{outline, part_entry, quote_word, row_entries, rows_entries, table_entries}
-use Rattle.md_meaning.specs.Outline.{title_entries}
+use Rattle.md_meaning.specs.Outline.{Entry, block_entries, entries, entry, entry_with, line_entries, outline}
+use Rattle.md_meaning.specs.Outline.{part_entry, quote_word, row_entries, rows_entries, table_entries, title_entries}
 use Rattle.md_meaning.specs.State.{then_block}
 use Rattle.md_meaning.specs.Tree.{Block, Blocks, Break, Code, Definition, End, Fence, Footnote, Frontmatter, Heading}
 use Rattle.md_meaning.specs.Tree.{Html, Item, Line, ListOf, Math, More, Paragraph, Quote, Table}

@@ -21,8 +21,7 @@ use Rattle.md_seam.specs.Events.Spelled as spelled
 use Rattle.md_outline.specs.HeadingDepths.{are_shallow}
 use Rattle.md_outline.specs.ListsBegin.{AllTold, AtItem, AtLabel, AtMarker, InMarker, MayFollow, Stage, marks, stage_by}
 use Rattle.md_outline.specs.Outlined.{is_unparted, parts_by}
-use Rattle.md_outline.specs.OutlineSteps.{OutlineState, state_by, state_enter, told_at, with_marker}
-use Rattle.md_outline.specs.OutlineSteps.{marked_at}
+use Rattle.md_outline.specs.OutlineSteps.{OutlineState, state_by, state_enter, told_at, with_marker, marked_at}
 use Rattle.md_outline.specs.Roles.{is_listed, shown_as}
 use Rattle.md_outline.specs.declared.outline.role.Purpose.TheVariants as purpose
 use Rattle.md_outline.specs.declared.outline.role.Role.TheVariants as role

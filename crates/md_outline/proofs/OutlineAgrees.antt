@@ -1,7 +1,6 @@
 -- What an outline has read of some events agrees with what was read of the tree that they spell out.
 use Rattle.std.proofs.Common.{◌≡◌, ℕ, ◌+◌, ◌-◌, true, false, cond, ◌||◌, not, List, [], ◌∷◌, ◌++◌, append_assoc}
-use Rattle.std.proofs.Common.{slice_range, refl, sym, ◌∙◌, ap, subst}
-use Rattle.std.proofs.Common.{arith}
+use Rattle.std.proofs.Common.{slice_range, refl, sym, ◌∙◌, ap, subst, arith}
 use Rattle.std.specs.Prelude.{Option, Some, None, option_map}
 use Rattle.std.proofs.lemmas.Bool.{and_parts}
 use Rattle.md_engine.specs.declared.event.Kind.{Kind}
@@ -14,13 +13,11 @@ use Rattle.md_meaning.specs.Outline.{Entry, block_entries}
 use Rattle.md_seam.specs.Events.Places.{last_line}
 use Rattle.md_meaning.specs.Rest.{is_blank}
 use Rattle.md_seam.specs.Events.Spelled.{OpenContainer, AsDigits, AsFootnoteLabel, AsHeading, AsItemMarker, AsMarkers}
-use Rattle.md_seam.specs.Events.Spelled.{FootnoteShape, ContainerRole, IsPrefix, IsQuoteMarker}
-use Rattle.md_seam.specs.Events.Spelled.{OpenLeaf, LeafRole, Reading}
-use Rattle.md_seam.specs.Events.Spelled.{Shape, TextRole, Text}
-use Rattle.md_seam.specs.Events.Spelled.{after_prefix, at_ending, before_prefix, begun, block_around, block_of, byte_at}
-use Rattle.md_seam.specs.Events.Spelled.{columns_left}
-use Rattle.md_seam.specs.Events.Spelled.{finished, left, next_line, on_leaf, read_by, read_enter, read_exit}
-use Rattle.md_seam.specs.Events.Spelled.{is_before_blocks, kind_at, named, on_shape, text_to, with_kind}
+use Rattle.md_seam.specs.Events.Spelled.{FootnoteShape, ContainerRole, IsPrefix, IsQuoteMarker, OpenLeaf, LeafRole}
+use Rattle.md_seam.specs.Events.Spelled.{Reading, Shape, TextRole, Text, after_prefix, at_ending, before_prefix, begun}
+use Rattle.md_seam.specs.Events.Spelled.{block_around, block_of, byte_at, columns_left, finished, left, next_line}
+use Rattle.md_seam.specs.Events.Spelled.{on_leaf, read_by, read_enter, read_exit, is_before_blocks, kind_at, named}
+use Rattle.md_seam.specs.Events.Spelled.{on_shape, text_to, with_kind}
 use Rattle.md_seam.specs.Events.Spelled as spelled
 use Rattle.md_meaning.specs.State.{then_block}
 use Rattle.md_meaning.specs.Texts.{split_lines}

@@ -17,11 +17,9 @@ use Rattle.md_meaning.specs.declared.outline.Word.TheVariants as word
 use Rattle.md_meaning.specs.Outline.{Entry, outline}
 use Rattle.md_seam.specs.Events.Spelled.{AsCell, AsDelimiter, AsDestination, AsHeading, AsInfo, AsLabel, AsLine, AsMeta}
 use Rattle.md_seam.specs.Events.Spelled.{AsTitle, ContainerRole, IsCell, IsFence, IsPrefix, IsRow, IsTitle, OfCode}
-use Rattle.md_seam.specs.Events.Spelled.{OfDefinition, OfFence, OfFrontmatter, OfHeadingSetext, OfHtml, OfTable}
-use Rattle.md_seam.specs.Events.Spelled.{OfMath, OpenLeaf, LeafRole, OrderedShape, Reading, TextRole}
-use Rattle.md_seam.specs.Events.Spelled.{UnorderedShape, begun}
-use Rattle.md_seam.specs.Events.Spelled.{byte_at, read, read_by}
-use Rattle.md_seam.specs.Events.Spelled.{spelled, unread}
+use Rattle.md_seam.specs.Events.Spelled.{OfDefinition, OfFence, OfFrontmatter, OfHeadingSetext, OfHtml, OfTable, OfMath}
+use Rattle.md_seam.specs.Events.Spelled.{OpenLeaf, LeafRole, OrderedShape, Reading, TextRole, UnorderedShape, begun}
+use Rattle.md_seam.specs.Events.Spelled.{byte_at, read, read_by, spelled, unread}
 use Rattle.md_seam.specs.Events.Spelled as spelled
 use Rattle.md_outline.specs.Between.{is_between}
 use Rattle.md_outline.specs.HeadingDepths.{fits}
@@ -29,12 +27,10 @@ use Rattle.md_outline.specs.ListsBegin.{AllTold, ListsBegin, Stage, stage_by}
 use Rattle.md_outline.specs.Outlined.{IsOutlined, are_parted, has_shown_name}
 use Rattle.md_outline.specs.Outlined.{has_unlisted_name, parts_by, span_by, stands_between, tells_between}
 use Rattle.md_outline.specs.OutlineSteps.{BeginsBetween, IsCutAt, IsCutBy, OutlineState, before_all, leaf_ended}
-use Rattle.md_outline.specs.OutlineSteps.{parted_at}
-use Rattle.md_outline.specs.OutlineSteps.{state_after, state_by, told_at, told_leaf}
+use Rattle.md_outline.specs.OutlineSteps.{parted_at, state_after, state_by, told_at, told_leaf, delimiter_ended}
+use Rattle.md_outline.specs.OutlineSteps.{head_marked, is_titled, label_ended, marked_at, piece_shown, title_told, told}
 use Rattle.md_outline.specs.LinesStand.{LinesStand, Outside, Site, site_by}
 use Rattle.md_outline.specs.DefinitionState.{part_word}
-use Rattle.md_outline.specs.OutlineSteps.{delimiter_ended, head_marked, is_titled, label_ended, marked_at}
-use Rattle.md_outline.specs.OutlineSteps.{piece_shown, title_told, told}
 use Rattle.md_outline.specs.ParagraphState.{begin_entries}
 use Rattle.md_outline.specs.Roles.{is_seen, is_shown, is_told, is_unlisted, shown_as}
 use Rattle.md_outline.specs.TextLines.{text_entries}

@@ -12,12 +12,11 @@ use Rattle.md_meaning.specs.declared.outline.Word.{Word}
 use Rattle.md_meaning.specs.declared.outline.Word.TheVariants as word
 use Rattle.md_meaning.specs.Outline.{block_entries}
 use Rattle.md_seam.specs.Events.Spelled.{AsDigits, AsFootnoteLabel, AsHeading, AsItemMarker, AsMarkers, CodeLeaf}
-use Rattle.md_seam.specs.Events.Spelled.{FootnoteShape, ContainerRole, IsEnding}
-use Rattle.md_seam.specs.Events.Spelled.{IsPrefix, IsQuiet, IsQuoteMarker, LeafKind, OfCode, OfHeadingSetext, OfHtml}
-use Rattle.md_seam.specs.Events.Spelled.{OpenLeaf, QuoteShape, is_before_blocks, kind_at, read_enter, with_kind}
-use Rattle.md_seam.specs.Events.Spelled.{LeafRole, OrderedShape, Reading}
-use Rattle.md_seam.specs.Events.Spelled.{Shape, TextRole, Text, UnorderedShape, add_block, at_ending, block_around, fresh}
-use Rattle.md_seam.specs.Events.Spelled.{named, next_line, on_leaf, on_shape, spelled, text_to}
+use Rattle.md_seam.specs.Events.Spelled.{FootnoteShape, ContainerRole, IsEnding, IsPrefix, IsQuiet, IsQuoteMarker}
+use Rattle.md_seam.specs.Events.Spelled.{LeafKind, OfCode, OfHeadingSetext, OfHtml, OpenLeaf, QuoteShape}
+use Rattle.md_seam.specs.Events.Spelled.{is_before_blocks, kind_at, read_enter, with_kind, LeafRole, OrderedShape}
+use Rattle.md_seam.specs.Events.Spelled.{Reading, Shape, TextRole, Text, UnorderedShape, add_block, at_ending}
+use Rattle.md_seam.specs.Events.Spelled.{block_around, fresh, named, next_line, on_leaf, on_shape, spelled, text_to}
 use Rattle.md_seam.specs.Events.Spelled as spelled
 use Rattle.md_seam.specs.Events.Told.{OfContainer, OfItself, OfLeaf, Told, block_told, told_of}
 use Rattle.md_seam.proofs.ToldLemmas.{told-block, told-named, told-noted}

@@ -1,6 +1,5 @@
 -- The text that is read in a leaf block whose lines an outline shows as they come: none, or one that has begun there.
-use Rattle.std.proofs.Common.{◌≡◌, ℕ, Bool, true, false, cond, not, ◌&&◌, List, slice_range, refl, sym, ◌∙◌, ap}
-use Rattle.std.proofs.Common.{subst}
+use Rattle.std.proofs.Common.{◌≡◌, ℕ, Bool, true, false, cond, not, ◌&&◌, List, slice_range, refl, sym, ◌∙◌, ap, subst}
 use Rattle.std.specs.Prelude.{Option, Some, None, option_map}
 use Rattle.std.proofs.lemmas.Bool.{true≢false}
 use Rattle.md_engine.specs.declared.event.Kind.TheVariants.{Enter}
@@ -8,8 +7,7 @@ use Rattle.md_engine.specs.declared.event.Point.{Point}
 use Rattle.md_meaning.specs.Outline.{Entry}
 use Rattle.md_seam.specs.Events.Spelled.{IsPrefix, IsQuoteMarker, LeafKind, LeafRole, OpenLeaf, Reading, Text}
 use Rattle.md_seam.specs.Events.Spelled.{after_prefix, at_ending, is_before_blocks, kind_at, on_shape, with_kind}
-use Rattle.md_seam.specs.Events.Spelled.{before_prefix, begun}
-use Rattle.md_seam.specs.Events.Spelled.{byte_at, columns_left, read_enter, read_exit}
+use Rattle.md_seam.specs.Events.Spelled.{before_prefix, begun, byte_at, columns_left, read_enter, read_exit}
 use Rattle.md_seam.specs.Events.Spelled as spelled
 use Rattle.md_outline.specs.Outlined.{parts_by}
 use Rattle.md_outline.specs.OutlineSteps.{OutlineState, line_ended, marker_begun, parted_at, state_enter, state_exit}

@@ -34,8 +34,7 @@ use Rattle.md_outline.proofs.LinedLines.{end-taken, head-told, on-last}
 use Rattle.md_outline.proofs.OutlineAgrees.{Agrees, TextIs, text-lines}
 use Rattle.md_outline.proofs.RoleLemmas.{by-ending}
 use Rattle.md_outline.proofs.SiteTexts.{IsOpen, Keeps, NoText, TextFrom, begins-texts, from-here, marker-within}
-use Rattle.md_outline.proofs.SiteTexts.{prefix-enter, prefix-exit}
-use Rattle.md_outline.proofs.SiteTexts.{text-ending, text-ends}
+use Rattle.md_outline.proofs.SiteTexts.{prefix-enter, prefix-exit, text-ending, text-ends}
 
 -- What is known of one that is open, which has told its delimiter row or not, and of what was shown of it.
 pub record Tabled (table : TableSoFar) (is_told : Bool) (lines : ℕ → List Entry) (s : OutlineState) (r : Reading)

@@ -21,13 +21,12 @@ use Rattle.std.specs.Prelude.{ℕ, Bool, true, false, List, None}
 use Rattle.md_meaning.specs.declared.outline.Word.TheVariants as word
 use Rattle.md_meaning.specs.Outline.{Entry, block_entries, quote_word}
 use Rattle.md_seam.specs.Events.Spelled.{AsCell, AsDelimiter, AsDestination, AsDigits, AsFootnoteLabel, AsHeading}
-use Rattle.md_seam.specs.Events.Spelled.{AsInfo, AsItemMarker}
-use Rattle.md_seam.specs.Events.Spelled.{AsLabel, AsLine, AsMarkers, AsMeta, AsParagraph, AsTitle, BreakLeaf}
-use Rattle.md_seam.specs.Events.Spelled.{FootnoteShape, HeadingAtxLeaf, ContainerRole, IsCell, IsEnding, IsFence, IsPrefix}
-use Rattle.md_seam.specs.Events.Spelled.{IsQuiet, IsQuoteMarker, IsRow, IsTitle, ItemShape, LeafKind, OfBreak, OfCode}
-use Rattle.md_seam.specs.Events.Spelled.{OfDefinition, OfFence, OfFrontmatter, OfHeadingAtx, OfHeadingSetext, OfHtml}
-use Rattle.md_seam.specs.Events.Spelled.{OfMath, OfTable, OpenLeaf, LeafRole, OrderedShape, QuoteShape}
-use Rattle.md_seam.specs.Events.Spelled.{TextRole, UnorderedShape, block_of}
+use Rattle.md_seam.specs.Events.Spelled.{AsInfo, AsItemMarker, AsLabel, AsLine, AsMarkers, AsMeta, AsParagraph, AsTitle}
+use Rattle.md_seam.specs.Events.Spelled.{BreakLeaf, FootnoteShape, HeadingAtxLeaf, ContainerRole, IsCell, IsEnding}
+use Rattle.md_seam.specs.Events.Spelled.{IsFence, IsPrefix, IsQuiet, IsQuoteMarker, IsRow, IsTitle, ItemShape, LeafKind}
+use Rattle.md_seam.specs.Events.Spelled.{OfBreak, OfCode, OfDefinition, OfFence, OfFrontmatter, OfHeadingAtx}
+use Rattle.md_seam.specs.Events.Spelled.{OfHeadingSetext, OfHtml, OfMath, OfTable, OpenLeaf, LeafRole, OrderedShape}
+use Rattle.md_seam.specs.Events.Spelled.{QuoteShape, TextRole, UnorderedShape, block_of}
 use Rattle.md_seam.specs.Events.Spelled as spelled
 use Rattle.md_seam.specs.Events.Told.{OfItself, told_of}
 pub use Rattle.md_seam.specs.Events.Told.{is_told}

@@ -11,8 +11,7 @@ use Rattle.md_engine.specs.declared.event.Name.{Name}
 use Rattle.md_engine.specs.declared.event.Name.TheVariants as n
 use Rattle.md_containers.specs.Listed.{Place as ListPlace, given, is_item, place_after}
 use Rattle.md_leaves.specs.HeadingText.{begins, headings_resolved, is_heading}
-use Rattle.md_leaves.specs.Turned.{given_by, is_turned, on_by, turn, turned_from}
-use Rattle.md_leaves.specs.Turned.{passes as is_unturned}
+use Rattle.md_leaves.specs.Turned.{given_by, is_turned, on_by, turn, turned_from, passes as is_unturned}
 use Rattle.md_order.specs.InOrder.{in_order, set_if}
 use Rattle.md_order.specs.Left.{MayStay, Standing, ends_table, heading_len, is_passed, left_in, table_len}
 use Rattle.md_order.specs.declared.wanted.Wanted.{Wanted}

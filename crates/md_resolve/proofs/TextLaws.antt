@@ -1,10 +1,8 @@
 -- The text of an ATX heading, as the counts of the walks over its events set it.
 use Rattle.std.proofs.Common.{◌≡◌, ◌<◌, ◌≤◌, ◌+◌, ◌-◌, ℕ, zero, suc, Bool, true, false, cond, not, ◌&&◌, List, [], ◌∷◌}
-use Rattle.std.proofs.Common.{◌++◌}
-use Rattle.std.proofs.Common.{Option, Some, None, drop, take, length, get_or, refl, ap, ap₂, sym, ◌∙◌, subst, arith}
-use Rattle.std.proofs.Common.{add-one, add-zero, length-drop}
-use Rattle.std.proofs.Common.{append_assoc, append-nil, drop-cons, drop-drop, get_or-drop, length-take-le, take-add}
-use Rattle.std.proofs.Common.{take-append-drop, take-take}
+use Rattle.std.proofs.Common.{◌++◌, Option, Some, None, drop, take, length, get_or, refl, ap, ap₂, sym, ◌∙◌, subst}
+use Rattle.std.proofs.Common.{arith, add-one, add-zero, length-drop, append_assoc, append-nil, drop-cons, drop-drop}
+use Rattle.std.proofs.Common.{get_or-drop, length-take-le, take-add, take-append-drop, take-take}
 use Rattle.std.specs.List.{All, prefix_len}
 use Rattle.std.proofs.lemmas.List.{drop-take, take_all}
 use Rattle.std.proofs.lemmas.List.Elements.{All-cons, All-drop, All-head, All-nil, All-tail}
@@ -14,8 +12,7 @@ use Rattle.md_engine.specs.declared.event.Kind.TheVariants.{Enter, Exit}
 use Rattle.md_engine.specs.declared.event.Name.{Name}
 use Rattle.md_engine.specs.declared.event.Point.{Point}
 use Rattle.md_leaves.specs.HeadingText.{Before, Opened, Outside, Place, Within, begins, ends, headings_resolved}
-use Rattle.md_leaves.specs.HeadingText.{is_heading}
-use Rattle.md_leaves.specs.HeadingText.{is_run, is_sequence, resolved, text_between}
+use Rattle.md_leaves.specs.HeadingText.{is_heading, is_run, is_sequence, resolved, text_between}
 use Rattle.md_order.specs.Left.{heading_len}
 use Rattle.md_order.proofs.HeadStep.{heading-more, one-more}
 use Rattle.md_seam.specs.Events.Nested.{is_enter, is_exit}

@@ -5,10 +5,9 @@ use Rattle.md_engine.specs.declared.event.Point.{Point}
 use Rattle.md_engine.specs.declared.event.Event.{Event}
 use Rattle.md_engine.specs.declared.event.Name.{Name}
 use Rattle.md_seam.specs.Events.Nested.{exit, around}
-use Rattle.md_seam.specs.Events.Spelled.{Reading, Text, OpenLeaf, LeafKind, Role, LeafRole, TextRole, Purpose}
-use Rattle.md_seam.specs.Events.Spelled.{role, add_block, block_of, finished, fresh, begun}
-use Rattle.md_seam.specs.Events.Spelled.{text_to, told}
-use Rattle.md_seam.specs.Events.Spelled.{told_at, read_enter, read_exit, read}
+use Rattle.md_seam.specs.Events.Spelled.{Reading, Text, OpenLeaf, LeafKind, Role, LeafRole, TextRole, Purpose, role}
+use Rattle.md_seam.specs.Events.Spelled.{add_block, block_of, finished, fresh, begun, text_to, told, told_at}
+use Rattle.md_seam.specs.Events.Spelled.{read_enter, read_exit, read}
 use Rattle.md_seam.proofs.SpelledLemmas.{Roles, Between, read-append, read-text, text_after}
 
 -- events between an enter and its exit

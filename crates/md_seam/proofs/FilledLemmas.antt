@@ -10,9 +10,8 @@ use Rattle.md_engine.specs.declared.event.Kind.TheVariants.{Enter, Exit}
 use Rattle.md_engine.specs.declared.event.Name.{Name}
 use Rattle.md_engine.specs.declared.event.Name.TheVariants as n
 use Rattle.md_seam.specs.Events.Spelled.{Reading, Text, Purpose, Role, TextRole, IsQuiet, IsQuoteMarker}
-use Rattle.md_seam.specs.Events.Spelled.{is_before_blocks, kind_at, on_shape, with_kind}
-use Rattle.md_seam.specs.Events.Spelled.{IsPrefix, role, begun, before_prefix, after_prefix, read_by, read, unread}
-use Rattle.md_seam.specs.Events.Spelled.{spelled}
+use Rattle.md_seam.specs.Events.Spelled.{is_before_blocks, kind_at, on_shape, with_kind, IsPrefix, role, begun}
+use Rattle.md_seam.specs.Events.Spelled.{before_prefix, after_prefix, read_by, read, unread, spelled}
 use Rattle.md_seam.specs.Events.Inline.{is_linked, is_inline}
 use Rattle.md_seam.specs.Events.Tiles.{stands_in_part, is_data, is_part, is_chunk, depth_behind, chunks_stand}
 use Rattle.md_seam.specs.Events.Tiles.{first_list, further_lists, filled_from, filled}

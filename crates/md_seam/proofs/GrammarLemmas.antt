@@ -3,8 +3,7 @@ use Rattle.std.proofs.Common.{◌≡◌, Bool, true, false, cond, List, [], ◌�
 use Rattle.md_engine.specs.declared.event.Event.{Event}
 use Rattle.md_engine.specs.declared.event.Name.{Name}
 use Rattle.md_engine.specs.declared.event.Point.{Point}
-use Rattle.md_seam.specs.Events.Grammar.{Expression, behind, inside, left_behind}
-use Rattle.md_seam.specs.Events.Grammar.{left_of, may_end}
+use Rattle.md_seam.specs.Events.Grammar.{Expression, behind, inside, left_behind, left_of, may_end}
 use Rattle.md_seam.specs.Events.Inline.{pair_unless_empty}
 use Rattle.md_seam.specs.Events.Nested.{around, exit, pair}
 use Rattle.md_seam.specs.Events.Places.{same_place}

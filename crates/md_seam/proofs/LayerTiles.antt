@@ -21,8 +21,7 @@ use Rattle.md_seam.specs.Substituted.{Substituted, chunk_of, share, wanted}
 use Rattle.md_seam.specs.TextPart.{text_kind, text_readings, wants_text}
 use Rattle.md_seam.specs.Events.Nested.{Balanced, Fits, Forward, exit, is_exit, last_point, open_after, open_behind}
 use Rattle.md_seam.specs.Events.Places.{at_or_before, first_point, same_place}
-use Rattle.md_seam.specs.Events.Pieces.{begins_in_tab, ends_in_tab, piece_stands, piece_text, pieces_stand}
-use Rattle.md_seam.specs.Events.Pieces.{stands_over}
+use Rattle.md_seam.specs.Events.Pieces.{begins_in_tab, ends_in_tab, piece_stands, piece_text, pieces_stand, stands_over}
 use Rattle.md_seam.specs.Events.Inline.{Covers, Fills, IsPart, KeepsFrame, Part, Piece, cut_at, is_linked, is_one_line}
 use Rattle.md_seam.specs.Events.Inline.{piece_of, pieces, pieces_from, together}
 use Rattle.md_seam.specs.Events.Tiles.{EachRead, IsBlockList, Tiles, end_point, filled, filled_from, first_list}

@@ -1,6 +1,5 @@
 -- One space that is taken at once is what the states of whitespace take.
-use Rattle.std.proofs.Common.{◌≡◌, Bool, true, false, ◌&&◌, nat_lt, ◌∷◌, [], length}
-use Rattle.std.proofs.Common.{refl, ◌∙◌, ap, arith}
+use Rattle.std.proofs.Common.{◌≡◌, Bool, true, false, ◌&&◌, nat_lt, ◌∷◌, [], length, refl, ◌∙◌, ap, arith}
 use Rattle.md_engine.specs.declared.event.Name.TheVariants.{SpaceOrTab}
 use Rattle.md_engine.specs.declared.state.Name.{Name as StateName}
 use Rattle.md_engine.specs.declared.state.Name.TheVariants as n

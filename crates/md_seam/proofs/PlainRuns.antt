@@ -1,6 +1,5 @@
 -- The plain layer goes over the text of a line at once.
-use Rattle.std.proofs.Common.{◌≡◌, ℕ, zero, suc, ◌+◌, ◌-◌, ◌≤◌, false, List, length, refl, ap, sym, ◌∙◌, subst}
-use Rattle.std.proofs.Common.{arith}
+use Rattle.std.proofs.Common.{◌≡◌, ℕ, zero, suc, ◌+◌, ◌-◌, ◌≤◌, false, List, length, refl, ap, sym, ◌∙◌, subst, arith}
 use Rattle.std.specs.Prelude.{◌==◌, slice_index, slice_range}
 use Rattle.md_engine.specs.Classes.{IsSpan}
 use Rattle.md_engine.specs.declared.class.Class.TheVariants.{Text}

@@ -11,10 +11,8 @@ use Rattle.md_seam.specs.Events.Places.{past_byte, past_text}
 use Rattle.md_seam.proofs.RestLines.{trim-white}
 use Rattle.md_tables.specs.Cells.{ends_row, first_is, is_white as is_white_name, row_ends}
 use Rattle.md_tables.specs.DelimiterCells.{delimiter_runs, value_part}
-use Rattle.md_tables.specs.DelimiterRule.{Apart, Colon, Filler}
-use Rattle.md_tables.specs.DelimiterRule.{Pipe, Run, Space, begun, closes, goes_on, opens}
-use Rattle.md_tables.specs.RowCells.{Cells, behind_pipe, cell_by, cells_of, onto}
-use Rattle.md_tables.specs.RowCells.{white_back, white_front, white_part}
+use Rattle.md_tables.specs.DelimiterRule.{Apart, Colon, Filler, Pipe, Run, Space, begun, closes, goes_on, opens}
+use Rattle.md_tables.specs.RowCells.{Cells, behind_pipe, cell_by, cells_of, onto, white_back, white_front, white_part}
 use Rattle.md_tables.proofs.PipeWalk.{dark-looks, pipe_runs}
 use Rattle.md_tables.proofs.RowCellLemmas.{behind_first, dark-cell, first-behind, first_cell}
 use Rattle.md_tables.proofs.RowCellLemmas.{left_of, onto-left, white_left}

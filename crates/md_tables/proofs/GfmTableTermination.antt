@@ -19,8 +19,7 @@ use Rattle.md_tables.specs.Delimiter.{IsOfDelimiter, delimiter_scheme, uncounted
 use Rattle.md_tables.specs.Delimiter.IsOfDelimiter.{Before, CellAfter, CellBefore, Filler, LeftAfter, Refused, RightAfter}
 use Rattle.md_tables.specs.Delimiter.IsOfDelimiter.{Start, ValueBefore}
 use Rattle.md_tables.specs.GfmTable.{asking_columns, begins_code, head_code, head_row_start_transition, may_head}
-use Rattle.md_tables.specs.GfmTable.{start_code}
-use Rattle.md_tables.specs.GfmTable.{table_owner, table_scheme, table_transition}
+use Rattle.md_tables.specs.GfmTable.{start_code, table_owner, table_scheme, table_transition}
 use Rattle.md_tables.specs.Row.{is_text, name_at, piece, row_scheme}
 use Rattle.md_tables.specs.declared.row.Place.{Place}
 use Rattle.md_tables.specs.declared.row.Place.TheVariants as place

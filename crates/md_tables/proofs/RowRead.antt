@@ -16,8 +16,7 @@ use Rattle.md_seam.specs.Events.Nested.{around, exit, pair}
 use Rattle.md_seam.specs.Events.Places.{past_byte, past_text, same_place}
 use Rattle.md_seam.specs.Events.Spelled.{AsCell, OpenLeaf, Reading, TableLeaf, Text, at_cell, at_row, begun, byte_at}
 use Rattle.md_seam.specs.Events.Spelled.{first_told, on_last, on_leaf, read, role, text_to, told_at}
-use Rattle.md_seam.proofs.SpelledLemmas.{Quiet, QuietOrEnding, Roles, read-from, read-inline, read-quiet}
-use Rattle.md_seam.proofs.SpelledLemmas.{roles-append}
+use Rattle.md_seam.proofs.SpelledLemmas.{Quiet, QuietOrEnding, Roles, read-from, read-inline, read-quiet, roles-append}
 use Rattle.md_tables.specs.RowCells.{Cells, Divides, Ends, Shut, cell_inside, cells_events, first_pipe, line_cells, past_pipe}
 use Rattle.md_tables.specs.RowCells.{pipe_part, read_text, row_events, text_part, white_back, white_front, white_part}
 use Rattle.md_tables.proofs.RowBytes.{Stands, cell-whole, cells_bytes, line-bytes, pipe_bytes, stands-first}

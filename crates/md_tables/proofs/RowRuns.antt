@@ -1,6 +1,5 @@
 -- The runs of a row byte by byte, as the walk that puts cells into rows meets them.
-use Rattle.std.proofs.Common.{◌≡◌, ℕ, Bool, true, false, cond, nat_eq, List, [], ◌∷◌, ◌++◌, refl, sym, ◌∙◌, ap}
-use Rattle.std.proofs.Common.{drop}
+use Rattle.std.proofs.Common.{◌≡◌, ℕ, Bool, true, false, cond, nat_eq, List, [], ◌∷◌, ◌++◌, refl, sym, ◌∙◌, ap, drop}
 use Rattle.std.specs.Prelude.{not}
 use Rattle.std.proofs.lemmas.Bool.{and_parts, eqb-true}
 use Rattle.md_engine.specs.declared.event.Event.{Event}
@@ -9,18 +8,14 @@ use Rattle.md_engine.specs.declared.event.Point.{Point}
 use Rattle.md_meaning.specs.Rest.{is_blank, is_white}
 use Rattle.md_seam.specs.Events.Nested.{enter, enter_link, exit}
 use Rattle.md_seam.specs.Events.Places.{past_byte, past_text}
-use Rattle.md_tables.specs.Cells.{begins_inner, ends_row, first_is, goes_on as text_goes_on}
-use Rattle.md_tables.specs.Cells.{row_ends}
+use Rattle.md_tables.specs.Cells.{begins_inner, ends_row, first_is, goes_on as text_goes_on, row_ends}
 use Rattle.md_tables.specs.Row.{text_link}
-use Rattle.md_tables.specs.RowCells.{Cells, cell_inside, cells_of, onto}
-use Rattle.md_tables.specs.RowCells.{row_runs, text_part, unread_text, white_part}
+use Rattle.md_tables.specs.RowCells.{Cells, cell_inside, cells_of, onto, row_runs, text_part, unread_text, white_part}
 use Rattle.md_tables.specs.RowRule.{Apart, Escaped, Pipe, Run, Text as TextRun, White, opens}
 use Rattle.md_tables.specs.declared.cells.RowKind.TheVariants.{Text}
 use Rattle.md_tables.proofs.PipeWalk.{dark-looks, pipe_runs}
-use Rattle.md_tables.proofs.RowCellLemmas.{cells-other, cells-white, cells-pipe, cells-none}
-use Rattle.md_tables.proofs.RowCellLemmas.{behind_first, first-behind, first-onto, first_cell, left_of}
-use Rattle.md_tables.proofs.RowCellLemmas.{onto-left, text_left}
-use Rattle.md_tables.proofs.RowCellLemmas.{white_left}
+use Rattle.md_tables.proofs.RowCellLemmas.{cells-other, cells-white, cells-pipe, cells-none, behind_first, first-behind}
+use Rattle.md_tables.proofs.RowCellLemmas.{first-onto, first_cell, left_of, onto-left, text_left, white_left}
 use Rattle.md_tables.proofs.WhiteEnds.{blank-first, dark-first}
 
 -- What is left of cells that hold texts: where the first begins, in the whitespace in front of its text, and in that.

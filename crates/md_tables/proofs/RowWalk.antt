@@ -12,8 +12,7 @@ use Rattle.md_meaning.specs.Rest.{is_blank, is_white, trim_start}
 use Rattle.md_seam.specs.Events.Nested.{enter, enter_link, exit}
 use Rattle.md_seam.specs.Events.Places.{past_byte, past_text}
 use Rattle.md_seam.proofs.RestLines.{trim-white}
-use Rattle.md_tables.specs.Cells.{celled, goes_on as text_goes_on}
-use Rattle.md_tables.specs.Cells.{piece_step}
+use Rattle.md_tables.specs.Cells.{celled, goes_on as text_goes_on, piece_step}
 use Rattle.md_tables.specs.Row.{text_link}
 use Rattle.md_tables.specs.RowCells.{Cells, Ends, behind_pipe, cell_inside, cells_events, cells_of, line_cells, onto}
 use Rattle.md_tables.specs.RowCells.{row_events, row_runs, text_part, unread_text, white_front, white_part}
@@ -21,15 +20,13 @@ use Rattle.md_tables.specs.RowRule.{Apart, White}
 use Rattle.md_tables.specs.declared.cells.RowKind.TheVariants.{Text}
 use Rattle.md_tables.specs.declared.cells.Stage.TheVariants.{Behind, Front, Gap, Inner, Within}
 use Rattle.md_tables.proofs.PipeWalk.{pipe-walk, white-behind}
-use Rattle.md_tables.proofs.RowCellLemmas.{cells-escaped, cells-other, cells-white, cells-pipe, cells-none}
-use Rattle.md_tables.proofs.RowCellLemmas.{cells-begin, first-behind, first_cell}
-use Rattle.md_tables.proofs.RowCellLemmas.{text-ends, text-first, text-more, text_left, white-blank, white-ends}
-use Rattle.md_tables.proofs.RowCellLemmas.{white-first, white-more, white_left}
+use Rattle.md_tables.proofs.RowCellLemmas.{cells-escaped, cells-other, cells-white, cells-pipe, cells-none, cells-begin}
+use Rattle.md_tables.proofs.RowCellLemmas.{first-behind, first_cell, text-ends, text-first, text-more, text_left}
+use Rattle.md_tables.proofs.RowCellLemmas.{white-blank, white-ends, white-first, white-more, white_left}
 use Rattle.md_tables.proofs.WhiteEnds.{blank-first, dark-first, front-none, front-one, start-none}
-use Rattle.md_tables.proofs.RowRuns.{behind, cells_left, left_in_white, left_in_text, onto-by, white-opens}
-use Rattle.md_tables.proofs.RowRuns.{white-on, word, word-white, piped, pipe-opens, pipe-white, pipe-text}
-use Rattle.md_tables.proofs.RowRuns.{word-opens, white-word, word-on, escaped-on, blank-white}
-use Rattle.md_tables.proofs.RowRuns.{blank-pipe, row_end, last-pipe, text-goes_on}
+use Rattle.md_tables.proofs.RowRuns.{behind, cells_left, left_in_white, left_in_text, onto-by, white-opens, white-on}
+use Rattle.md_tables.proofs.RowRuns.{word, word-white, piped, pipe-opens, pipe-white, pipe-text, word-opens, white-word}
+use Rattle.md_tables.proofs.RowRuns.{word-on, escaped-on, blank-white, blank-pipe, row_end, last-pipe, text-goes_on}
 use Rattle.md_tables.proofs.RowRuns.{blank-runs}
 
 -- What the walk gives for what is left of a row, by where it stands.

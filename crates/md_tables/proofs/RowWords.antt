@@ -23,8 +23,7 @@ use Rattle.md_engine.specs.Staying.{SeesSome, stayed}
 use Rattle.md_engine.specs.Staying.SeesSome.{Nothing, OneMore}
 use Rattle.md_engine.specs.World.{Setting, World, after, looks, looks_at}
 use Rattle.md_engine.proofs.Keeps.{runs-setting}
-use Rattle.md_engine.proofs.Loops.{CameHere, call-sees, came-calls, came-first, came-runs, not_error}
-use Rattle.md_engine.proofs.Loops.{reading-same}
+use Rattle.md_engine.proofs.Loops.{CameHere, call-sees, came-calls, came-first, came-runs, not_error, reading-same}
 use Rattle.md_engine.proofs.Points.{cells-fall}
 use Rattle.md_engine.proofs.StayLemmas.{seen-inside, some-falls, some-setting}
 use Rattle.md_engine.proofs.Walks.{TakesSo, Within, then-seen, then-stays, then-takes, then-waits}
@@ -36,9 +35,8 @@ use Rattle.md_seam.specs.Spaces.{any_size, sees_white, white_then}
 use Rattle.md_seam.specs.Stays.{TakesEach}
 use Rattle.md_seam.specs.Transition.{Transition, entered_link, exited, taken}
 use Rattle.md_seam.proofs.OneSpace.{HasWhite, space-run}
-use Rattle.md_tables.specs.Row.{Piece, at_break_code, begun, behind_part}
-use Rattle.md_tables.specs.Row.{data_code, escape_code, is_escaped, is_text, name_at, piece, piece_of, place_of}
-use Rattle.md_tables.specs.Row.{row_transition, shut, state_at, text_link}
+use Rattle.md_tables.specs.Row.{Piece, at_break_code, begun, behind_part, data_code, escape_code, is_escaped, is_text}
+use Rattle.md_tables.specs.Row.{name_at, piece, piece_of, place_of, row_transition, shut, state_at, text_link}
 use Rattle.md_tables.specs.Row.Piece.{Ends, White, Divides, Escapes, Other}
 use Rattle.md_tables.specs.RowWords.{Goes, GoesTo, IsGap, Passes, RowStep, TakesTo, divided, is_backslash}
 use Rattle.md_tables.specs.RowWords.IsGap.{NoSpace, OneSpace}
