@@ -1,1 +1,2 @@
+pub mod FenceLines
 pub mod LineEnds

@@ -25,7 +25,7 @@ ghost use Rattle.md_seam.specs.Transition.{IsAt, NeedsNothing};
 ghost use Rattle.md_engine.specs.declared.state.flow.State.{State as FlowState};
 ghost use Rattle.md_engine.specs.declared.state.heading_atx.State.{State as HeadingState};
 
-use crate::{constructs, document, flow};
+use crate::{constructs, document, fences, flow};
 use md_content::content;
 use md_engine::or_error;
 use md_engine::state::content::State as ContentState;
@@ -239,7 +239,7 @@ fn containers_new(tokenizer: &mut Tokenizer) -> State
     if choices::opens_none(tokenizer.current) {
         pass_openers(tokenizer);
         if choices::goes_inside(tokenizer.flags.leaf) {
-            document::flow_inside(tokenizer)
+            fences::inside(tokenizer)
         } else {
             rest_begins(tokenizer)
         }
@@ -261,7 +261,7 @@ fn behind_containers(tokenizer: &mut Tokenizer) -> State
 {
     document::containers_after(tokenizer);
     if choices::goes_inside(tokenizer.flags.leaf) {
-        document::flow_inside(tokenizer)
+        fences::inside(tokenizer)
     } else if blank_line::ends_line(tokenizer.current) {
         flow::blank_line_after(tokenizer);
         document::flow_end(tokenizer)
@@ -381,7 +381,7 @@ fn accepted(tokenizer: &mut Tokenizer, shuts: bool) -> State
 
 /// Ends a line whose leaf has accepted it.
 #[inline(always)]
-fn end(tokenizer: &mut Tokenizer, to: State) -> State
+pub fn end(tokenizer: &mut Tokenizer, to: State) -> State
     ensures fine { result ≢ State.Error → to ≢ State.Error }
     ensures goes_on { result ≢ State.Error → GoesOn to (world tokenizer.old) result (world tokenizer.new) }
 {

@@ -4,5 +4,6 @@
 mod at_once;
 mod constructs;
 pub mod document;
+mod fences;
 pub mod flow;
 pub mod resolve;

@@ -1,10 +1,9 @@
-use Rattle.std.proofs.Common.{◌≡◌, ◌≢◌, ◌∙◌, Bool, ap, false, inl, subst, sym, true}
+use Rattle.std.proofs.Common.{◌≡◌, ◌∙◌, Bool, ap, false, inl, subst, sym, true}
 use Rattle.std.specs.Option.{is_some}
 use Rattle.md_engine.specs.Going.{SeesOn}
 use Rattle.md_engine.specs.Run.{RunsHere}
 use Rattle.md_engine.specs.declared.state.State.{State}
-use Rattle.md_engine.specs.declared.state.State.TheVariants.{Error}
-use Rattle.md_registry.specs.Flow.{inside_transition, leaf_front}
+use Rattle.md_registry.specs.Flow.{leaf_front}
 use Rattle.md_registry.specs.Registry.{asked_first}
 use Rattle.md_engine.proofs.Walks.{Within}
 use Rattle.md_engine.specs.World.{World, looks, world}
@@ -16,16 +15,16 @@ use Rattle.md_engine.proofs.StayLemmas.{within-world}
 use Rattle.md_seam.specs.Spaces.{ends_line}
 use Rattle.md_registry.specs.LineFlags.{begun_line, blanked}
 use Rattle.md_registry.specs.States.{FlowStep}
-use Rattle.md_registry.proofs.LinesAtOnce.{ends-with, inside-leaves, line-begun, line-blank, line-front, line-leaves}
+use Rattle.md_registry.proofs.LinesAtOnce.{ends-with, line-begun, line-blank, line-front, line-leaves}
 use Rattle.md_registry.proofs.LinesAtOnce.{line-over, runs-on, starts-blank}
 use Rattle.md_flow.proofs.at_once.behind_containers.Goals as goal
 
 -- where the leaf that is open is asked first
-inside : (w u : World) → u ≡ record w { flags = begun_line w.flags } → w.current ≡ looks w → Within w → Within u →
-    (to : State) (new : World) → is_some (asked_first u.flags.leaf) ≡ true →
-    to ≡ (inside_transition u).to → new ≡ (inside_transition u).world → to ≢ Error →
+inside : (w u : World) → u ≡ record w { flags = begun_line w.flags } → w.current ≡ looks w → Within w → (to : State)
+    (new : World) → is_some (asked_first u.flags.leaf) ≡ true →
+    RunsHere FlowStep (n.Document document.FlowInside) u to new → SeesOn to u new →
     RunsHere FlowStep (n.Document document.ContainersAfter) w to new × SeesOn to w new
-inside w u begun seen within there to new asked to_is new_is fine =
+inside w u begun seen within to new asked runs sees =
     let first = n.Document document.ContainersAfter in
     let came : CameHere FlowStep first w (n.Document document.FlowInside) u = λ is_end s v named sees may.
     subst (λ (x : Bool). CameTo FlowStep is_end s v (leaf_front x) u) asked
@@ -33,8 +32,8 @@ inside w u begun seen within there to new asked to_is new_is fine =
     (λ (x : World). CameTo FlowStep is_end s v (leaf_front (is_some (asked_first x.flags.leaf))) x) (sym begun)
     (line-front is_end s v w seen within
     (came-first FlowStep first w is_end s v named sees may))) in
-    ends-with first (n.Document document.FlowInside) w u to new came (inside-leaves u) to_is new_is fine
-    (subst (λ (x : World). x.current ≡ looks x) (sym begun) seen) there (ap (λ (x : World). x.point) begun)
+    runs-on first (n.Document document.FlowInside) w u to new came runs sees
+    (subst (λ (x : World). x.current ≡ looks x) (sym begun) seen) (inl (ap (λ (x : World). x.point) begun))
 
 -- and else the rest of the line follows
 rest-follows : (w u : World) → u ≡ record w { flags = begun_line w.flags } →
@@ -48,16 +47,14 @@ rest-follows w u begun outside seen within is_end s v named sees may =
 pub returns-then-goes_inside-clause-runs : goal.returns-then-goes_inside-clause-runs
 returns-then-goes_inside-clause-runs c = λ fine.
     (inside (world c.args.tokenizer.now) (world c.containers_after.new.tokenizer) c.containers_after.ensures.world
-    c.requires.current (within-world c.args.tokenizer.now) (within-world c.containers_after.new.tokenizer)
-    c.flow_inside.result (world c.flow_inside.new.tokenizer) (sym c.goes_inside.ensures ∙ c.if-goes_inside.true)
-    (c.flow_inside.ensures.to fine) (c.flow_inside.ensures.world fine) fine).0
+    c.requires.current (within-world c.args.tokenizer.now) c.inside.result (world c.inside.new.tokenizer)
+    (sym c.goes_inside.ensures ∙ c.if-goes_inside.true) (c.inside.ensures.runs fine) (c.inside.ensures.sees fine)).0
 
 pub returns-then-goes_inside-clause-sees : goal.returns-then-goes_inside-clause-sees
 returns-then-goes_inside-clause-sees c = λ fine.
     (inside (world c.args.tokenizer.now) (world c.containers_after.new.tokenizer) c.containers_after.ensures.world
-    c.requires.current (within-world c.args.tokenizer.now) (within-world c.containers_after.new.tokenizer)
-    c.flow_inside.result (world c.flow_inside.new.tokenizer) (sym c.goes_inside.ensures ∙ c.if-goes_inside.true)
-    (c.flow_inside.ensures.to fine) (c.flow_inside.ensures.world fine) fine).1
+    c.requires.current (within-world c.args.tokenizer.now) c.inside.result (world c.inside.new.tokenizer)
+    (sym c.goes_inside.ensures ∙ c.if-goes_inside.true) (c.inside.ensures.runs fine) (c.inside.ensures.sees fine)).1
 
 pub returns-then-ends_line-clause-runs : goal.returns-then-ends_line-clause-runs
 returns-then-ends_line-clause-runs c = λ fine.

@@ -6,7 +6,7 @@ use Rattle.md_engine.specs.declared.state.State.{State}
 use Rattle.md_engine.specs.declared.state.State.TheVariants.{Error}
 use Rattle.md_engine.specs.declared.state.document.State.TheVariants as document
 use Rattle.md_engine.specs.declared.state.flow.State.TheVariants as flow
-use Rattle.md_registry.specs.Flow.{inside_transition, leaf_front, opener_transition}
+use Rattle.md_registry.specs.Flow.{leaf_front, opener_transition}
 use Rattle.md_engine.proofs.Walks.{Within}
 use Rattle.md_engine.specs.World.{World, looks, world}
 use Rattle.md_engine.specs.declared.state.Name.TheVariants as n
@@ -17,16 +17,16 @@ use Rattle.md_seam.specs.Transition.{Transition}
 use Rattle.md_registry.specs.AtOnce.{opens_none, openers_passed}
 use Rattle.md_registry.specs.Registry.{asked_first, opener_at, opener_front, openers}
 use Rattle.md_registry.specs.States.{FlowStep}
-use Rattle.md_registry.proofs.LinesAtOnce.{ends-with, inside-leaves, passes-front, tried-opener-leaves}
+use Rattle.md_registry.proofs.LinesAtOnce.{ends-with, passes-front, tried-opener-leaves}
 use Rattle.md_registry.proofs.LinesAtOnce.{passes-openers, runs-on}
 use Rattle.md_flow.proofs.at_once.containers_new.Goals as goal
 
 -- where the leaf that is open is asked first
 inside : (w u : World) → u ≡ openers_passed w → opens_none w.current ≡ true → w.current ≡ looks w → Within w →
-    Within u → (to : State) (new : World) → is_some (asked_first u.flags.leaf) ≡ true →
-    to ≡ (inside_transition u).to → new ≡ (inside_transition u).world → to ≢ Error →
+    (to : State) (new : World) → is_some (asked_first u.flags.leaf) ≡ true →
+    RunsHere FlowStep (n.Document document.FlowInside) u to new → SeesOn to u new →
     RunsHere FlowStep (n.Document (opener_front openers)) w to new × SeesOn to w new
-inside w u passed none seen within there to new asked to_is new_is fine =
+inside w u passed none seen within to new asked runs sees =
     let first = n.Document (opener_front openers) in
     let came : CameHere FlowStep first w (n.Document document.FlowInside) u = λ is_end s v named sees may.
     subst (λ (x : Bool). CameTo FlowStep is_end s v (leaf_front x) u) asked
@@ -34,26 +34,24 @@ inside w u passed none seen within there to new asked to_is new_is fine =
     (λ (x : World). CameTo FlowStep is_end s v (leaf_front (is_some (asked_first x.flags.leaf))) x) (sym passed)
     (passes-front is_end s v w none seen within
     (came-first FlowStep first w is_end s v named sees may))) in
-    ends-with first (n.Document document.FlowInside) w u to new came (inside-leaves u) to_is new_is fine
-    (subst (λ (x : World). x.current ≡ looks x) (sym passed) seen) there (ap (λ (x : World). x.point) passed)
+    runs-on first (n.Document document.FlowInside) w u to new came runs sees
+    (subst (λ (x : World). x.current ≡ looks x) (sym passed) seen) (inl (ap (λ (x : World). x.point) passed))
 
 pub returns-then-goes_inside-clause-runs : goal.returns-then-goes_inside-clause-runs
 returns-then-goes_inside-clause-runs c = λ fine.
     let w = world c.args.tokenizer.now in
     let none : opens_none w.current ≡ true = sym c.opens_none.ensures ∙ c.if-opens_none.true in
     (inside w (world c.pass_openers.new.tokenizer) c.pass_openers.ensures none c.requires.current
-    (within-world c.args.tokenizer.now) (within-world c.pass_openers.new.tokenizer) c.flow_inside.result
-    (world c.flow_inside.new.tokenizer) (sym c.goes_inside.ensures ∙ c.if-goes_inside.true)
-    (c.flow_inside.ensures.to fine) (c.flow_inside.ensures.world fine) fine).0
+    (within-world c.args.tokenizer.now) c.inside.result (world c.inside.new.tokenizer)
+    (sym c.goes_inside.ensures ∙ c.if-goes_inside.true) (c.inside.ensures.runs fine) (c.inside.ensures.sees fine)).0
 
 pub returns-then-goes_inside-clause-sees : goal.returns-then-goes_inside-clause-sees
 returns-then-goes_inside-clause-sees c = λ fine.
     let w = world c.args.tokenizer.now in
     let none : opens_none w.current ≡ true = sym c.opens_none.ensures ∙ c.if-opens_none.true in
     (inside w (world c.pass_openers.new.tokenizer) c.pass_openers.ensures none c.requires.current
-    (within-world c.args.tokenizer.now) (within-world c.pass_openers.new.tokenizer) c.flow_inside.result
-    (world c.flow_inside.new.tokenizer) (sym c.goes_inside.ensures ∙ c.if-goes_inside.true)
-    (c.flow_inside.ensures.to fine) (c.flow_inside.ensures.world fine) fine).1
+    (within-world c.args.tokenizer.now) c.inside.result (world c.inside.new.tokenizer)
+    (sym c.goes_inside.ensures ∙ c.if-goes_inside.true) (c.inside.ensures.runs fine) (c.inside.ensures.sees fine)).1
 
 pub returns-else-goes_inside-clause-runs : goal.returns-else-goes_inside-clause-runs
 returns-else-goes_inside-clause-runs c = λ fine.

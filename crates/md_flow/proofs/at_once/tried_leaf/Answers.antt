@@ -1,6 +1,4 @@
-use Rattle.std.proofs.Common.{◌≡◌, ◌-◌, ◌∙◌, Option, Some, length, slice_get, sym}
-use Rattle.md_engine.specs.World.{world}
-use Rattle.md_engine.specs.declared.tokenizer.Frame.{Frame}
+use Rattle.std.proofs.Common.{◌≡◌, ◌-◌, Some, length, slice_get, sym}
 use Rattle.md_flow.proofs.LineEnds.{innermost-tried}
 use Rattle.md_flow.proofs.at_once.tried_leaf.Goals as goal
 

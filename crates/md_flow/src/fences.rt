@@ -1,0 +1,181 @@
+// Further lines of fenced code and math that are taken in one call.
+//
+// A line that closes no fence goes from state to state up to its end. Here these states are called one behind the
+// other, what is left of the line is taken at once between them, and the line ends. Each function is a run of the
+// states (`RunsHere`), so the pages of the states can be read without this one.
+
+ghost use Rattle.std.specs.Prelude.{◌≡◌, ◌≢◌, true};
+ghost use Rattle.md_code.specs.Fence.{FenceNeeds};
+ghost use Rattle.md_engine.specs.Going.{SeesOn};
+ghost use Rattle.md_engine.specs.Run.{RunsHere};
+ghost use Rattle.md_engine.specs.World.{world};
+ghost use Rattle.md_engine.specs.declared.state.Name.{Name as StateName};
+ghost use Rattle.md_engine.specs.declared.state.State.{State};
+ghost use Rattle.md_engine.specs.declared.state.document.State.{State as DocumentState};
+ghost use Rattle.md_engine.specs.declared.state.raw_flow.State.{State as RawState};
+ghost use Rattle.md_registry.specs.States.{FlowStep};
+ghost use Rattle.md_seam.specs.Transition.{IsAt, NeedsNothing};
+
+use crate::at_once::end;
+use crate::document;
+use md_code::raw_flow;
+use md_engine::state::raw_flow::State as RawState;
+use md_engine::state::{Name as StateName, State};
+use md_engine::tokenizer::Tokenizer;
+use md_leaves::blank_line;
+
+/// Whether what is left of a line is next.
+#[inline(always)]
+fn is_chunk(state: State) -> bool
+    ensures { result ≡ true → state ≡ State.Retry (StateName.RawFlow RawState.ContentChunk) }
+{
+    match state {
+        State::Retry(StateName::RawFlow(RawState::ContentChunk)) => true,
+        _ => false,
+    }
+}
+
+/// Whether the point before what is left of a line is next.
+#[inline(always)]
+fn is_rest(state: State) -> bool
+    ensures { result ≡ true → state ≡ State.Retry (StateName.RawFlow RawState.BeforeContentChunk) }
+{
+    match state {
+        State::Retry(StateName::RawFlow(RawState::BeforeContentChunk)) => true,
+        _ => false,
+    }
+}
+
+/// Whether a line that is no closing fence is next.
+#[inline(always)]
+fn is_start(state: State) -> bool
+    ensures { result ≡ true → state ≡ State.Retry (StateName.RawFlow RawState.ContentStart) }
+{
+    match state {
+        State::Retry(StateName::RawFlow(RawState::ContentStart)) => true,
+        _ => false,
+    }
+}
+
+/// Whether a further line is next.
+#[inline(always)]
+fn is_further(state: State) -> bool
+    ensures { result ≡ true → state ≡ State.Retry (StateName.RawFlow RawState.AtNonLazyBreak) }
+{
+    match state {
+        State::Retry(StateName::RawFlow(RawState::AtNonLazyBreak)) => true,
+        _ => false,
+    }
+}
+
+/// In a line: the rest of it is taken at once.
+#[inline(always)]
+fn chunk(tokenizer: &mut Tokenizer) -> State
+    requires { IsAt FenceNeeds (StateName.RawFlow RawState.ContentChunk) (world tokenizer.old) }
+    ensures runs { result ≢ State.Error →
+        RunsHere FlowStep
+        (StateName.RawFlow RawState.ContentChunk) (world tokenizer.old) result (world tokenizer.new) }
+    ensures sees { result ≢ State.Error → SeesOn result (world tokenizer.old) (world tokenizer.new) }
+{
+    if blank_line::ends_line(tokenizer.current) {
+        return raw_flow::content_chunk(tokenizer);
+    }
+    tokenizer.see_line();
+    if tokenizer.see_or_wait(false) {
+        return State::Next(StateName::RawFlow(RawState::ContentChunk));
+    }
+    raw_flow::content_chunk(tokenizer)
+}
+
+/// In a line: the rest of it is taken at once, and the line is done.
+#[inline(always)]
+fn chunk_done(tokenizer: &mut Tokenizer) -> State
+    requires { IsAt FenceNeeds (StateName.RawFlow RawState.ContentChunk) (world tokenizer.old) }
+    ensures runs { result ≢ State.Error →
+        RunsHere FlowStep
+        (StateName.RawFlow RawState.ContentChunk) (world tokenizer.old) result (world tokenizer.new) }
+    ensures sees { result ≢ State.Error → SeesOn result (world tokenizer.old) (world tokenizer.new) }
+{
+    let to = chunk(tokenizer);
+    if is_rest(to) {
+        return raw_flow::before_content_chunk(tokenizer);
+    }
+    to
+}
+
+/// Before what is left of a line: it is taken at once.
+#[inline(always)]
+fn rest(tokenizer: &mut Tokenizer) -> State
+    requires { IsAt FenceNeeds (StateName.RawFlow RawState.BeforeContentChunk) (world tokenizer.old) }
+    ensures runs { result ≢ State.Error →
+        RunsHere FlowStep
+        (StateName.RawFlow RawState.BeforeContentChunk) (world tokenizer.old) result (world tokenizer.new) }
+    ensures sees { result ≢ State.Error → SeesOn result (world tokenizer.old) (world tokenizer.new) }
+{
+    let to = raw_flow::before_content_chunk(tokenizer);
+    if is_chunk(to) {
+        return chunk_done(tokenizer);
+    }
+    to
+}
+
+/// Before a line that is no closing fence: it is taken at once.
+#[inline(always)]
+fn taken(tokenizer: &mut Tokenizer) -> State
+    requires { IsAt FenceNeeds (StateName.RawFlow RawState.ContentStart) (world tokenizer.old) }
+    ensures runs { result ≢ State.Error →
+        RunsHere FlowStep
+        (StateName.RawFlow RawState.ContentStart) (world tokenizer.old) result (world tokenizer.new) }
+    ensures sees { result ≢ State.Error → SeesOn result (world tokenizer.old) (world tokenizer.new) }
+{
+    let to = raw_flow::content_start(tokenizer);
+    if is_rest(to) {
+        return rest(tokenizer);
+    }
+    to
+}
+
+/// Before a line that is no closing fence: it is taken at once, and ends.
+#[inline(never)]
+fn line(tokenizer: &mut Tokenizer) -> State
+    requires { IsAt FenceNeeds (StateName.RawFlow RawState.ContentStart) (world tokenizer.old) }
+    ensures runs { result ≢ State.Error →
+        RunsHere FlowStep
+        (StateName.RawFlow RawState.ContentStart) (world tokenizer.old) result (world tokenizer.new) }
+    ensures sees { result ≢ State.Error → SeesOn result (world tokenizer.old) (world tokenizer.new) }
+{
+    let to = taken(tokenizer);
+    end(tokenizer, to)
+}
+
+/// Before a further line: one that closes no fence by its first byte is taken at once, and ends.
+#[inline(always)]
+fn further(tokenizer: &mut Tokenizer) -> State
+    requires { IsAt FenceNeeds (StateName.RawFlow RawState.AtNonLazyBreak) (world tokenizer.old) }
+    ensures runs { result ≢ State.Error →
+        RunsHere FlowStep
+        (StateName.RawFlow RawState.AtNonLazyBreak) (world tokenizer.old) result (world tokenizer.new) }
+    ensures sees { result ≢ State.Error → SeesOn result (world tokenizer.old) (world tokenizer.new) }
+{
+    let to = raw_flow::at_non_lazy_break(tokenizer);
+    if is_start(to) {
+        return line(tokenizer);
+    }
+    to
+}
+
+/// Behind all containers of a line, where a leaf is open: a further line of a fence is taken at once.
+#[inline(always)]
+pub fn inside(tokenizer: &mut Tokenizer) -> State
+    requires { IsAt NeedsNothing (StateName.Document DocumentState.FlowInside) (world tokenizer.old) }
+    ensures runs { result ≢ State.Error →
+        RunsHere FlowStep
+        (StateName.Document DocumentState.FlowInside) (world tokenizer.old) result (world tokenizer.new) }
+    ensures sees { result ≢ State.Error → SeesOn result (world tokenizer.old) (world tokenizer.new) }
+{
+    let to = document::flow_inside(tokenizer);
+    if is_further(to) {
+        return further(tokenizer);
+    }
+    to
+}
