@@ -1,12 +1,9 @@
 -- What the table of the document has read of a text: its mark and its frontmatter.
 use Rattle.std.proofs.Common.{◌≡◌, ◌+◌, ◌^◌, ◌<◌, ◌≤◌, ℕ, suc, Bool, true, false, cond, nat_eq, nat_lt, ◌&&◌, ◌||◌}
-use Rattle.md_registry.specs.Flow.{inside_code}
-use Rattle.md_frame.specs.LeafName.{LeafName}
-use Rattle.md_registry.specs.Registry.{asked_first}
 use Rattle.std.proofs.Common.{List, [], ◌∷◌, ◌++◌, length, take, drop, Option, Some, None, refl, sym, ◌∙◌, ap, subst}
 use Rattle.std.proofs.Common.{append-nil}
 use Rattle.std.proofs.Common.{arith}
-use Rattle.std.specs.Prelude.{◌==◌, nat_le, slice_index}
+use Rattle.std.specs.Prelude.{◌==◌, slice_index}
 use Rattle.std.specs.List.{list_all}
 use Rattle.std.specs.Cmp.Lexicographic.{pointwise}
 use Rattle.std.proofs.lemmas.Bool.{and_parts, eqb-true}
@@ -16,61 +13,41 @@ use Rattle.md_engine.specs.declared.configuration.ParseOptions.{ParseOptions}
 use Rattle.md_engine.specs.declared.event.Event.{Event}
 use Rattle.md_engine.specs.declared.event.Name.TheVariants.{ByteOrderMark}
 use Rattle.md_engine.specs.declared.event.Point.{Point}
-use Rattle.md_engine.specs.declared.state.Name.{Name as StateName}
 use Rattle.md_engine.specs.declared.state.Name.TheVariants as s
-use Rattle.md_engine.specs.declared.state.bom.State.TheVariants as bom_state
 use Rattle.md_engine.specs.declared.state.document.State.TheVariants as document
-use Rattle.md_engine.specs.declared.state.frontmatter.State.{State as FrontState}
-use Rattle.md_engine.specs.declared.state.frontmatter.State.TheVariants as its
-use Rattle.md_engine.specs.declared.state.space_or_tab.State.{State as WhiteState}
-use Rattle.md_engine.specs.declared.state.space_or_tab.State.TheVariants as white
 use Rattle.md_engine.specs.declared.state.State.{State}
 use Rattle.md_engine.specs.declared.state.State.TheVariants.{Error, Ok, Nok, Next, Retry}
-use Rattle.md_engine.specs.declared.tokenizer.container.Container.{Container}
-use Rattle.md_engine.specs.declared.tokenizer.container.name.ContainerKind.{ContainerKind}
-use Rattle.md_engine.specs.declared.tokenizer.Frame.{Frame}
 use Rattle.md_engine.specs.declared.tokenizer.Scratch.{Scratch}
 use Rattle.md_engine.specs.Found.{Found}
 use Rattle.md_engine.specs.Meaning.{Accepts, Cell, Follows, Here, Outcome, Refuses, comes_to, goes, here}
 use Rattle.md_engine.specs.Place.{first_point, seen_at}
-use Rattle.md_engine.specs.Run.{Flushes, IsEnd, Resolution, Runs, goes_back, left, plain, reading}
-use Rattle.md_engine.specs.Run.Runs.{Stays, ThenCalls, ThenLeaves}
+use Rattle.md_engine.specs.Run.{Flushes, IsEnd, Resolution, Runs, plain}
 use Rattle.md_engine.specs.Scheme.{stands}
 use Rattle.md_engine.specs.Standing.{MeansAt}
 use Rattle.md_engine.specs.TextFeed.{text_feed}
-use Rattle.md_engine.specs.World.{Setting, World, after, closed, container_of, fresh, reads_to}
+use Rattle.md_engine.specs.World.{Setting, World, after, fresh, reads_to}
 use Rattle.md_engine.proofs.Keeps.{runs-setting}
 use Rattle.md_engine.proofs.Standing.{runs-mean}
 use Rattle.md_engine.proofs.TextFeed.{flush-means, text-follows}
-use Rattle.md_containers.specs.Frontmatter as fm
 use Rattle.md_containers.specs.Frontmatter.{cleared}
 use Rattle.md_meaning.specs.Lines.{full_lines_of}
-use Rattle.md_leaves.specs.Heading.{without_size}
-use Rattle.md_seam.specs.Spaces as spaces
-use Rattle.md_seam.specs.Transition.{Transition}
-use Rattle.md_leaves.specs.Bom as bom
-use Rattle.md_leaves.specs.Bom.{mark, mark_at}
+use Rattle.md_leaves.specs.Bom.{mark}
 use Rattle.md_leaves.specs.BomRule.{are_next, bom_at}
 use Rattle.md_seam.specs.Ahead.{point_after}
 use Rattle.md_seam.specs.Events.Nested.{pair}
 use Rattle.md_meaning.specs.Preamble.{has_mark}
-use Rattle.md_seam.specs.Look.{looks_behind, may_with}
-use Rattle.md_seam.specs.Spaces.{IsRest, ends_line, is_current, sees_white, white_transition}
-use Rattle.md_registry.specs.Document.{DocumentStep, ReadsFront, document_table_scheme, document_transition}
+use Rattle.md_seam.specs.Spaces.{IsRest}
+use Rattle.md_registry.specs.Document.{DocumentStep, ReadsFront, document_table_scheme}
 use Rattle.md_front_rooms.specs.Front.{FrontRead, body_point, events_of, front_events, front_read, mark_end, point_or}
 use Rattle.md_front_rooms.specs.Front.{text_front}
 use Rattle.md_front_rooms.specs.DocumentRule.{behind_front, document_at, document_behaves}
-use Rattle.md_registry.specs.Flow.{existing_before_code, flow_end_code, opener_transition, trial_code}
-use Rattle.md_registry.specs.Registry.{may_go_on, may_open, opener_at}
 use Rattle.md_rows.specs.TextRows.{text_cells, text_setting}
 use Rattle.md_frame.specs.Rule.{tried}
-use Rattle.md_registry.specs.LineFlags.{asking, next_container, kept_containers}
 use Rattle.md_front_rooms.proofs.FrontAgrees.{Begins, IsWhole, comes, front-agrees}
 use Rattle.md_registry.proofs.DocumentMeans.{document_table_means, document_stands}
 use Rattle.md_seam.proofs.FeedLines.{feed-next, feed-none, line-feed, past-next}
 use Rattle.md_seam.proofs.PlacesLemmas.{at-next}
 use Rattle.md_meaning.proofs.PreambleLemmas.{mark-bytes, mark-length}
-use Rattle.markdown_blocks.proofs.FlowReads.{resolved-none}
 
 -- The mark among the cells.
 
@@ -301,135 +278,6 @@ document-accepts bytes options small = go (has_mark bytes) refl
           ap onward (bom-none cells (begun bytes options) (text-marked bytes options small ∙ e)) ∙ ends.2,
         )
 
--- No resolver is registered.
-
-bom-start : (w : World) (b : Bool) → (bom.start_code w b).world.resolvers ≡ w.resolvers
-bom-start w true = refl
-bom-start w false = refl
-
-bom-inside : (w : World) (a b : Bool) → (bom.inside_code w a b).world.resolvers ≡ w.resolvers
-bom-inside w true true = refl
-bom-inside w true false = refl
-bom-inside w false b = refl
-
-trial-resolvers : (start ok nok : StateName) (w : World) (b : Bool) →
-    (trial_code start ok nok w b).world.resolvers ≡ w.resolvers
-trial-resolvers start ok nok w true = refl
-trial-resolvers start ok nok w false = refl
-
-existing-resolvers : (w : World) (ends : Bool) (o : Option Container) →
-    (existing_before_code w ends o).world.resolvers ≡ w.resolvers
-existing-resolvers w true o = refl
-existing-resolvers w false None = refl
-existing-resolvers w false (Some c) = trial-resolvers _ _ _ (asking c w) (may_with (may_go_on c.kind) (looks_behind w))
-
-inside-resolvers : (w : World) (o : Option LeafName) → (inside_code w o).world.resolvers ≡ w.resolvers
-inside-resolvers w None = refl
-inside-resolvers w (Some l) = refl
-
-opener-resolvers : (w : World) (o : Option ContainerKind) → (opener_transition o w).world.resolvers ≡ w.resolvers
-opener-resolvers w None = refl
-opener-resolvers w (Some k) =
-    trial-resolvers _ _ _ (asking (container_of k) w) (may_with (may_open k) (looks_behind w))
-
-end-resolvers : (w : World) (o : Option ℕ) → (flow_end_code w o).world.resolvers ≡ w.resolvers
-end-resolvers w None = refl
-end-resolvers w (Some b) = go (b == 10) refl
-  where
-    go : (x : Bool) → (b == 10) ≡ x → (flow_end_code w (Some b)).world.resolvers ≡ w.resolvers
-    go true e = rw e refl
-    go false e = rw e refl
-
-white-resolvers : (state : WhiteState) (w : World) → (white_transition state w).world.resolvers ≡ w.resolvers
-white-resolvers white.Start w = go (sees_white w.current && nat_lt 0 w.scratch.whitespace.max)
-  where
-    go : (x : Bool) → (spaces.start_code w x).world.resolvers ≡ w.resolvers
-    go true = refl
-    go false = refl
-white-resolvers white.Inside w = go (sees_white w.current && nat_lt w.scratch.whitespace.size w.scratch.whitespace.max)
-  where
-    go : (x : Bool) → (spaces.inside_code w x).world.resolvers ≡ w.resolvers
-    go true = refl
-    go false = refl
-white-resolvers white.After w = go (nat_le w.scratch.whitespace.min w.scratch.whitespace.size)
-  where
-    go : (x : Bool) → (spaces.after_code w x).world.resolvers ≡ w.resolvers
-    go true = refl
-    go false = refl
-
-sequence-resolvers : (now next : FrontState) (left : Scratch) (w : World) (x y z : Bool) →
-    (fm.sequence_code now next left w x y z).world.resolvers ≡ w.resolvers
-sequence-resolvers now next left w true y z = refl
-sequence-resolvers now next left w false true true = refl
-sequence-resolvers now next left w false true false = refl
-sequence-resolvers now next left w false false z = refl
-
-start-resolvers : (w : World) (x : Bool) → (fm.start_by w x).world.resolvers ≡ w.resolvers
-start-resolvers w false = refl
-start-resolvers w true = go w.current
-  where
-    by : (b : ℕ) (y : Bool) → (fm.start_code w b y).world.resolvers ≡ w.resolvers
-    by b true = refl
-    by b false = refl
-
-    go : (o : Option ℕ) → (fm.start_at w o).world.resolvers ≡ w.resolvers
-    go None = refl
-    go (Some b) = by b (fm.is_marker b)
-
-by-test : (t : Bool → Transition) (w : World) → (t true).world.resolvers ≡ w.resolvers →
-    (t false).world.resolvers ≡ w.resolvers → (x : Bool) → (t x).world.resolvers ≡ w.resolvers
-by-test t w first second true = first
-by-test t w first second false = second
-
-front-resolvers : (state : FrontState) (w : World) → (fm.front_transition state w).world.resolvers ≡ w.resolvers
-front-resolvers its.Start w = start-resolvers w w.setting.options.constructs.frontmatter
-front-resolvers its.OpenSequence w =
-    sequence-resolvers its.OpenSequence its.OpenAfter (cleared w.scratch) w (fm.takes_one w) (fm.has_three w)
-    (sees_white w.current)
-front-resolvers its.OpenAfter w = by-test (fm.open_after_code w) w refl refl (fm.sees_ending w)
-front-resolvers its.CloseStart w =
-    by-test (fm.close_start_code w) w refl refl (is_current w.scratch.marker w.current)
-front-resolvers its.CloseSequence w =
-    sequence-resolvers its.CloseSequence its.CloseAfter (without_size w.scratch) w (fm.takes_one w) (fm.has_three w)
-    (sees_white w.current)
-front-resolvers its.CloseAfter w = by-test (fm.close_after_code w) w refl refl (ends_line w.current)
-front-resolvers its.ContentStart w = by-test (fm.content_start_code w) w refl refl (ends_line w.current)
-front-resolvers its.ContentInside w = by-test (fm.content_inside_code w) w refl refl (ends_line w.current)
-front-resolvers its.ContentEnd w = by-test (fm.content_end_code w) w refl refl (fm.sees_ending w)
-front-resolvers its.After w = by-test (fm.after_code w) w refl refl (fm.sees_ending w)
-
-went-resolvers : (name : StateName) (w : World) → (document_transition name w).world.resolvers ≡ w.resolvers
-went-resolvers (s.Bom bom_state.Start) w = bom-start w (is_current 239 w.current)
-went-resolvers (s.Bom bom_state.Inside) w =
-    bom-inside w (is_current (mark_at w.scratch.size) w.current) (nat_lt w.scratch.size 2)
-went-resolvers (s.Frontmatter state) w = front-resolvers state w
-went-resolvers (s.SpaceOrTab state) w = white-resolvers state w
-went-resolvers (s.Document document.ContainerExistingBefore) w =
-    existing-resolvers w (ends_line w.current) (next_container w.flags)
-went-resolvers (s.Document document.FlowEnd) w = end-resolvers (closed w (kept_containers w.flags) w.flags.line_end) w.current
-went-resolvers (s.Document document.Start) w = refl
-went-resolvers (s.Document document.BeforeFrontmatter) w = refl
-went-resolvers (s.Document document.ContainerExistingAfter) w = refl
-went-resolvers (s.Document document.ContainerNewAfter) w = refl
-went-resolvers (s.Document document.ContainersAfter) w = refl
-went-resolvers (s.Document document.FlowInside) w = inside-resolvers w (asked_first w.flags.leaf)
-went-resolvers (s.Document state) w = opener-resolvers w (opener_at state)
-went-resolvers _ w = refl
-
-left-resolvers : (w : World) (outer : List Frame) (f : Frame) (b : Bool) → (left w outer f b).resolvers ≡ w.resolvers
-left-resolvers w outer f true = refl
-left-resolvers w outer f false = refl
-
-runs-resolvers : (is_end : Bool) (s : State) (w : World) (s' : State) (w' : World) →
-    Runs DocumentStep is_end s w s' w' → w'.resolvers ≡ w.resolvers
-runs-resolvers is_end s w s' w' Stays = refl
-runs-resolvers is_end s w s' w' (ThenLeaves t v t' v' run l) =
-    ap (λ (x : World). x.resolvers) l.new ∙ left-resolvers v l.outer l.frame (goes_back l.frame t)
-    ∙ runs-resolvers is_end s w t v run
-runs-resolvers is_end s w s' w' (ThenCalls t v t' v' run c) =
-    ap (λ (x : World). x.resolvers) c.step.new_is ∙ went-resolvers c.name (reading v)
-    ∙ runs-resolvers is_end s w t v run
-
 -- What was read.
 
 -- a whole run that accepts ends in what is accepted
@@ -446,7 +294,7 @@ document-reads : (R : Resolution) (bytes : List ℕ) (options : ParseOptions) (e
     length bytes < 2 ^ 61 →
     Runs DocumentStep false (Next (s.Document document.Start))
     (reads_to (fresh bytes options first_point) (length bytes)) end at →
-    Flushes DocumentStep R end at true found new → ReadsFront bytes options new
+    Flushes DocumentStep R end at false found new → ReadsFront bytes options new
 document-reads R bytes options end at found new small run f =
     record {
       events = ap (λ (w : World). w.events) same ∙ sym (ap (λ (h : Here). h.events) ended);
@@ -482,7 +330,7 @@ document-reads R bytes options end at found new small run f =
         let P : Setting → Type 0 = λ y. Follows (text_feed x) y true in
         let Q : Setting → Type 0 =
         λ y. MeansAt DocumentStep document_table_scheme at.setting (document_behaves y.options) true in
-        flush-means DocumentStep R document_table_scheme (document_behaves options) (text_feed x) end at true found new
+        flush-means DocumentStep R document_table_scheme (document_behaves options) (text_feed x) end at false found new
         (subst Q kept (document_table_means at.setting true)) document_stands
         (subst P (sym kept) (text-follows x x.limit true small (omega arith) (λ e. refl))) pushed.1 f
 
@@ -495,20 +343,15 @@ document-reads R bytes options end at found new small run f =
         let front = document-accepts bytes options small in
         accepted options f.end _ (here f.at) front.1 (text_feed x f.at.point) f.ends (sym front.2 ∙ pushed.0 ∙ flushed)
 
-    none : f.at.resolvers ≡ []
-    none =
-        runs-resolvers true end at f.end f.at f.runs
-        ∙ runs-resolvers false (Next (s.Document document.Start)) w0 end at run
-
-    same : new ≡ record f.at { resolvers = [] }
-    same = (resolved-none R (record f.at { resolvers = [] }) f.at.resolvers found new f.resolved none).1
+    same : new ≡ f.at
+    same = f.resolved.0
 
 -- the same for a tokenizer that is known to be fresh
 pub document-reads-from : (R : Resolution) (bytes : List ℕ) (options : ParseOptions) (start : World) (to : ℕ)
     (end : State) (at : World) (found : Found) (new : World) →
     start ≡ fresh bytes options first_point → to ≡ length bytes → length bytes < 2 ^ 61 →
     Runs DocumentStep false (Next (s.Document document.Start)) (reads_to start to) end at →
-    Flushes DocumentStep R end at true found new → ReadsFront bytes options new
+    Flushes DocumentStep R end at false found new → ReadsFront bytes options new
 document-reads-from R bytes options start to end at found new same all small run f =
     let P : World →
     Type 0 = λ w. Runs DocumentStep false (Next (s.Document document.Start)) (reads_to w (length bytes)) end at in

@@ -1,25 +1,20 @@
--- What flow has read of a text, by what pushing and flushing it do.
+-- What flow has read of a text, by what pushing it, flushing it and reading its content do.
 use Rattle.md_engine.specs.declared.tokenizer.held_leaf.HeldLeaf.TheVariants as held_leaf
 use Rattle.std.proofs.Common.{◌≡◌, ◌≢◌, ◌⊎◌, inl, inr, ◌^◌, ◌<◌, ℕ, suc, Bool, true, false, List, [], ◌∷◌, ◌++◌, length}
 use Rattle.std.proofs.Common.{◌≤◌}
-use Rattle.std.proofs.Common.{Option, refl, sym, ◌∙◌, ap, ap₂, subst, arith}
-use Rattle.std.proofs.lemmas.Bool.{or_from}
+use Rattle.std.proofs.Common.{refl, sym, ◌∙◌, ap, subst, arith, not, ◌||◌}
+use Rattle.std.proofs.lemmas.Bool.{or_from, or_parts}
 use Rattle.md_engine.specs.declared.configuration.ParseOptions.{ParseOptions}
 use Rattle.md_engine.specs.declared.event.Event.{Event}
 use Rattle.md_engine.specs.declared.event.Name.TheVariants as n
 use Rattle.md_engine.specs.declared.event.Point.{Point}
-use Rattle.md_engine.specs.declared.resolve.name.Name.{Name as ResolveName}
-use Rattle.md_engine.specs.declared.resolve.name.Name.TheVariants as r
 use Rattle.md_engine.specs.declared.state.Name.TheVariants as s
 use Rattle.md_engine.specs.declared.state.document.State.TheVariants as document
 use Rattle.md_engine.specs.declared.state.State.{State}
 use Rattle.md_engine.specs.declared.state.State.TheVariants.{Error, Ok, Nok, Next, Retry}
-use Rattle.md_engine.specs.declared.tokenizer.Frame.{Frame}
-use Rattle.md_engine.specs.Found.{Found, nothing, with_found}
+use Rattle.md_engine.specs.Found.{Found, nothing}
 use Rattle.md_engine.specs.Meaning.{Accepts, comes_to, goes, here}
-use Rattle.md_engine.specs.Run.{Flushes, IsEnd, Resolution, Resolved, Runs, Step, goes_back, left, plain, reading}
-use Rattle.md_engine.specs.Run.Resolved.{More, NoneYet}
-use Rattle.md_engine.specs.Run.Runs.{Stays, ThenCalls, ThenLeaves}
+use Rattle.md_engine.specs.Run.{Flushes, IsEnd, Resolution, Runs, Step, plain}
 use Rattle.md_engine.specs.Scheme.{stands}
 use Rattle.md_engine.specs.TextFeed.{text_feed}
 use Rattle.md_engine.specs.World.{Setting, World, fresh, reads_to}
@@ -29,12 +24,13 @@ use Rattle.md_content.specs.ContentReads.{content_readings, wants_content}
 use Rattle.md_content.specs.Joined.{is_content, joined}
 use Rattle.md_content.specs.Labels.{labels_in}
 use Rattle.md_content.proofs.LabelsLemmas.{labels-none}
-use Rattle.md_content.specs.Resolves.{Resolves, found_in_content}
+use Rattle.md_content.specs.Resolves.{found_in_content}
 use Rattle.md_leaves.specs.HeadingText.{headings_resolved}
 use Rattle.md_leaves.specs.Turned.{turned}
 use Rattle.md_tables.specs.Tabled.{tabled}
 use Rattle.md_registry.specs.Resolving.{lines_joined}
 use Rattle.md_seam.specs.Substituted.{Substituted}
+use Rattle.markdown_blocks.specs.ContentRead.{ReadIf, holds_content}
 use Rattle.markdown_blocks.specs.Fed.{FlowRan}
 use Rattle.markdown_blocks.specs.FlowReads.{FlowReads, has_text}
 use Rattle.md_rows.specs.TextRows.{text_cells, text_rows, text_setting}
@@ -45,7 +41,6 @@ use Rattle.md_frame.specs.Row.{BlankRow, LeafRow, Row, RowKind, TextRow}
 use Rattle.md_rows.specs.Rows.{is_text, leaf_events, row_events}
 use Rattle.md_rows.specs.Rows.{row_events_by, rows_events, tail_events}
 use Rattle.md_registry.specs.States.{FlowStep, flow_behaves, flow_table_scheme}
-use Rattle.md_frame.proofs.EachEvent.{each-behind, each-front}
 use Rattle.md_rows.proofs.EachRow.{EachRow}
 use Rattle.md_registry.proofs.FlowLemmas.{flow_by_line}
 use Rattle.md_rows.proofs.FlowRows.{flow_at-rows}
@@ -56,126 +51,67 @@ use Rattle.markdown_blocks.proofs.FlowSteps.{IsFramed, content-same, rows-no_con
 use Rattle.markdown_blocks.proofs.FlowSteps.{rows_at-framed}
 use Rattle.md_table_rooms.proofs.HeadsRead.{heads-none}
 use Rattle.md_rows.proofs.JoinedLemmas.{EachNoContent, rows_at-no_content}
-use Rattle.md_frame.proofs.OutsideFacts.{IsNoEnd, NoEnds}
-use Rattle.md_frame.proofs.Registers.{Registers, goes-back, named, none-yet}
 use Rattle.markdown_blocks.proofs.StandsLemmas.{flow-ran}
 use Rattle.markdown_blocks.proofs.LinesFed.{text-follows_it}
 use Rattle.md_seam.specs.Spaces.{any_size}
-use Rattle.md_rows.proofs.StatesRegister.{went-registers}
 
-left-registers : (w : World) (outer : List Frame) (f : Frame) (b : Bool) → Registers w → Registers (left w outer f b)
-left-registers w outer f true h = goes-back f.events_len w.events w.resolvers h
-left-registers w outer f false h = h
+-- Lines among whose events no line of text is found.
 
--- and so does a run
-runs-register : (is_end : Bool) (s : State) (w : World) → Registers w → (s' : State) (w' : World) →
-    Runs FlowStep is_end s w s' w' → Registers w'
-runs-register is_end s w h s' w' Stays = h
-runs-register is_end s w h s' w' (ThenLeaves t v t' v' run l) =
-    let P : World → Type 0 = λ x. Registers x in
-    subst P (sym l.new) (left-registers v l.outer l.frame (goes_back l.frame t) (runs-register is_end s w h t v run))
-runs-register is_end s w h s' w' (ThenCalls t v t' v' run c) =
-    let P : World → Type 0 = λ x. Registers x in
-    subst P (sym c.step.new_is) (went-registers c.name (reading v) (runs-register is_end s w h t v run))
+-- whether content is found where every other event is asked for, from the first on or from the second
+abbrev asked : Bool → List Event → Bool
+asked now [] = false
+asked true (e ∷ es) = is_content e.name || asked false es
+asked false (e ∷ es) = asked true es
 
--- Resolvers that ran.
+asked-holds : (es : List Event) → asked true es ≡ holds_content es
+asked-holds [] = refl
+asked-holds (e ∷ []) = or_none (is_content e.name)
+  where
+    or_none : (x : Bool) → (x || false) ≡ x
+    or_none true = refl
+    or_none false = refl
+asked-holds (e ∷ f ∷ es) = ap (λ (x : Bool). is_content e.name || x) (asked-holds es)
 
-snoc-some : (names : List ResolveName) (name : ResolveName) → names ++ name ∷ [] ≡ [] → ⊥
-snoc-some [] name e = cc
-snoc-some (x ∷ names) name e = cc
+-- which is asked for behind some events
+abbrev turned_by : Bool → List Event → Bool
+turned_by now [] = now
+turned_by now (e ∷ es) = turned_by (not now) es
 
--- equal lists are equal up to their last elements, and in these
-snoc-same : (a b : List ResolveName) (x y : ResolveName) → a ++ x ∷ [] ≡ b ++ y ∷ [] → (a ≡ b) × (x ≡ y)
-snoc-same [] [] x y e = (refl, cc)
-snoc-same [] (n ∷ b) x y e = absurd (snoc-some b y (cc))
-snoc-same (m ∷ a) [] x y e = absurd (snoc-some a x (cc))
-snoc-same (m ∷ a) (n ∷ b) x y e =
-    let rest = snoc-same a b x y (cc) in
-    let same : m ≡ n = cc in
-    (ap₂ (λ (p : ResolveName) (q : List ResolveName). p ∷ q) same rest.0, rest.1)
+asked-parts : (now : Bool) (xs ys : List Event) → asked now (xs ++ ys) ≡ false →
+    (asked now xs ≡ false) × (asked (turned_by now xs) ys ≡ false)
+asked-parts now [] ys h = (refl, h)
+asked-parts true (x ∷ xs) ys h =
+    let parts = or_parts (is_content x.name) (asked false (xs ++ ys)) h in
+    let rest = asked-parts false xs ys parts.1 in
+    (or_from (is_content x.name) (asked false xs) parts.0 rest.0, rest.1)
+asked-parts false (x ∷ xs) ys h = asked-parts true xs ys h
 
-pub resolved-none : (R : Resolution) (w : World) (names : List ResolveName) (found : Found) (new : World) →
-    Resolved R w names found new → names ≡ [] → (found ≡ nothing) × (new ≡ w)
-resolved-none R w names found new NoneYet e = (refl, refl)
-resolved-none R w names found new (More ns name f more v v' h step) e = absurd (snoc-some ns name e)
-
--- the last that ran, behind the others
-record RanLast (R : Resolution) (w : World) (others : List ResolveName) (last : ResolveName) (found : Found)
-    (new : World) : Type 0 where
-  mid : World
-  mid_found : Found
-  more : Option Found
-  before : Resolved R w others mid_found mid
-  resolved : R last mid more new
-  found_is : found ≡ with_found mid_found more
-
-resolved-last : (R : Resolution) (w : World) (names : List ResolveName) (found : Found) (new : World) →
-    Resolved R w names found new → (others : List ResolveName) (last : ResolveName) → names ≡ others ++ last ∷ [] →
-    RanLast R w others last found new
-resolved-last R w names found new NoneYet others last e = absurd (snoc-some others last (sym e))
-resolved-last R w names found new (More ns name f more v v' h step) others last e =
-    let same = snoc-same ns others name last e in
-    let P : List ResolveName → Type 0 = λ x. Resolved R w x f v in
-    let Q : ResolveName → Type 0 = λ x. R x v more v' in
-    record {
-      mid = v;
-      mid_found = f;
-      more = more;
-      before = subst P same.0 h;
-      resolved = subst Q same.1 step;
-      found_is = refl;
-    }
-
--- one ran once
-record RanOnce (R : Resolution) (name : ResolveName) (at : World) (was found : Found) (new : World) : Type 0 where
-  more : Option Found
-  resolved : R name at more new
-  found_is : found ≡ with_found was more
-
--- or it did not
-abbrev RanIf : Resolution → ResolveName → Bool → World → Found → Found → World → Type 0
-RanIf R name true at was found new = RanOnce R name at was found new
-RanIf R name false at was found new = (found ≡ was) × (new ≡ at)
-
--- so ran the resolver of content, which alone may be registered
-resolved-content : (R : Resolution) (w : World) (b : Bool) (names : List ResolveName) (found : Found) (new : World) →
-    Resolved R w names found new → names ≡ named b → RanIf R r.Content b w nothing found new
-resolved-content R w true names found new h e =
-    let last = resolved-last R w names found new h [] r.Content e in
-    let none = resolved-none R w [] last.mid_found last.mid last.before refl in
-    let P : World → Type 0 = λ x. R r.Content x last.more new in
-    record {
-      more = last.more;
-      resolved = subst P none.1 last.resolved;
-      found_is = last.found_is ∙ ap (λ (x : Found). with_found x last.more) none.0;
-    }
-resolved-content R w false names found new h e = resolved-none R w names found new h e
-
--- Lines without the end of content have no text.
-
-no_ends-text : (k : RowKind) (row : Row) → NoEnds is_content (row_events_by k row) → k ≢ TextRow
-no_ends-text k row o e =
-    let P : RowKind → Type 0 = λ x. NoEnds is_content (row_events_by x row) in
+-- the begin and the end of a line of text stand side by side
+none-text : (now : Bool) (k : RowKind) (row : Row) → asked now (row_events_by k row) ≡ false → k ≢ TextRow
+none-text now k row h e =
     let leaf : List Event = leaf_events TextRow row in
-    let inside = each-behind (IsNoEnd is_content) row.front leaf
-    (each-front (IsNoEnd is_content) (row.front ++ leaf) (tail_events n.LineEnding row) (subst P e o)) in
-    let bad : true ≡ false = inside.1.0 in
-    absurd (cc)
+    let whole : asked now ((row.front ++ leaf) ++ tail_events n.LineEnding row) ≡ false =
+    subst (λ (x : RowKind). asked now (row_events_by x row) ≡ false) e h in
+    two (turned_by now row.front)
+    (asked-parts now row.front leaf (asked-parts now (row.front ++ leaf) (tail_events n.LineEnding row) whole).0).1
+  where
+    two : (x : Bool) → asked x (leaf_events TextRow row) ≡ false → ⊥
+    two true h = let bad : true ≡ false = h in cc
+    two false h = let bad : true ≡ false = h in cc
 
-no-text : (rows : List Row) → NoEnds is_content (rows_events rows) → has_text rows ≡ false
-no-text [] o = refl
-no-text (row ∷ rows) o =
-    or_from (is_text row.kind) (has_text rows)
-    (other row.kind
-    (no_ends-text row.kind row (each-front (IsNoEnd is_content) (row_events row) (rows_events rows) o)))
-    (no-text rows (each-behind (IsNoEnd is_content) (row_events row) (rows_events rows) o))
+no-text : (now : Bool) (rows : List Row) → asked now (rows_events rows) ≡ false → has_text rows ≡ false
+no-text now [] h = refl
+no-text now (row ∷ rows) h =
+    let parts = asked-parts now (row_events row) (rows_events rows) h in
+    or_from (is_text row.kind) (has_text rows) (other row.kind (none-text now row.kind row parts.0))
+    (no-text (turned_by now (row_events row)) rows parts.1)
   where
     other : (kind : RowKind) → kind ≢ TextRow → is_text kind ≡ false
     other BlankRow h = refl
     other (LeafRow l) h = refl
     other TextRow h = absurd (h refl)
 
--- The step behind the states, whether the resolver of content ran or not.
+-- The step behind the states, whether content is read or not.
 
 -- lines of text that are heads are read again, and then content is read
 record ContentRead (bytes : List ℕ) (options : ParseOptions) (rows : List Row) (at : World) (found : Found)
@@ -187,16 +123,13 @@ record ContentRead (bytes : List ℕ) (options : ParseOptions) (rows : List Row)
   definitions : found.definitions ≡ labels_in bytes new.events
   footnotes : found.footnotes ≡ []
 
-content-step : (bytes : List ℕ) (options : ParseOptions) (rows : List Row) (b : Bool) (at : World) (found : Found)
+content-step : (bytes : List ℕ) (options : ParseOptions) (rows : List Row) (at : World) (found : Found)
     (new : World) →
     EachRow IsFramed rows → EachNoContent rows →
     at.events ≡ rows_events rows → at.setting.bytes ≡ bytes → at.setting.options ≡ options →
-    (b ≡ false → NoEnds is_content (rows_events rows)) → RanIf resolved_as r.Content b at nothing found new →
+    (b : Bool) → holds_content at.events ≡ b → ReadIf b at found new →
     ContentRead bytes options rows at found new
-content-step bytes options rows true at found new framed quiet events text set others h =
-    let read : List Event = heads_read at.setting.options at.setting.bytes at.events in
-    let resolves : Resolves (record at { events = read }) h.more new =
-    h.resolved in
+content-step bytes options rows at found new framed quiet events text set true holds h =
     let A : List ℕ →
     Type 0 = λ l. Substituted wants_content (content_readings l at.setting.options) [] 0
     (joined (heads_read at.setting.options l at.events)) new.events in
@@ -206,18 +139,19 @@ content-step bytes options rows true at found new framed quiet events text set o
     let C : List Event →
     Type 0 = λ l. Substituted wants_content (content_readings bytes options) [] 0
     (joined (heads_read options bytes l)) new.events in
+    let same : found ≡ found_in_content at.setting.bytes new.events = let is = h.found_is in cc in
     let found_so : found ≡ found_in_content bytes new.events =
-    h.found_is ∙ ap (with_found nothing) resolves.found_is
-    ∙ ap (λ (l : List ℕ). found_in_content l new.events) text in
+    same ∙ ap (λ (l : List ℕ). found_in_content l new.events) text in
     record {
-      rest = resolves.rest;
-      read = subst C events (subst B set (subst A text resolves.events));
+      rest = h.rest;
+      read = subst C events (subst B set (subst A text h.events));
       found_is = inr found_so;
       definitions = ap (λ (x : Found). x.definitions) found_so;
       footnotes = ap (λ (x : Found). x.footnotes) found_so;
     }
-content-step bytes options rows false at found new framed quiet events text set others h =
-    let none : has_text rows ≡ false = no-text rows (others refl) in
+content-step bytes options rows at found new framed quiet events text set false holds h =
+    let none : has_text rows ≡ false =
+    no-text true rows (asked-holds (rows_events rows) ∙ ap holds_content (sym events) ∙ holds) in
     let same : new.events ≡ rows_events rows = ap (λ (w : World). w.events) h.1 ∙ events in
     let P : List Event →
     Type 0 = λ l. Substituted wants_content (content_readings bytes options) [] 0
@@ -243,24 +177,18 @@ content-step bytes options rows false at found new framed quiet events text set 
       footnotes = ap (λ (x : Found). x.footnotes) h.0;
     }
 
--- no resolver begins or leaves an attempt
-step-frames : (name : ResolveName) (old : World) (found : Option Found) (new : World) →
-    resolved_as name old found new → new.frames ≡ old.frames
-step-frames r.Content old found new h = ap (λ (w : World). w.frames) h.rest
-step-frames _ old found new h = ap (λ (w : World). w.frames) h.1
+-- no attempt is around behind a flush, and behind content
 
-resolved-frames : (w : World) (names : List ResolveName) (found : Found) (new : World) →
-    Resolved resolved_as w names found new → new.frames ≡ w.frames
-resolved-frames w names found new NoneYet = refl
-resolved-frames w names found new (More ns name f more v v' h step) =
-    step-frames name v more v' step ∙ resolved-frames w ns f v h
+pub flushed-frames : (T : Step) (R : Resolution) (end : State) (at : World) (found : Found) (new : World) →
+    Flushes T R end at false found new → new.frames ≡ []
+flushed-frames T R end at found new f = ap (λ (w : World). w.frames) f.resolved.0 ∙ f.none_left
 
-pub flushed-frames : (T : Step) (end : State) (at : World) (found : Found) (new : World) →
-    Flushes T resolved_as end at true found new → new.frames ≡ []
-flushed-frames T end at found new f =
-    resolved-frames (record f.at { resolvers = [] }) f.at.resolvers found new f.resolved ∙ f.none_left
+pub read-frames : (b : Bool) (old : World) (found : Found) (new : World) → ReadIf b old found new →
+    new.frames ≡ old.frames
+read-frames true old found new h = ap (λ (w : World). w.frames) h.rest
+read-frames false old found new h = ap (λ (w : World). w.frames) h.1
 
--- What flow has added once a text from a point on was pushed and flushed, before its resolvers run: the events of its
+-- What flow has added once a text from a point on was pushed and flushed, before its content is read: the events of its
 -- rows.
 record IsPushed (bytes : List ℕ) (options : ParseOptions) (p : Point) (end : State) (at : World) : Type 0 where
   ran : FlowRan bytes options p end at
@@ -273,7 +201,7 @@ flow-pushed : (bytes : List ℕ) (options : ParseOptions) (p : Point) (end : Sta
     length bytes < 2 ^ 61 →
     Runs FlowStep false (Next (s.Document document.ContainerExistingBefore))
     (reads_to (fresh bytes options p) (length bytes)) end at →
-    (f : Flushes FlowStep resolved_as end at true found items) → IsPushed bytes options p f.end f.at
+    (f : Flushes FlowStep resolved_as end at false found items) → IsPushed bytes options p f.end f.at
 flow-pushed bytes options p end at found items small run f =
     record { ran = ran; events = events; setting = setting }
   where
@@ -312,7 +240,7 @@ flow-pushed bytes options p end at found items small run f =
         Type 0 = λ y. flow_at y.options (text_cells bytes options p) (here (fresh bytes options p)) ≡
         Accepts (here f.at) [] in
         subst P kept
-        (flow_outcome resolved_as end at true found items (text_cells bytes options p)
+        (flow_outcome resolved_as end at false found items (text_cells bytes options p)
         (here (fresh bytes options p)) limit pushed.1 means f)
 
     -- the run of a push and a flush, which ends with the text
@@ -330,11 +258,11 @@ flow-pushed bytes options p end at found items small run f =
     ran =
         let same : flow_at at.setting.options (text_cells bytes options p) (here (fresh bytes options p)) ≡
         goes (flow_behaves at.setting.bytes at.setting.options) f.end (text_feed at.setting f.at.point) (here f.at) =
-        sym means ∙ flow_flush resolved_as end at true found items limit pushed.1 f in
+        sym means ∙ flow_flush resolved_as end at false found items limit pushed.1 f in
         let comes : goes (flow_behaves at.setting.bytes at.setting.options) f.end (text_feed at.setting f.at.point)
         (here f.at) ≡ Accepts (here f.at) [] =
         sym same
-        ∙ flow_outcome resolved_as end at true found items (text_cells bytes options p)
+        ∙ flow_outcome resolved_as end at false found items (text_cells bytes options p)
         (here (fresh bytes options p)) limit pushed.1 means f in
         let done = ends f.end f.ends comes in
         flow-ran bytes options p f.end f.at small
@@ -355,7 +283,7 @@ flow-pushed bytes options p end at found items small run f =
     setting : f.at.setting ≡ text_setting bytes options p
     setting = runs-setting FlowStep true end at f.end f.at f.runs ∙ kept
 
--- What flow has read of a text from a point on, once all of it was pushed and flushed: its content is read, and nothing
+-- What flow has read of a text from a point on, once all of it was pushed and flushed and its content was read: nothing
 -- else is set yet.
 pub record FlowFlushed (bytes : List ℕ) (options : ParseOptions) (p : Point) (found : Found)
     (new : World) : Type 0 where
@@ -367,7 +295,7 @@ pub record FlowFlushed (bytes : List ℕ) (options : ParseOptions) (p : Point) (
   pub content_read : Substituted wants_content (content_readings bytes options) [] 0
       (joined (heads_read options bytes (rows_events (text_rows options bytes p)))) content
   pub events_are : new.events ≡ content
-  pub rest : new ≡ record ended { events = content; resolvers = [] }
+  pub rest : new ≡ record ended { events = content }
   pub setting : new.setting ≡ text_setting bytes options p
   pub frames : new.frames ≡ []
   pub found_is : ((has_text (text_rows options bytes p) ≡ false) × (found ≡ nothing)) ⊎
@@ -375,21 +303,33 @@ pub record FlowFlushed (bytes : List ℕ) (options : ParseOptions) (p : Point) (
   pub definitions : found.definitions ≡ labels_in bytes content
   pub footnotes : found.footnotes ≡ []
 
-pub flow-flushed : (bytes : List ℕ) (options : ParseOptions) (p : Point) (end : State) (at : World) (found : Found)
-    (new : World) →
+pub flow-flushed : (bytes : List ℕ) (options : ParseOptions) (p : Point) (end : State) (at : World) (none : Found)
+    (flushed : World) (found : Found) (new : World) →
     length bytes < 2 ^ 61 →
     Runs FlowStep false (Next (s.Document document.ContainerExistingBefore))
     (reads_to (fresh bytes options p) (length bytes)) end at →
-    Flushes FlowStep resolved_as end at true found new →
+    Flushes FlowStep resolved_as end at false none flushed →
+    ReadIf (holds_content flushed.events) flushed found new →
     FlowFlushed bytes options p found new
-flow-flushed bytes options p end at found new small run f =
-    go
-    (runs-register true end at
-    (runs-register false (Next (s.Document document.ContainerExistingBefore))
-    (reads_to (fresh bytes options p) (length bytes)) none-yet end at run) f.end f.at f.runs)
+flow-flushed bytes options p end at none flushed found new small run f h =
+    record {
+      end = f.end;
+      ended = f.at;
+      ran = pushed.ran;
+      events = pushed.events;
+      content = new.events;
+      content_read = read.read;
+      events_are = refl;
+      rest = read.rest;
+      setting = ap (λ (x : World). x.setting) read.rest ∙ pushed.setting;
+      frames = ap (λ (x : World). x.frames) read.rest ∙ f.none_left;
+      found_is = read.found_is;
+      definitions = read.definitions;
+      footnotes = read.footnotes;
+    }
   where
     pushed : IsPushed bytes options p f.end f.at
-    pushed = flow-pushed bytes options p end at found new small run f
+    pushed = flow-pushed bytes options p end at none flushed small run f
 
     rows : List Row
     rows = text_rows options bytes p
@@ -404,47 +344,30 @@ flow-flushed bytes options p end at found new small run f =
         rows_at-framed options (suc (length (text_cells bytes options p))) [] held_leaf.None
         (text_cells bytes options p) p
 
-    go : Registers f.at → FlowFlushed bytes options p found new
-    go registers =
-        let w : World = record f.at { resolvers = [] } in
-        let P : List Event → Type 0 = λ es. NoEnds is_content es in
-        let read : ContentRead bytes options rows w found new =
-        content-step bytes options rows registers.content w found new framed quiet pushed.events
+    read : ContentRead bytes options rows f.at found new
+    read =
+        content-step bytes options rows f.at found new framed quiet pushed.events
         (ap (λ (x : Setting). x.bytes) pushed.setting) (ap (λ (x : Setting). x.options) pushed.setting)
-        (λ e. subst P pushed.events (registers.no_content e))
-        (resolved-content resolved_as w registers.content f.at.resolvers found new f.resolved registers.names_are) in
-        record {
-          end = f.end;
-          ended = f.at;
-          ran = pushed.ran;
-          events = pushed.events;
-          content = new.events;
-          content_read = read.read;
-          events_are = refl;
-          rest = read.rest;
-          setting = ap (λ (x : World). x.setting) read.rest ∙ pushed.setting;
-          frames = ap (λ (x : World). x.frames) read.rest ∙ f.none_left;
-          found_is = read.found_is;
-          definitions = read.definitions;
-          footnotes = read.footnotes;
-        }
+        (holds_content f.at.events) refl
+        (subst (λ (w : World). ReadIf (holds_content w.events) w found new) f.resolved.0 h)
 
 -- the same for a tokenizer that is known to be fresh
 pub flow-flushed-from : (bytes : List ℕ) (options : ParseOptions) (p : Point)
-    (start : World) (to : ℕ) (end : State) (at : World) (found : Found) (new : World) →
+    (start : World) (to : ℕ) (end : State) (at : World) (none : Found) (flushed : World) (found : Found) (new : World) →
     start ≡ fresh bytes options p → to ≡ length bytes →
     length bytes < 2 ^ 61 →
     Runs FlowStep false (Next (s.Document document.ContainerExistingBefore)) (reads_to start to) end at →
-    Flushes FlowStep resolved_as end at true found new →
+    Flushes FlowStep resolved_as end at false none flushed →
+    ReadIf (holds_content flushed.events) flushed found new →
     FlowFlushed bytes options p found new
-flow-flushed-from bytes options p start to end at found new same all small run f =
+flow-flushed-from bytes options p start to end at none flushed found new same all small run f h =
     let P : World →
     Type 0 = λ w. Runs FlowStep false (Next (s.Document document.ContainerExistingBefore))
     (reads_to w (length bytes)) end at in
     let Q : ℕ →
     Type 0 = λ n. Runs FlowStep false (Next (s.Document document.ContainerExistingBefore))
     (reads_to start n) end at in
-    flow-flushed bytes options p end at found new small (subst P same (subst Q all run)) f
+    flow-flushed bytes options p end at none flushed found new small (subst P same (subst Q all run)) f h
 
 -- and once the lines of leaves are joined, and lists, headings and tables are set
 pub flow-reads : (bytes : List ℕ) (options : ParseOptions) (p : Point) (found : Found) (items new : World) →
@@ -459,7 +382,7 @@ flow-reads bytes options p found items new h set =
     λ text es. tabled (turned (headings_resolved (listed text (lines_joined options es)))) in
     let text : items.setting.bytes ≡ bytes = ap (λ (x : Setting). x.bytes) h.setting in
     let all : new ≡
-    record h.ended { events = put bytes h.content; resolvers = [] } = set
+    record h.ended { events = put bytes h.content } = set
     ∙ ap (λ (l : List ℕ). record items { events = put l items.events }) text
     ∙ ap (λ (x : World). record x { events = put bytes x.events }) h.rest in
     let is : new.events ≡ put bytes h.content = ap (λ (x : World). x.events) all in
@@ -471,7 +394,7 @@ flow-reads bytes options p found items new h set =
       content = h.content;
       content_read = h.content_read;
       events_are = is;
-      rest = all ∙ ap (λ (l : List Event). record h.ended { events = l; resolvers = [] }) (sym is);
+      rest = all ∙ ap (λ (l : List Event). record h.ended { events = l }) (sym is);
       setting = ap (λ (x : World). x.setting) set ∙ h.setting;
       frames = ap (λ (x : World). x.frames) set ∙ h.frames;
       found_is = h.found_is;

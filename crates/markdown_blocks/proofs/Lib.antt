@@ -22,6 +22,7 @@ pub mod TreeRows
 pub mod Parses
 pub mod ContentAre
 pub mod StaysAlone
+pub mod HoldsContent
 pub mod TextBlocks
 pub mod TextItemised
 pub mod TextQuoted

@@ -1,24 +1,22 @@
--- Where all events stay as they are, joining lines and running the resolvers changes nothing.
-use Rattle.std.proofs.Common.{◌≡◌, ℕ, Bool, true, false, cond, not, ◌+◌, ◌≤◌, ◌&&◌, List, [], ◌∷◌, length, refl, ap}
+-- Where all events stay as they are, no content is read, and joining lines and running the resolvers changes nothing.
+use Rattle.std.proofs.Common.{◌≡◌, ℕ, Bool, true, false, cond, not, ◌+◌, ◌≤◌, List, [], ◌∷◌, length, refl, ap}
 use Rattle.std.proofs.Common.{◌∙◌, arith}
 use Rattle.std.specs.List.{prefix_len}
-use Rattle.std.proofs.lemmas.Bool.{and_parts}
+use Rattle.std.proofs.lemmas.Bool.{and_parts, or_from}
 use Rattle.md_engine.specs.declared.configuration.ParseOptions.{ParseOptions}
 use Rattle.md_engine.specs.declared.event.Event.{Event}
-use Rattle.md_containers.specs.Listed.{is_item}
-use Rattle.md_leaves.specs.HeadingText.{begins, is_heading}
 use Rattle.md_leaves.specs.declared.spans.Place.TheVariants.{Outside}
 use Rattle.md_leaves.specs.Spanned.{passes, passes_on, spanned}
 use Rattle.md_leaves.proofs.SpannedLemmas.{fewer, spanned-none}
-use Rattle.md_leaves.specs.Turned.{is_no_underline, is_underline}
+use Rattle.md_leaves.specs.Turned.{is_no_underline}
 use Rattle.md_order.specs.InOrder.{every, in_order}
 use Rattle.md_order.specs.Left.{is_same}
-use Rattle.md_resolve.proofs.Same.{in_order-same, none-third}
-use Rattle.md_seam.specs.Events.Spelled.{role}
-use Rattle.md_tables.specs.Tabled.{begins_table, bound_of}
+use Rattle.md_resolve.proofs.Same.{in_order-same}
 use Rattle.md_registry.specs.Resolving.{lines_joined}
 use Rattle.md_registry.specs.Resolving.{joins_lines}
-use Rattle.markdown_blocks.specs.Alone.{stays_alone}
+use Rattle.md_content.specs.Joined.{is_content}
+use Rattle.markdown_blocks.specs.Alone.{passes_alone, stays_alone}
+use Rattle.markdown_blocks.specs.ContentRead.{holds_content}
 
 -- what passes one test passes another
 all-pass : (p q : Event → Bool) → ((e : Event) → p e ≡ true → q e ≡ true) → (es : List Event) →
@@ -34,31 +32,61 @@ all-pass p q gives (e ∷ es) all = go (p e) refl (λ rest. all-pass p q gives e
         ap (λ (x : Bool). cond x (1 + prefix_len q es) 0) (gives e here) ∙ omega (arith, below)
     go false here more all = cc
 
+passes-on : (e : Event) → passes_alone e ≡ true → passes_on Outside e ≡ true
+passes-on e h = (and_parts (not (is_content e.name)) (passes_on Outside e) h).1
+
+-- whether lines are joined or not
 pub alone-same : (options : ParseOptions) (bytes : List ℕ) (es : List Event) → prefix_len stays_alone es ≡ length es →
     in_order every bytes (lines_joined options es) ≡ es
 alone-same options bytes es all =
     ap (in_order every bytes) (joined (joins_lines options))
     ∙ in_order-same every bytes es
     (all-pass stays_alone (is_same every)
-    (λ e h. (and_parts (passes Outside e) (is_same every e) h).1) es all)
+    (λ e h. (and_parts (passes_alone e) (is_same every e) h).1) es all)
   where
+    on : (e : Event) → stays_alone e ≡ true → passes Outside e ≡ true
+    on e h =
+        (and_parts (passes Outside e) (is_no_underline e)
+        (passes-on e (and_parts (passes_alone e) (is_same every e) h).0)).0
+
     joined : (x : Bool) → cond x (spanned es) es ≡ es
-    joined true =
-        spanned-none es
-        (all-pass stays_alone (passes Outside) (λ e h. (and_parts (passes Outside e) (is_same every e) h).0) es all)
+    joined true = spanned-none es (all-pass stays_alone (passes Outside) on es all)
     joined false = refl
 
--- what stays so passes as it is where lines are joined
-pub alone-passes : (es : List Event) → prefix_len stays_alone es ≤ prefix_len (passes_on Outside) es
-alone-passes es = fewer stays_alone (passes_on Outside) on es
-  where
-    both : (x y : Bool) → x ≡ true → y ≡ true → (x && y) ≡ true
-    both x y h k = rw (h, k) refl
+-- so do they where lines are joined
+pub alone-passes : (es : List Event) → prefix_len passes_alone es ≤ prefix_len (passes_on Outside) es
+alone-passes es = fewer passes_alone (passes_on Outside) passes-on es
 
-    on : (e : Event) → stays_alone e ≡ true → passes_on Outside e ≡ true
-    on e h =
-        let parts = and_parts (passes Outside e) (is_same every e) h in
-        both (passes Outside e) (is_no_underline e) parts.0
-        (ap not
-        (none-third (is_item (role e.name)) (begins is_heading e) (is_underline e.name)
-        (begins_table (bound_of e)) parts.1))
+pub stay-pass : (es : List Event) → prefix_len stays_alone es ≤ prefix_len (passes_on Outside) es
+stay-pass es =
+    fewer stays_alone (passes_on Outside)
+    (λ e h. passes-on e (and_parts (passes_alone e) (is_same every e) h).0) es
+
+-- none of them is of a line of text
+first-other : (e : Event) (es : List Event) → prefix_len passes_alone (e ∷ es) ≡ length (e ∷ es) →
+    (is_content e.name ≡ false) × (prefix_len passes_alone es ≡ length es)
+first-other e es all = go (passes_alone e) refl all
+  where
+    off : (x : Bool) → not x ≡ true → x ≡ false
+    off true h = cc
+    off false h = refl
+
+    go : (x : Bool) → passes_alone e ≡ x → cond x (1 + prefix_len passes_alone es) 0 ≡ length (e ∷ es) →
+        (is_content e.name ≡ false) × (prefix_len passes_alone es ≡ length es)
+    go true here more = (
+      off (is_content e.name) (and_parts (not (is_content e.name)) (passes_on Outside e) here).0,
+      omega (arith, more),
+    )
+    go false here more = cc
+
+pub none-held : (es : List Event) → prefix_len passes_alone es ≡ length es → holds_content es ≡ false
+none-held [] all = refl
+none-held (e ∷ []) all = (first-other e [] all).0
+none-held (e ∷ f ∷ es) all =
+    let one = first-other e (f ∷ es) all in
+    or_from (is_content e.name) (holds_content es) one.0 (none-held es (first-other f es one.1).1)
+
+pub stay-none : (es : List Event) → prefix_len stays_alone es ≡ length es → holds_content es ≡ false
+stay-none es all =
+    none-held es
+    (all-pass stays_alone passes_alone (λ e h. (and_parts (passes_alone e) (is_same every e) h).0) es all)

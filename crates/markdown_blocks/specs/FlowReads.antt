@@ -1,5 +1,5 @@
--- What flow has read of a text: its lines, and behind them the steps of the resolvers, in their order. Each step is
--- total: where nothing is its own, it changes nothing.
+-- What flow has read of a text: its lines, then its content, and behind that what the resolvers set, in their order.
+-- Each step is total: where nothing is its own, it changes nothing.
 use Rattle.std.specs.Prelude.{◌≡◌, ◌⊎◌, ℕ, Bool, false, ◌||◌, List, [], ◌∷◌}
 use Rattle.md_engine.specs.declared.configuration.ParseOptions.{ParseOptions}
 use Rattle.md_engine.specs.declared.event.Event.{Event}
@@ -28,7 +28,7 @@ abbrev pub has_text : List Row → Bool
 has_text [] = false
 has_text (row ∷ rows) = is_text row.kind || has_text rows
 
--- flow has read a text from a point to its end, and then its resolvers ran
+-- flow has read a text from a point to its end, and then its content was read and its blocks were set
 pub record FlowReads (bytes : List ℕ) (options : ParseOptions) (p : Point) (found : Found) (new : World) : Type 0 where
   -- its states have come to this, with the events of the lines
   pub end : State
@@ -42,11 +42,11 @@ pub record FlowReads (bytes : List ℕ) (options : ParseOptions) (p : Point) (fo
   -- then the lines of each leaf of several are joined, and lists are put around items, headings get their texts, and
   -- tables their cells
   pub events_are : new.events ≡ tabled (turned (headings_resolved (listed bytes (lines_joined options content))))
-  -- all else stays, but that no resolver is left to run
-  pub rest : new ≡ record ended { events = new.events; resolvers = [] }
+  -- all else stays
+  pub rest : new ≡ record ended { events = new.events }
   pub setting : new.setting ≡ text_setting bytes options p
   pub frames : new.frames ≡ []
-  -- the resolver of content alone says what it has found, and it runs if a line is content
+  -- reading content alone says what it has found, and content is read if a line is text
   pub found_is : ((has_text (text_rows options bytes p) ≡ false) × (found ≡ nothing)) ⊎
       (found ≡ found_in_content bytes content)
   -- it finds the labels of the definitions there, and none of footnotes

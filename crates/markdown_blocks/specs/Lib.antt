@@ -1,4 +1,5 @@
 pub mod Alone
 pub mod Parsed
 pub mod Fed
+pub mod ContentRead
 pub mod FlowReads

@@ -2,16 +2,18 @@
 
 ghost use Rattle.std.specs.Prelude.{◌≡◌, ◌≤◌, ◌++◌, IfOk, OnOk, [], false, length, map, string_bytes};
 ghost use Rattle.std.specs.List.{prefix_len};
-ghost use Rattle.md_engine.specs.Found.{found_in};
+ghost use Rattle.md_engine.specs.Found.{found_in, nothing};
 ghost use Rattle.md_engine.specs.Place.{IsPlaced};
 ghost use Rattle.md_engine.specs.World.{fresh, world};
+ghost use Rattle.md_content.specs.Joined.{is_content};
 ghost use Rattle.md_seam.specs.TextPart.{IsTextPart, document_of, text_kind, wants_text};
 ghost use Rattle.md_registry.specs.Document.{ReadsFront};
 ghost use Rattle.md_front_rooms.specs.Front.{body_point};
 ghost use Rattle.md_registry.specs.Resolving.{lines_joined};
 ghost use Rattle.md_leaves.specs.Spanned.{passes_on};
 ghost use Rattle.md_leaves.specs.Turned.{HoldNoUnderline};
-ghost use Rattle.markdown_blocks.specs.Alone.{stays_alone};
+ghost use Rattle.markdown_blocks.specs.Alone.{passes_alone, stays_alone};
+ghost use Rattle.markdown_blocks.specs.ContentRead.{ReadIf, holds_content};
 ghost use Rattle.markdown_blocks.specs.FlowReads.{FlowReads};
 ghost use Rattle.md_order.specs.Alone.{MayPass};
 ghost use Rattle.md_order.specs.InOrder.{every, in_order};
@@ -22,9 +24,10 @@ ghost use Rattle.md_meaning.specs.Wrapped.{IsSmall};
 use crate::plain::Plain;
 use md_content::footnote_labels::footnote_labels;
 use md_engine::configuration::ParseOptions;
-use md_engine::event::{Content, Event, Point};
+use md_engine::event::{Content, Event, Name, Point};
 use md_engine::message::Message;
 pub use md_engine::parse_state::ParseState;
+use md_engine::resolve::Name as ResolveName;
 use md_engine::state::document::State as DocumentState;
 use md_engine::state::{Name as StateName, State};
 use md_engine::subtokenize::Subresult;
@@ -32,6 +35,7 @@ use md_engine::table::{flush, push};
 use md_engine::tokenizer::Tokenizer;
 use md_flow::document::DocumentTable;
 use md_flow::flow::FlowTable;
+use md_flow::resolve;
 use md_leaves::spans;
 use md_leaves::spans::Place;
 use md_order::wanted::Wanted;
@@ -114,7 +118,7 @@ fn read_front<'a>(
         State::Error => return Err(Message),
         end => end,
     };
-    flush::<DocumentTable>(&mut tokenizer, end, true)?;
+    flush::<DocumentTable>(&mut tokenizer, end, false)?;
     Ok(tokenizer)
 }
 
@@ -186,7 +190,43 @@ const ALL: Wanted = Wanted {
     tables: true,
 };
 
-/// Whether an event stays as it is where lines are joined and the resolvers run.
+/// Whether an event is of a line of text.
+#[inline(always)]
+fn is_content(event: &Event) -> bool
+    ensures { result ≡ is_content event.now.name }
+{
+    matches!(event.name, Name::Content)
+}
+
+/// Whether an event is of no line of text, and passes as it is where lines are joined.
+#[inline(always)]
+fn passes_alone(event: &Event) -> bool
+    ensures { result ≡ passes_alone event.now }
+{
+    !is_content(event) && spans::passes_on(Place::Outside, event)
+}
+
+/// That as a test.
+struct PassesAlone;
+
+impl Test for PassesAlone {
+    ghost passes = { λ test. passes_alone };
+
+    #[inline(always)]
+    fn passes(&self, event: &Event) -> bool {
+        passes_alone(event)
+    }
+}
+
+/// How many events are in front of the first that is of a line of text or may not pass as it is where lines are joined.
+fn until_read(events: &[Event]) -> usize
+    ensures value { result ≡ prefix_len passes_alone events.now }
+    ensures within { result ≤ length events.now }
+{
+    passing(&PassesAlone, events)
+}
+
+/// Whether an event stays as it is where content is read, lines are joined and the resolvers run.
 struct StaysAlone;
 
 impl Test for StaysAlone {
@@ -194,7 +234,7 @@ impl Test for StaysAlone {
 
     #[inline(always)]
     fn passes(&self, event: &Event) -> bool {
-        spans::passes(Place::Outside, event) && is_same(ALL, event)
+        passes_alone(event) && is_same(ALL, event)
     }
 }
 
@@ -206,12 +246,98 @@ fn until_changed(events: &[Event]) -> usize
     passing(&StaysAlone, events)
 }
 
-/// Joins the lines of each leaf of several, and runs the resolvers of items, headings and tables. Where there is
-/// none of these, one test of each event shows that nothing changes.
+/// Whether a line of text is among a few events.
+fn few_hold_content(events: &[Event]) -> bool
+    ensures { result ≡ holds_content events.now }
+{
+    let mut left = events;
+    while let [event, _, rest @ ..] = left {
+        if is_content(event) {
+            return true;
+        }
+        left = rest;
+    }
+    matches!(left, [event] if is_content(event))
+}
+
+/// Whether a line of text is among events. Where there is none this goes over all events of a text, so it asks every
+/// other, and eight of these before the next round.
+fn holds_content(events: &[Event]) -> bool
+    ensures { result ≡ holds_content events.now }
+{
+    let mut left = events;
+    while let [a, _, b, _, c, _, d, _, e, _, f, _, g, _, h, _, rest @ ..] = left {
+        if is_content(a)
+            || is_content(b)
+            || is_content(c)
+            || is_content(d)
+            || is_content(e)
+            || is_content(f)
+            || is_content(g)
+            || is_content(h)
+        {
+            return true;
+        }
+        left = rest;
+    }
+    few_hold_content(left)
+}
+
+/// Whether a line of text is among events, where it is known how many are in front of the first that is of one or may not
+/// pass as it is where lines are joined.
+fn is_unread(events: &[Event], many: usize) -> bool
+    requires { many ≡ prefix_len passes_alone events.now }
+    ensures { result ≡ holds_content events.now }
+{
+    many < events.len() && holds_content(events)
+}
+
+/// What is found where nothing is read.
+fn nothing(alloc: Global) -> Subresult
+    ensures { found_in result ≡ nothing }
+{
+    Subresult {
+        done: false,
+        gfm_footnote_definitions: Vec::new(alloc),
+        definitions: Vec::new(alloc),
+    }
+}
+
+/// Reads the content of the lines that flow has read, where there is some. Returns what it finds there, and of how many
+/// events in front it is known that they pass as they are where lines are joined.
 ///
 /// An `Err` says that memory ran out.
-fn resolve_blocks(tokenizer: &mut Tokenizer, options: &ParseOptions) -> Result<(), Message>
+fn read_content(tokenizer: &mut Tokenizer) -> Result<(Subresult, usize), Message>
+    requires { (world tokenizer.old).frames ≡ [] }
+    ensures content { IfOk result
+        (λ read.
+        ReadIf (holds_content (world tokenizer.old).events) (world tokenizer.old) (found_in read.0)
+        (world tokenizer.new)) }
+    ensures many { IfOk result
+        (λ read. read.1 ≤ prefix_len (passes_on Place.Outside) (world tokenizer.new).events) }
+{
+    let many = until_read(&tokenizer.events);
+    if !is_unread(&tokenizer.events, many) {
+        return Ok((nothing(tokenizer.alloc), many));
+    }
+    match resolve::call(tokenizer, ResolveName::Content)? {
+        Some(found) => Ok((found, 0)),
+        None => Ok((nothing(tokenizer.alloc), 0)),
+    }
+}
+
+/// Joins the lines of each leaf of several, and runs the resolvers of items, headings and tables. Where there is
+/// none of these, one test of each event shows that nothing changes. It is known of the first `many` events that they
+/// pass as they are where lines are joined.
+///
+/// An `Err` says that memory ran out.
+fn resolve_blocks(
+    tokenizer: &mut Tokenizer,
+    options: &ParseOptions,
+    many: usize,
+) -> Result<(), Message>
     requires frames { (world tokenizer.old).frames ≡ [] }
+    requires many { many ≤ prefix_len (passes_on Place.Outside) (world tokenizer.old).events }
     requires may { MayPass every (lines_joined options.now (world tokenizer.old).events) }
     ensures { OnOk result
         (world tokenizer.new ≡
@@ -220,17 +346,17 @@ fn resolve_blocks(tokenizer: &mut Tokenizer, options: &ParseOptions) -> Result<(
               (lines_joined options.now (world tokenizer.old).events);
         }) }
 {
-    let many = until_changed(&tokenizer.events);
-    if many == tokenizer.events.len() {
+    let same = until_changed(&tokenizer.events);
+    if same == tokenizer.events.len() {
         return Ok(());
     }
-    let underlines = join_lines(tokenizer, options, many)?;
+    let underlines = join_lines(tokenizer, options, same.max(many))?;
     pass_all(tokenizer, underlines)?;
     Ok(())
 }
 
 /// Reads the lines of a text from a point on by flow, and then its content; joins the lines of each leaf of several, and
-/// runs the resolvers of items, headings and tables.
+/// runs the resolvers of items, headings and tables. One test of each event may show that none of this changes anything.
 ///
 /// An `Err` says that memory ran out.
 fn read_flow<'a>(
@@ -251,8 +377,13 @@ fn read_flow<'a>(
         State::Error => return Err(Message),
         end => end,
     };
-    let found = flush::<FlowTable>(&mut tokenizer, end, true)?;
-    resolve_blocks(&mut tokenizer, options)?;
+    flush::<FlowTable>(&mut tokenizer, end, false)?;
+    let same = until_changed(&tokenizer.events);
+    if same == tokenizer.events.len() {
+        return Ok((tokenizer, nothing(alloc)));
+    }
+    let (found, many) = read_content(&mut tokenizer)?;
+    resolve_blocks(&mut tokenizer, options, many)?;
     Ok((tokenizer, found))
 }
 

@@ -1,29 +1,56 @@
-use Rattle.std.proofs.Common.{arith, inr, refl, subst}
+use Rattle.std.proofs.Common.{◌≡◌, Bool, List, ap, arith, inr, length, refl, subst, sym, ◌∙◌}
+use Rattle.std.specs.List.{prefix_len}
 use Rattle.md_engine.specs.Found.{Found, found_in}
 use Rattle.md_engine.specs.World.{World, world}
+use Rattle.md_engine.specs.declared.event.Event.{Event}
 use Rattle.md_engine.specs.declared.event.Point.{Point}
+use Rattle.markdown_blocks.specs.Alone.{stays_alone}
+use Rattle.markdown_blocks.specs.ContentRead.{ReadIf}
 use Rattle.markdown_blocks.proofs.ContentAre.{joined-alone}
-use Rattle.markdown_blocks.proofs.FlowReads.{FlowFlushed, flow-flushed-from, flow-reads, flushed-frames}
+use Rattle.markdown_blocks.proofs.FlowReads.{FlowFlushed, flow-flushed-from, flow-reads, flushed-frames, read-frames}
+use Rattle.markdown_blocks.proofs.StaysAlone.{alone-same, stay-none}
 use Rattle.markdown_blocks.proofs.parser.read_flow.Goals as goal
 
+pub returns-then-same-len : goal.returns-then-same-len
+returns-then-same-len c =
+    let w : World = world c.flush.new.tokenizer in
+    let all : prefix_len stays_alone w.events ≡ length w.events =
+    sym (c.until_changed-same.ensures.value ∙ ap (λ (es : List Event). prefix_len stays_alone es) c.deref.ensures.value)
+    ∙ c.if-same-len.true ∙ c.len.ensures ∙ sym c.deref.ensures.len
+    ∙ ap (λ (es : List Event). length es) c.deref.ensures.value in
+    flow-reads c.args.bytes.now c.args.options.now c.args.start _ _ _
+    (flow-flushed-from c.args.bytes.now c.args.options.now c.args.start _ _ _ _ _ _ (found_in c.nothing.result) w
+    c.in_ok-tokenizer.ensures refl
+    (omega (arith, c.requires.small)) (c.push.ensures.runs c.in_default.not-Error) c.in_ok-flush.ensures
+    (subst (λ (b : Bool). ReadIf b w (found_in c.nothing.result) w) (sym (stay-none w.events all))
+    (c.nothing.ensures, refl)))
+    (ap (λ (es : List Event). record w { events = es })
+    (sym (alone-same c.args.options.now w.setting.bytes w.events all)))
+
+pub read_content-requires : goal.read_content-requires
+read_content-requires c = flushed-frames _ _ _ _ _ _ c.in_ok-flush.ensures
+
 pub resolve_blocks-requires-clause-frames : goal.resolve_blocks-requires-clause-frames
-resolve_blocks-requires-clause-frames c = flushed-frames _ _ _ _ _ c.in_ok-found.ensures
+resolve_blocks-requires-clause-frames c =
+    read-frames _ _ _ _ c.in_ok-found.ensures.content ∙ flushed-frames _ _ _ _ _ _ c.in_ok-flush.ensures
 
 pub resolve_blocks-requires-clause-may : goal.resolve_blocks-requires-clause-may
 resolve_blocks-requires-clause-may c =
     let found : Found = found_in c.in_ok-found.found in
-    let items : World = world c.flush.new.tokenizer in
+    let items : World = world c.read_content.new.tokenizer in
     inr
     (joined-alone c.args.options.now c.args.bytes.now c.requires.built (omega (arith, c.requires.small)) found items
     (subst (λ (p : Point). FlowFlushed c.args.bytes.now c.args.options.now p found items) c.requires.begins
-    (flow-flushed-from c.args.bytes.now c.args.options.now c.args.start _ _ _ _ _ _
+    (flow-flushed-from c.args.bytes.now c.args.options.now c.args.start _ _ _ _ _ _ _ _
     c.in_ok-tokenizer.ensures refl
-    (omega (arith, c.requires.small)) (c.push.ensures.runs c.in_default.not-Error) c.in_ok-found.ensures)))
+    (omega (arith, c.requires.small)) (c.push.ensures.runs c.in_default.not-Error) c.in_ok-flush.ensures
+    c.in_ok-found.ensures.content)))
 
 pub returns : goal.returns
 returns c =
     flow-reads c.args.bytes.now c.args.options.now c.args.start _ _ _
-    (flow-flushed-from c.args.bytes.now c.args.options.now c.args.start _ _ _ _ _ _
+    (flow-flushed-from c.args.bytes.now c.args.options.now c.args.start _ _ _ _ _ _ _ _
     c.in_ok-tokenizer.ensures refl
-    (omega (arith, c.requires.small)) (c.push.ensures.runs c.in_default.not-Error) c.in_ok-found.ensures)
+    (omega (arith, c.requires.small)) (c.push.ensures.runs c.in_default.not-Error) c.in_ok-flush.ensures
+    c.in_ok-found.ensures.content)
     c.in_ok-resolve_blocks.ensures

@@ -1,0 +1,15 @@
+use Rattle.std.proofs.Common.{◌≡◌, ◌≤◌, List, false, length, nat_lt, sym, ◌∙◌, arith}
+use Rattle.std.proofs.lemmas.Bool.Decides.{nat_tests}
+use Rattle.std.proofs.lemmas.List.Sums.{prefix_len-le-length}
+use Rattle.md_engine.specs.declared.event.Event.{Event}
+use Rattle.markdown_blocks.specs.Alone.{passes_alone}
+use Rattle.markdown_blocks.proofs.StaysAlone.{none-held}
+use Rattle.markdown_blocks.proofs.parser.is_unread.Goals as goal
+
+pub returns-else-many-events : goal.returns-else-many-events
+returns-else-many-events c =
+    let es : List Event = c.args.events.now in
+    let past : length es ≤ c.args.many = c.if-many-events.false in
+    let none : nat_lt c.args.many (length es) ≡ false = grind (arith, nat_tests) in
+    none
+    ∙ sym (none-held es (omega (arith, c.requires, past, prefix_len-le-length passes_alone es)))

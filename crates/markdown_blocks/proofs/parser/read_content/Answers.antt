@@ -1,0 +1,14 @@
+use Rattle.std.proofs.Common.{◌≡◌, List, ap, arith, ◌∙◌}
+use Rattle.std.specs.List.{prefix_len}
+use Rattle.md_engine.specs.World.{World, world}
+use Rattle.md_engine.specs.declared.event.Event.{Event}
+use Rattle.markdown_blocks.specs.Alone.{passes_alone}
+use Rattle.markdown_blocks.proofs.StaysAlone.{alone-passes}
+use Rattle.markdown_blocks.proofs.parser.read_content.Goals as goal
+
+pub returns-then-not-is_unread-clause-many : goal.returns-then-not-is_unread-clause-many
+returns-then-not-is_unread-clause-many c =
+    let w : World = world c.args.tokenizer.now in
+    let is : c.until_read-many.result ≡ prefix_len passes_alone w.events =
+    c.until_read-many.ensures.value ∙ ap (λ (es : List Event). prefix_len passes_alone es) c.deref.ensures.value in
+    omega (arith, is, alone-passes w.events)
