@@ -9,6 +9,5 @@ pub mod Laws
 pub mod Parted
 pub mod Pieces
 pub mod Prefix
-pub mod Registers
 pub mod Tree
 pub mod Trial

@@ -10,5 +10,4 @@ pub mod Parted
 pub mod Pieces
 pub mod Prefix
 pub mod Read
-pub mod Registers
 pub mod Trial

@@ -144,13 +144,6 @@ pub names-shapes : (cs : List Container) → open_names cs ≡ shape_names (map 
 names-shapes [] = refl
 names-shapes (c ∷ cs) = ap (λ (l : List Name). l ++ container_name c ∷ []) (names-shapes cs)
 
--- What holds of the name of each kind of container that the tokenizer holds.
-pub held-names : (P : Name → Type 0) → P n.BlockQuote → P n.ListItem → P n.GfmFootnoteDefinition →
-    (k : ContainerKind) → P (name_of k)
-held-names P quote item footnote kind.BlockQuote = quote
-held-names P quote item footnote kind.ListItem = item
-held-names P quote item footnote kind.GfmFootnoteDefinition = footnote
-
 -- In the grammar of events.
 
 -- what may stand here takes what containers add to a line, and is left as it is

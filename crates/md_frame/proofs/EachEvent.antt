@@ -1,6 +1,6 @@
 -- What holds of each of some events.
 use Rattle.std.specs.Prelude.{nat_le}
-use Rattle.std.proofs.Common.{ℕ, zero, suc, Bool, true, false, cond, ◌&&◌, List, [], ◌∷◌, ◌++◌, take, drop}
+use Rattle.std.proofs.Common.{ℕ, zero, suc, Bool, true, false, cond, ◌&&◌, List, [], ◌∷◌, ◌++◌, drop}
 use Rattle.md_engine.specs.declared.event.Event.{Event}
 use Rattle.md_engine.specs.declared.event.Point.{Point}
 use Rattle.md_content.specs.ContentReads.{is_piece_end, settled}
@@ -25,17 +25,6 @@ each-as P Q so (e ∷ es) o = (so e o.0, each-as P Q so es o.1)
 pub each-front : (P : Event → Type 0) (a b : List Event) → Each P (a ++ b) → Each P a
 each-front P [] b o = tt
 each-front P (e ∷ es) b o = (o.0, each-front P es b o.1)
-
--- and so of what stands behind
-pub each-behind : (P : Event → Type 0) (a b : List Event) → Each P (a ++ b) → Each P b
-each-behind P [] b o = o
-each-behind P (e ∷ es) b o = each-behind P es b o.1
-
--- of the first ones
-pub each-take : (P : Event → Type 0) (k : ℕ) (es : List Event) → Each P es → Each P (take k es)
-each-take P zero es o = tt
-each-take P (suc k) [] o = tt
-each-take P (suc k) (e ∷ es) o = (o.0, each-take P k es o.1)
 
 -- and of the further ones
 pub each-drop : (P : Event → Type 0) (k : ℕ) (es : List Event) → Each P es → Each P (drop k es)

@@ -55,7 +55,6 @@ pub mod PrefixFacts
 pub mod PrefixNames
 pub mod Reached
 pub mod ReadAs
-pub mod Registers
 pub mod RegistryRead
 pub mod RestFacts
 pub mod RestRows

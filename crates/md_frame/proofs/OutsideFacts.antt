@@ -1,20 +1,11 @@
--- Events among which no part of some names begins, or ends.
+-- Events among which no part of some names begins.
 --
--- A resolver of leaves on one line asks for the begins of the parts that it rewrites; that of content is registered
--- where a part of it ends.
-use Rattle.std.proofs.Common.{◌≡◌, Bool, false, ◌&&◌, List, ◌++◌}
+-- A resolver of leaves on one line asks for the begins of the parts that it rewrites.
+use Rattle.std.proofs.Common.{◌≡◌, false, ◌&&◌, List, ◌++◌}
 use Rattle.md_engine.specs.declared.event.Event.{Event}
-use Rattle.md_engine.specs.declared.event.Name.{Name}
-use Rattle.md_seam.specs.Events.Nested.{is_enter, is_exit}
+use Rattle.md_seam.specs.Events.Nested.{is_enter}
 use Rattle.md_frame.proofs.EventNames.{is_own}
 use Rattle.md_frame.proofs.EachEvent.{Each, each-append}
-
--- no part with such a name ends with an event
-abbrev pub IsNoEnd : (Name → Bool) → Event → Type 0
-IsNoEnd is_name e = (is_exit e.kind && is_name e.name) ≡ false
-
-abbrev pub NoEnds : (Name → Bool) → List Event → Type 0
-NoEnds is_name es = Each (IsNoEnd is_name) es
 
 -- no part begins with it that a resolver rewrites
 abbrev pub IsOutside : Event → Type 0

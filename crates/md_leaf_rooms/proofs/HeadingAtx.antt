@@ -9,7 +9,6 @@ pub mod NoContent
 pub mod Outside
 pub mod Places
 pub mod Plain
-pub mod Registers
 pub mod Runs
 pub mod Spelled
 pub mod Texts

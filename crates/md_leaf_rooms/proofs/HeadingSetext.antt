@@ -3,7 +3,6 @@ pub mod Bytes
 pub mod Kinds
 pub mod Laws
 pub mod Line
-pub mod Registers
 pub mod Runs
 pub mod Span
 pub mod Trial

@@ -3,7 +3,6 @@ pub mod Facts
 pub mod Found
 pub mod Kinds
 pub mod Laws
-pub mod Registers
 pub mod Runs
 pub mod Trial
 pub mod Unturned

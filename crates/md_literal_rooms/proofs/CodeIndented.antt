@@ -11,7 +11,6 @@ pub mod Look
 pub mod Outside
 pub mod Parts
 pub mod Reads
-pub mod Registers
 pub mod Rows
 pub mod Span
 pub mod Split

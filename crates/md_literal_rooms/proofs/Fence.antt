@@ -10,7 +10,6 @@ pub mod Laws
 pub mod Opened
 pub mod Outside
 pub mod Reads
-pub mod Registers
 pub mod Trial
 pub mod Walk
 pub mod White

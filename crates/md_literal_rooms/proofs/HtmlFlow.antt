@@ -3,5 +3,4 @@ pub mod Cells
 pub mod Found
 pub mod Laws
 pub mod Outside
-pub mod Registers
 pub mod Trial

@@ -1,5 +1,5 @@
 -- The states of the constructs that are built, in the table of flow: where each leaf and container is tried, and that
--- each state ends, means its rule, and keeps what is known of resolvers.
+-- each state ends and means its rule.
 use Rattle.std.proofs.Common.{◌≡◌, ◌<◌, List, [], ◌∷◌, refl, ◌∙◌, ap, ℕ, arith}
 use Rattle.std.specs.Prelude.{Some}
 use Rattle.md_engine.specs.declared.configuration.ParseOptions.{ParseOptions}
@@ -49,22 +49,11 @@ use Rattle.md_frame.specs.LeafName.{HtmlFlow, HtmlFurther, LeafName, ThematicBre
 use Rattle.md_registry.specs.Registry.{behind, construct_owner, construct_transition, container_rules, leaf, opener_at}
 use Rattle.md_registry.specs.Registry.{openers_behind, tried_at}
 use Rattle.md_registry.specs.States.{flow_behaves_by, flow_owner, flow_table_scheme}
-use Rattle.md_container_rooms.proofs.BlockQuote.Registers.{quote-registers}
-use Rattle.md_literal_rooms.proofs.CodeIndented.Registers.{code-registers}
-use Rattle.md_literal_rooms.proofs.Fence.Registers.{fence-registers}
-use Rattle.md_container_rooms.proofs.GfmFootnoteDefinition.Registers.{footnote-registers}
-use Rattle.md_table_rooms.proofs.GfmTable.Registers.{table-registers}
 use Rattle.md_registry.proofs.Termination.{Anywhere, ContainerFits, IsWithin}
-use Rattle.md_literal_rooms.proofs.HtmlFlow.Registers.{html-registers}
 use Rattle.md_tables.proofs.GfmTableTermination.{TableFits, table_terminates}
 use Rattle.md_tables.proofs.GfmTableMeaning.{table_means}
 use Rattle.md_html.proofs.HtmlTermination.{HtmlFits, html_terminates}
 use Rattle.md_html.proofs.HtmlMeaning.{html_means}
-use Rattle.md_leaf_rooms.proofs.HeadingAtx.Registers.{heading-registers}
-use Rattle.md_leaf_rooms.proofs.HeadingSetext.Registers.{setext-registers}
-use Rattle.md_container_rooms.proofs.ListItem.Registers.{item-registers}
-use Rattle.md_frame.proofs.Registers.{Registers}
-use Rattle.md_leaf_rooms.proofs.ThematicBreak.Registers.{break-registers}
 
 -- a leaf is tried only at the state before it
 pub tried-before : (state : FlowState) (l : LeafName) → tried_at state ≡ Some l → (leaf l).before ≡ state
@@ -320,18 +309,3 @@ construct-steps feed next (n.ThematicBreak state) w s c at =
     break_means _ feed state w _
     (record { white = white_has w.setting.bytes w.setting.options next; each = λ _ _ _. refl }) s at
 construct-steps feed next name w s c at = absurd at
-
--- and keeps what is known of resolvers
-pub construct-registers : (name : StateName) (w : World) → Registers w →
-    Registers (construct_transition name w).world
-construct-registers (n.BlockQuote state) w h = quote-registers state w h
-construct-registers (n.CodeIndented state) w h = code-registers state w h
-construct-registers (n.GfmFootnoteDefinition state) w h = footnote-registers state w h
-construct-registers (n.GfmTable state) w h = table-registers state w h
-construct-registers (n.HeadingAtx state) w h = heading-registers state w h
-construct-registers (n.HeadingSetext state) w h = setext-registers state w h
-construct-registers (n.HtmlFlow state) w h = html-registers state w h
-construct-registers (n.ListItem state) w h = item-registers state w h
-construct-registers (n.RawFlow state) w h = fence-registers state w h
-construct-registers (n.ThematicBreak state) w h = break-registers state w h
-construct-registers _ w h = h

@@ -46,7 +46,6 @@ pub mod SpanJoined
 pub mod SpannedGroups
 pub mod SpelledParagraphs
 pub mod StandRows
-pub mod StatesRegister
 pub mod TableStarts
 pub mod TabledGroups
 pub mod TablesOff

@@ -7,7 +7,6 @@ pub mod Each
 pub mod Found
 pub mod Head
 pub mod Laws
-pub mod Registers
 pub mod Row
 pub mod RowAt
 pub mod RowCells
