@@ -1,0 +1,127 @@
+-- The events of a text: its byte order mark, its frontmatter, and the lines of its body, put together as leaves.
+use Rattle.std.specs.Prelude.{ℕ, ◌-◌, Bool, true, false, ◌||◌, if◌then◌else◌, List, [], ◌∷◌, ◌++◌, flat_map, length}
+use Rattle.std.specs.Prelude.{map}
+use Rattle.std.specs.Prelude.{take, drop, Some, None}
+use Rattle.md_engine.specs.declared.configuration.ParseOptions.{ParseOptions}
+use Rattle.md_engine.specs.declared.event.Event.{Event}
+use Rattle.md_engine.specs.declared.event.Name.TheVariants as n
+use Rattle.md_meaning.specs.Bytes.{is_end}
+use Rattle.md_meaning.specs.Leaves.{LeafResult, Opened, Finished}
+use Rattle.md_meaning.specs.Lines.{full_lines_of, lines_of}
+use Rattle.md_meaning.specs.Preamble.{first_column, front_of, has_mark, is_front_fence, without_mark}
+use Rattle.md_meaning.specs.Rest.{Rest}
+use Rattle.md_meaning.specs.State.{At, OpenCode, OpenFence, OpenHtml}
+use Rattle.md_meaning.specs.Step.{spot_of}
+use Rattle.md_meaning.specs.Texts.{first_byte}
+use Rattle.md_meaning.specs.Tree.{Break, End, Heading, Html}
+use Rattle.md_seam.specs.Events.Nested.{pair}
+use Rattle.md_seam.specs.Events.Places.{first_point}
+use Rattle.md_exact.specs.Leaves.{content_line, fence, heading_line, joined, leaf, runs_line, table}
+use Rattle.md_exact.specs.Places.{TextLine, ending, line_end, lines_from, part, past, piece, white, whole}
+use Rattle.md_exact.specs.Rows.{BehindCode, Blank, Delimiter, First, FirstText, Further, FurtherText, Head, Role, Row}
+use Rattle.md_exact.specs.Rows.{Underline, is_blank_role, rows_of}
+use Rattle.md_exact.specs.Texts.{text}
+
+-- The front of a text.
+
+-- its lines behind its mark, whose bytes are a column each
+abbrev pub text_lines : List ℕ → List TextLine
+text_lines source =
+    let size = first_column source in lines_from 1 size size (full_lines_of (without_mark source))
+
+-- the events of its mark, if it has one
+abbrev pub mark_events : List ℕ → List Event
+mark_events source =
+    if has_mark source
+    then pair n.ByteOrderMark first_point (record { line = 1; column = 4; index = 3; vs = 0 }) else []
+
+-- how many lines its frontmatter has; 0 if there is none
+abbrev pub front_size : ParseOptions → List ℕ → ℕ
+front_size options source =
+    let lines = lines_of (without_mark source) in
+    elim (front_of options lines) [ Some front ↦ length lines - length front.after | None ↦ 0 ]
+
+-- a line of frontmatter with this marker: a fence, or any other
+abbrev pub front_line : ℕ → TextLine → Rest → List Event
+front_line m line r =
+    if is_front_fence m r.bytes
+    then part line n.FrontmatterFence r (line_end line)
+    (piece line n.FrontmatterSequence r (past 3 r) ++ white line (past 3 r) (line_end line))
+    else piece line n.FrontmatterChunk r (line_end line)
+
+-- a line that stands in no container
+abbrev pub front_row : TextLine → Row
+front_row line = record {
+  line = line;
+  stays = 0;
+  held = [];
+  front = [];
+  rest = whole line;
+  role = FirstText;
+  ends = [];
+}
+
+-- Leaves.
+
+-- whether a line goes on the leaf of the line in front of it
+abbrev pub goes_on : Role → Bool
+goes_on (Further leaf) = true
+goes_on FurtherText = true
+goes_on Underline = true
+goes_on Delimiter = true
+goes_on role = false
+
+-- a line in front of others that are put together: one with the first of them, if that goes on it
+abbrev pub onto : Row → List (List Row) → List (List Row)
+onto row ((next ∷ rows) ∷ groups) =
+    if goes_on next.role then (row ∷ next ∷ rows) ∷ groups else (row ∷ []) ∷ (next ∷ rows) ∷ groups
+onto row groups = (row ∷ []) ∷ groups
+
+-- the lines of each leaf
+abbrev pub grouped : List Row → List (List Row)
+grouped [] = []
+grouped (row ∷ rows) = onto row (grouped rows)
+
+-- a leaf that is no text, by what the line definition has of its first line
+abbrev pub leaf_events : ParseOptions → LeafResult → List Row → List Event
+leaf_events options (Finished Break) rows = leaf n.ThematicBreak (runs_line n.ThematicBreakSequence) rows
+leaf_events options (Finished (Heading depth lines)) rows = leaf n.HeadingAtx heading_line rows
+leaf_events options (Opened (OpenCode lines)) rows = leaf n.CodeIndented (content_line n.CodeFlowChunk 4) rows
+leaf_events options (Opened (OpenFence o lines)) rows = fence options o rows
+leaf_events options (Opened (OpenHtml kind lines)) rows = leaf n.HtmlFlow (content_line n.HtmlFlowData 0) rows
+leaf_events options (Finished (Html lines)) rows = leaf n.HtmlFlow (content_line n.HtmlFlowData 0) rows
+leaf_events options came rows = []
+
+-- any, by what its first line is: a blank line behind code is cut like a line of it
+abbrev pub events_by : ParseOptions → Role → List Row → List Event
+events_by options Blank rows = joined (content_line n.SpaceOrTab 0) rows
+events_by options BehindCode rows = joined (content_line n.SpaceOrTab 4) rows
+events_by options (First came) rows = leaf_events options came rows
+events_by options Head rows = table rows
+events_by options role rows = text options rows
+
+-- The body of a text.
+
+-- behind the last of these lines: the containers that end there, and its ending. That of a line on which nothing at all
+-- stands is that of a blank line, also where a leaf takes the line.
+abbrev pub tail : List Row → List Event
+tail [] = []
+tail (row ∷ []) =
+    row.ends
+    ++ ending (if is_blank_role row.role || is_end row.line.bytes then n.BlankLineEnding else n.LineEnding) row.line
+tail (row ∷ next ∷ rows) = tail (next ∷ rows)
+
+-- what stands in front of a leaf, the leaf, and what stands behind it
+abbrev pub group_events : ParseOptions → List Row → List Event
+group_events options [] = []
+group_events options (row ∷ rows) = row.front ++ events_by options row.role (row ∷ rows) ++ tail (row ∷ rows)
+
+-- The events of a text, one for one, before its text parts are read.
+abbrev pub exact : ParseOptions → List ℕ → List Event
+exact options source =
+    let size = front_size options source in
+    let front = map front_row (take size (text_lines source)) in
+    mark_events source
+    ++ leaf n.Frontmatter (front_line (first_byte (without_mark source))) front ++ tail front
+    ++ flat_map (group_events options)
+    (grouped (rows_of options (At (spot_of End)) (drop size (text_lines source))))

@@ -1,0 +1,2 @@
+// The exact list of events of a text, from its lines alone.
+#![tactic(auto)]
