@@ -1,0 +1,124 @@
+#!/usr/bin/env python3
+"""exact_rows.py: tries wrong definitions in the place of those of md_exact. Each must change the list of a small text."""
+import os
+import re
+import shutil
+import sys
+import tempfile
+
+import antt
+
+CRATES = os.path.join(os.path.dirname(os.path.dirname(os.path.abspath(__file__))), "crates")
+# the constructs of the two settings that the texts have
+CONSTRUCTS = """block_quote code_fenced code_indented definition frontmatter gfm_footnote_definition gfm_table heading_atx
+heading_setext html_flow list_item math_flow thematic_break""".split()
+ROWS = "Leaf Text Container List Nested Meeting Alert".split()
+
+# what it does, its file, what stands there, and what is put in its place
+WRONG = [
+    ("a blank line ends a list", "Rows",
+     "else is_blank_role row.role && list_goes_on depth marker rows", "else false"),
+    ("a list goes on with any container", "Rows", "then begin_with_item marker (drop depth row.held)", "then true"),
+    ("the outermost container ends first", "Rows",
+     "ends_from (suc depth) cs p below ++ exit (container_name c) p ∷ list_ends depth c p below",
+     "exit (container_name c) p ∷ list_ends depth c p below ++ ends_from (suc depth) cs p below"),
+    ("a blank line behind code belongs to it", "Rows",
+     "if is_blank r.bytes then BehindCode else Further (OpenCode lines)", "Further (OpenCode lines)"),
+    ("a lazy line ends containers", "Rows", "stays = if lazy then length (containers p) else length on;",
+     "stays = length on;"),
+    ("an underline of nothing is one", "Rows", "then Underline else FurtherText", "then Underline else Underline"),
+    ("no line is a head", "Rows", "role_before Delimiter r role = Head", "role_before Delimiter r role = role"),
+    ("no virtual spaces", "Places", "vs = r.column - columns_from line.column (take before line.bytes);", "vs = 0;"),
+    ("columns count from 0", "Places", "column = r.column + 1;", "column = r.column;"),
+    ("no line behind the last ending", "Places", "if is_end line.ending then [] else lines_from",
+     "if is_end line.ending then [] else if length more == 0 then [] else lines_from"),
+    ("items take no indent of further lines", "Prefixes", "further_prefix line container r s = white line r s",
+     "further_prefix line container r s = []"),
+    ("each item begins a list", "Prefixes", "if end_in_item marker (blocks_before depth after) then [] else",
+     "if false then [] else"),
+    ("any item interrupts a paragraph", "Prefixes", "else opened options (all && is_open_text (spot p).leaf)",
+     "else opened options false"),
+    ("the marker of an alert is whitespace", "Prefixes", "++ piece line n.BlockQuoteMarker bracket after",
+     "++ white line bracket after"),
+    ("no whitespace behind the marker of an alert", "Prefixes", "bracket after ++ white line after s",
+     "bracket after"),
+    ("a further line of an alert has its marker", "Prefixes",
+     "further_prefix line (InQuote kind) r s = quote_prefix line None r s",
+     "further_prefix line (InQuote kind) r s = quote_prefix line kind r s"),
+    ("whitespace around an alert's marker in one piece", "Prefixes", "let behind_column = lose 1 after in",
+     "let behind_column = behind_indent after in"),
+    ("content keeps its indent", "Leaves",
+     "white line r (lose columns r) ++ piece line name (lose columns r) (line_end line)",
+     "piece line name r (line_end line)"),
+    ("the last pipe is outside of its cell", "Leaves", "++ piece line n.GfmTableCellDivider bar end)", "++ [])"),
+    ("no pipe is the last", "Leaves", "let is_last = is_blank after.bytes in", "let is_last = is_blank bar.bytes in"),
+    ("a table has no body", "Leaves", "++ leaf n.GfmTableBody text_row body)", "++ joined text_row body)"),
+    ("whitespace behind a definition is outside", "Texts", "    ++ gap end (first_end end))", "    )"),
+    ("chunks have no endings", "Texts", "else chunk c (start (row ∷ rows)) (next_line row.line) ++",
+     "else chunk c (start (row ∷ rows)) (start (first_end (row ∷ rows))) ++"),
+    ("definitions have no indent", "Texts", "then gap rows first ++ definition first", "then definition first"),
+    ("an empty line of a leaf is not blank", "Blocks", "is_blank_role row.role || is_end row.line.bytes",
+     "is_blank_role row.role"),
+    ("each line is a paragraph", "Blocks", "goes_on FurtherText = true", "goes_on FurtherText = false"),
+    ("no mark", "Blocks", "    mark_events source\n", "    []\n"),
+    ("whitespace behind code in one piece", "Blocks", "rows = joined (content_line n.SpaceOrTab 4) rows",
+     "rows = joined (content_line n.SpaceOrTab 0) rows"),
+]
+
+
+def options(setting):
+    on = {name: True for name in CONSTRUCTS}
+    return {"constructs": {**on, "alerts": setting == "ALERTS"}}
+
+
+def rows(library):
+    """Each small text with its name, its setting and its list."""
+    for group in ROWS:
+        path = f"Rattle.md_exact.proofs.{group}Rows"
+        text = open(os.path.join(CRATES, "md_exact", "proofs", group + "Rows.antt"), encoding="utf8").read()
+        module = library.module(path)
+        for name, setting in re.findall(r"^  (\w+) : exact given\.(\w+) ", text, re.M):
+            yield name, options(setting), module.value(name + "_text"), module.value(name + "_events")
+
+
+def refused(specs, all_rows):
+    """The first text whose list is another one by the definitions of a folder, or none."""
+    library = antt.Library(CRATES, {"md_exact": os.path.dirname(specs)})
+    exact = library.module("Rattle.md_exact.specs.Blocks").value("exact")
+    for name, setting, text, events in all_rows:
+        try:
+            if antt.call(exact, setting, text) != events:
+                return name
+        except (ValueError, RecursionError):
+            return name
+    return None
+
+
+def main():
+    own = os.path.join(CRATES, "md_exact", "specs")
+    all_rows = list(rows(antt.Library(CRATES)))
+    failed = 0
+    if refused(own, all_rows):
+        print("exact_rows: the definition itself has another list of", refused(own, all_rows))
+        failed += 1
+    with tempfile.TemporaryDirectory() as folder:
+        for what, file, old, new in WRONG:
+            specs = os.path.join(folder, "specs")
+            shutil.rmtree(specs, ignore_errors=True)
+            shutil.copytree(own, specs)
+            path = os.path.join(specs, file + ".antt")
+            text = open(path, encoding="utf8").read()
+            if text.count(old) != 1:
+                print(f"exact_rows: {file} does not have once: {old}")
+                failed += 1
+                continue
+            open(path, "w", encoding="utf8").write(text.replace(old, new))
+            by = refused(specs, all_rows)
+            if by is None:
+                print("exact_rows: no small text refuses:", what)
+                failed += 1
+    print(f"exact_rows: {len(all_rows)} small texts, {len(WRONG)} wrong definitions, {failed} failed")
+    sys.exit(failed > 0)
+
+
+main()
