@@ -1,4 +1,6 @@
 pub mod PlaceLemmas
+pub mod OnLine
+pub mod PieceLemmas
 pub mod RowParts
 mod LeafRows
 mod TextRows

@@ -23,7 +23,7 @@ pub record StandsIn (text behind : List ℕ) (line : TextLine) : Type 0 where
 abbrev pub cut_len : ℕ → ℕ
 cut_len spaces = cond (spaces == 0) 0 1
 
-length-cut : (spaces : ℕ) → length (cut_tab spaces) ≡ cut_len spaces
+pub length-cut : (spaces : ℕ) → length (cut_tab spaces) ≡ cut_len spaces
 length-cut zero = refl
 length-cut (suc n) =
     sym (ap (λ x. cond x 0 1) (false_from_ne_true (suc n == 0) (λ e. absurd (omega (arith, eqb-true (suc n) 0 e)))))
@@ -81,12 +81,12 @@ place-is text behind line r p line_at at onward inside number columns =
 abbrev pub line_start : TextLine → Point
 line_start line = record { line = line.number; column = line.column + 1; index = line.index; vs = 0 }
 
-no_ending-take : (n : ℕ) (bytes : List ℕ) → NoEnding bytes → NoEnding (take n bytes)
+pub no_ending-take : (n : ℕ) (bytes : List ℕ) → NoEnding bytes → NoEnding (take n bytes)
 no_ending-take zero bytes h = tt
 no_ending-take (suc n) [] h = tt
 no_ending-take (suc n) (b ∷ bs) h = (h.0, no_ending-take n bs h.1)
 
-past-column : (bytes : List ℕ) (p : Point) → 1 ≤ p.column →
+pub past-column : (bytes : List ℕ) (p : Point) → 1 ≤ p.column →
     (past_text bytes p).column ≡ columns_from (p.column - 1) bytes + 1
 past-column [] p some = omega arith
 past-column (b ∷ bs) p some =
