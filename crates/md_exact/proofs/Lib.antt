@@ -1,6 +1,7 @@
 pub mod PlaceLemmas
 pub mod OnLine
 pub mod PieceLemmas
+pub mod WholePlaces
 pub mod RowParts
 mod LeafRows
 mod TextRows

@@ -213,7 +213,7 @@ lose-on cell_line text behind line (suc m) r p stop on k =
 
 -- Bytes.
 
-past-line : (bytes : List ℕ) (p : Point) → (past_text bytes p).line ≡ p.line
+pub past-line : (bytes : List ℕ) (p : Point) → (past_text bytes p).line ≡ p.line
 past-line [] p = refl
 past-line (b ∷ bs) p = past-line bs (past_byte b p)
 
