@@ -86,7 +86,8 @@ space-point : (text : List ℕ) (p : Point) → slice_index text p.index ≡ 32 
     next_point text p ≡ past_byte 32 p
 space-point text p is one =
     let column : p.column + 1 ≡ p.column - 1 + 1 + 1 = omega arith in
-    rw is (ap (λ (c : ℕ). let q : Point = record { line = p.line; column = c; index = p.index + 1; vs = 0 } in q) column)
+    rw is
+    (ap (λ (c : ℕ). let q : Point = record { line = p.line; column = c; index = p.index + 1; vs = 0 } in q) column)
 
 -- where the first cell ends
 abbrev first_after : Point → List Cell → Point
@@ -152,7 +153,8 @@ column-next cell_line text behind r p is lt first =
             subst Has (sym (eqb-true b 32 g))
             (λ is e.
             subst (IsNext text p) e (record {
-              is = sym (space-point text p (at-next p.index text 32 (bs ++ behind) is.text_is) (omega (arith, is.column)));
+              is = sym
+                  (space-point text p (at-next p.index text 32 (bs ++ behind) is.text_is) (omega (arith, is.column)));
               inside = inside p.index text 32 (bs ++ behind) is.text_is;
               further = omega arith;
             }))
@@ -210,6 +212,28 @@ lose-on cell_line text behind line (suc m) r p stop on k =
         ∙ ap (λ (t : Bool). cond t (white_end m left first.at) p) first.white in
         subst (OnLine text behind line (lose m (without_first r))) (sym end)
         (more first (column-on cell_line text behind line r p on lt first))
+
+-- all of an indent that has no more columns than so many
+pub indent-on : (cell_line : Line) (text behind : List ℕ) (line : TextLine) (n room : ℕ) (r : Rest) (p : Point)
+    (stop : List Cell) →
+    OnLine text behind line r p → Stops stop → indent r ≡ n → n ≤ room →
+    OnLine text behind line (lose n r) (white_end room (rest_cells cell_line r p ++ stop) p)
+indent-on cell_line text behind line zero room r p stop on k e le =
+    subst (OnLine text behind line r)
+    (sym (none-end room (rest_cells cell_line r p ++ stop) p (bare-cells cell_line r p stop e k))) on
+indent-on cell_line text behind line (suc n) zero r p stop on k e le = absurd (omega (arith, le))
+indent-on cell_line text behind line (suc n) (suc room) r p stop on k e le =
+    let lt : 0 < indent r = omega (arith, e) in
+    let first = column-first cell_line text behind r p on.stands lt in
+    let left : List Cell = rest_cells cell_line (without_first r) first.at ++ stop in
+    let cells : rest_cells cell_line r p ++ stop ≡
+    cell first.byte first.at cell_line ∷ left = ap (λ (l : List Cell). l ++ stop) first.cells in
+    let end : white_end (suc room) (rest_cells cell_line r p ++ stop) p ≡
+    white_end room left first.at = ap (λ (l : List Cell). white_end (suc room) l p) cells
+    ∙ ap (λ (t : Bool). cond t (white_end room left first.at) p) first.white in
+    subst (OnLine text behind line (lose n (without_first r))) (sym end)
+    (indent-on cell_line text behind line n room (without_first r) first.at stop
+    (column-on cell_line text behind line r p on lt first) k (omega (arith, e, first.columns)) (omega (arith, le)))
 
 -- Bytes.
 

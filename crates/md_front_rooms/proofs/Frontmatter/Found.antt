@@ -33,14 +33,14 @@ use Rattle.md_seam.proofs.FeedLines.{IsEnding}
 
 -- Lists, up to the first that passes a test.
 
-first-here : {X : Type 0} (p : X → Bool) (x : X) (xs : List X) → p x ≡ true →
+pub first-here : {X : Type 0} (p : X → Bool) (x : X) (xs : List X) → p x ≡ true →
     (before_first p (x ∷ xs) ≡ []) × (after_first p (x ∷ xs) ≡ xs)
 first-here p x xs e =
     let none : position_or_len p (x ∷ xs) ≡ 0 =
     ap (λ (t : Bool). cond (not t) (1 + prefix_len (λ y. not (p y)) xs) 0) e in
     (ap (λ (i : ℕ). take i (x ∷ xs)) none, ap (λ (i : ℕ). drop (i + 1) (x ∷ xs)) none)
 
-first-later : {X : Type 0} (p : X → Bool) (x : X) (xs : List X) → p x ≡ false →
+pub first-later : {X : Type 0} (p : X → Bool) (x : X) (xs : List X) → p x ≡ false →
     (before_first p (x ∷ xs) ≡ x ∷ before_first p xs) × (after_first p (x ∷ xs) ≡ after_first p xs)
 first-later p x xs e =
     let n = position_or_len p xs in
@@ -282,7 +282,7 @@ FrontMeans bytes options p lines None = front_of options (map without_ending lin
 FrontMeans bytes options p lines (Some f) = FrontFound bytes options p lines f
 
 -- the marker of a fence marks one
-marker-marks : (line : List ℕ) (m : ℕ) → front_marker line ≡ Some m →
+pub marker-marks : (line : List ℕ) (m : ℕ) → front_marker line ≡ Some m →
     (is_marker m ≡ true) × (is_front_fence m line ≡ true)
 marker-marks line m e = go (is_front_fence 45 line) (is_front_fence 43 line) refl refl (sym (marked line) ∙ e)
   where
