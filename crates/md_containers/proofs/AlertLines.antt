@@ -74,11 +74,11 @@ blank-trims (b ∷ bs) e =
     let parts = and_parts (is_white b) (is_blank bs) e in trim-white b bs parts.0 ∙ blank-trims bs parts.1
 
 -- behind its whitespace nothing is left
-record IsEmpty (r : Rest) : Type 0 where
-  spaces : r.spaces ≡ 0
-  bytes : r.bytes ≡ []
+pub record IsEmpty (r : Rest) : Type 0 where
+  pub spaces : r.spaces ≡ 0
+  pub bytes : r.bytes ≡ []
 
-bare-spaces : (r : Rest) → indent r ≡ 0 → r.spaces ≡ 0
+pub bare-spaces : (r : Rest) → indent r ≡ 0 → r.spaces ≡ 0
 bare-spaces r e = go r.spaces r.bytes (bare r e)
   where
     go : (spaces : ℕ) (bytes : List ℕ) → Bare spaces bytes → spaces ≡ 0
@@ -88,20 +88,20 @@ bare-spaces r e = go r.spaces r.bytes (bare r e)
 empty-cells : (line : Line) (r : Rest) (p : Point) → IsEmpty r → rest_cells line r p ≡ []
 empty-cells line r p e = ap₂ (λ (n : ℕ) (bytes : List ℕ). cells_by line n bytes p) e.spaces e.bytes
 
-empty-past : (r : Rest) (p : Point) → IsEmpty r → past_rest r p ≡ p
+pub empty-past : (r : Rest) (p : Point) → IsEmpty r → past_rest r p ≡ p
 empty-past r p e = ap₂ (λ (n : ℕ) (bytes : List ℕ). past_text bytes (past_cut n p)) e.spaces e.bytes
 
 -- the whitespace of a blank rest, up to the end of the line
-record HasBlankRest (line : Line) (text past : List ℕ) (r : Rest) (p : Point) (stop cells : List Cell)
+pub record HasBlankRest (line : Line) (text past : List ℕ) (r : Rest) (p : Point) (stop cells : List Cell)
     (left : Rest) : Type 0 where
-  empty : IsEmpty left
-  fed : from_ending cells ≡ rest_cells line left (line_end cells p) ++ stop
-  stands : RestAt text past left (line_end cells p)
-  ends : past_rest left (line_end cells p) ≡ past_rest r p
-  events : blank_events cells p ≡ pair_unless_empty n.SpaceOrTab p (line_end cells p)
-  white : White text p (line_end cells p)
+  pub empty : IsEmpty left
+  pub fed : from_ending cells ≡ rest_cells line left (line_end cells p) ++ stop
+  pub stands : RestAt text past left (line_end cells p)
+  pub ends : past_rest left (line_end cells p) ≡ past_rest r p
+  pub events : blank_events cells p ≡ pair_unless_empty n.SpaceOrTab p (line_end cells p)
+  pub white : White text p (line_end cells p)
 
-blank-rest : (line : Line) (text past : List ℕ) (r : Rest) (p : Point) (stop : List Cell) → RestAt text past r p →
+pub blank-rest : (line : Line) (text past : List ℕ) (r : Rest) (p : Point) (stop : List Cell) → RestAt text past r p →
     NoEnding r.bytes → Stops stop → is_blank r.bytes ≡ true →
     HasBlankRest line text past r p stop (rest_cells line r p ++ stop) (behind_indent r)
 blank-rest line text past r p stop is h k blank = record {
@@ -292,7 +292,7 @@ alert-taken options kind line text past r stop p is h k fits marked = record {
         ∙ ap (λ (es : List Event). enter n.BlockQuoteMarker first ∷ exit n.BlockQuoteMarker close ∷ es) blank.events
 
 -- a small indent fits, as in any line
-small-fits : (options : ParseOptions) (line : Line) (text past : List ℕ) (r : Rest) (stop : List Cell) (p : Point) →
+pub small-fits : (options : ParseOptions) (line : Line) (text past : List ℕ) (r : Rest) (stop : List Cell) (p : Point) →
     RestAt text past r p → length (rest_cells line r p ++ stop) < 2 ^ 63 → has_small_indent options r ≡ true →
     indent r ≤ small_indent options
 small-fits options line text past r stop p is short e =

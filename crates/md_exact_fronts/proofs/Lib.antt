@@ -1,2 +1,3 @@
 pub mod Quotes
 pub mod Front
+pub mod Alerts
