@@ -217,11 +217,11 @@ front_rest-more m line next lines =
     behind = exit n.Frontmatter (start (last_end rows)) ∷ tail rows
 
 -- where a line begins
-abbrev begin : ℕ → ℕ → ℕ → Point
+abbrev pub begin : ℕ → ℕ → ℕ → Point
 begin number index column = record { line = number; column = column + 1; index = index; vs = 0 }
 
 -- behind a line with an ending begins the next one
-begins-next : (number index column : ℕ) (full : List ℕ) → is_end (ending_of full) ≡ false →
+pub begins-next : (number index column : ℕ) (full : List ℕ) → is_end (ending_of full) ≡ false →
     past_ending (ending_of full) (past_text (without_ending full) (begin number index column)) ≡
     begin (number + 1) (index + length full) 0
 begins-next number index column full some =
@@ -376,7 +376,7 @@ lines-same m (full ∷ more) number index column f all read =
 -- A text.
 
 -- it has frontmatter of lines where one of them is a fence
-any-is : (m : ℕ) (fulls : List (List ℕ)) (p : Point) →
+pub any-is : (m : ℕ) (fulls : List (List ℕ)) (p : Point) →
     list_any (is_front_fence m) (map without_ending fulls) ≡ is_some (lines_read m fulls p)
 any-is m [] p = refl
 any-is m (full ∷ more) p =
@@ -409,7 +409,7 @@ any-is m (full ∷ more) p =
     go true e = refl
     go false e = e ∙ kept (lines_read m more (past_ending (ending_of full) q))
 
-full-ends : (text : List ℕ) (fulls : List (List ℕ)) → IsLines text fulls → AllEnd fulls
+pub full-ends : (text : List ℕ) (fulls : List (List ℕ)) → IsLines text fulls → AllEnd fulls
 full-ends _ _ NoLines = tt
 full-ends _ _ (LastLine b line bare) = tt
 full-ends _ _ (NextLine line ending rest more bare before is same) = go more (full-ends rest more is)
@@ -453,7 +453,7 @@ text-byte _ _ _ (NextLine (b ∷ line) ending rest more bare before is same) = r
 abbrev front_whole : ℕ → List TextLine → List Event
 front_whole m lines = let rows = map front_row lines in leaf n.Frontmatter (front_line m) rows ++ tail rows
 
-abbrev size_by : List (List ℕ) → Option Front → ℕ
+abbrev pub size_by : List (List ℕ) → Option Front → ℕ
 size_by lines o = elim o [ Some front ↦ length lines - length front.after | None ↦ 0 ]
 
 whole-more : (m : ℕ) (line : TextLine) (lines : List TextLine) →

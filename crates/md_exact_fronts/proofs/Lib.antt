@@ -1,3 +1,4 @@
 pub mod Quotes
 pub mod Front
+pub mod FrontBody
 pub mod Alerts
