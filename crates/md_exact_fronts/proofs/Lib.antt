@@ -2,3 +2,4 @@ pub mod Quotes
 pub mod Front
 pub mod FrontBody
 pub mod Alerts
+pub mod FurtherPrefixes

@@ -230,7 +230,8 @@ has-front options kind cell_line text behind line r p stop t is on plain k short
         from : FromMarker text behind line m (white_rest room cells) marker
         from =
             subst (λ (l : List Cell). FromMarker text behind line m l marker) (sym taken_is.cells)
-            (subst (λ (s : Rest). FromMarker text behind line s (rest_cells cell_line s marker ++ stop) marker) (sym same)
+            (subst (λ (s : Rest). FromMarker text behind line s (rest_cells cell_line s marker ++ stop) marker)
+            (sym same)
             (from-marker cell_line text behind line m.column bytes marker stop is
             (subst (λ (s : Rest). OnLine text behind line s marker) same on_marker) bare_bytes k))
 
