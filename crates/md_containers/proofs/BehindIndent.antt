@@ -1,13 +1,14 @@
 -- What opens behind a small indent, by the cells of a line and by the rest of the line.
 use Rattle.std.proofs.Common.{◌≡◌, ℕ, zero, suc, ◌+◌, ◌^◌, ◌<◌, ◌≤◌, Bool, true, false, cond, List, ◌++◌, length}
-use Rattle.std.proofs.Common.{Option, None, refl, sym, ap, subst, arith}
+use Rattle.std.proofs.Common.{Option}
+use Rattle.std.proofs.Common.{None, refl, sym, ap, ◌∙◌, subst, arith}
 use Rattle.std.proofs.lemmas.List.{length-append}
 use Rattle.md_engine.specs.declared.configuration.ParseOptions.{ParseOptions}
 use Rattle.md_engine.specs.declared.event.Point.{Point}
 use Rattle.md_engine.specs.declared.tokenizer.Line.{Line}
 use Rattle.md_engine.specs.Meaning.{Cell}
 use Rattle.md_containers.specs.ItemPrefix.{ItemPassed}
-use Rattle.md_containers.proofs.QuoteLines.{HasWhite, white-walk}
+use Rattle.md_containers.proofs.QuoteLines.{HasWhite, white-walk, white_end-same}
 use Rattle.md_meaning.specs.Containers.{Taken}
 use Rattle.md_meaning.specs.Rest.{Rest, behind_indent, has_small_indent, indent}
 use Rattle.md_meaning.proofs.TextsLemmas.{NoEnding}
@@ -33,6 +34,7 @@ pub record IsBehind (line : Line) (text past : List ℕ) (r : Rest) (p : Point) 
   pub column : q.column ≡ p.column + indent r
   pub shorter : length (spread line bytes q ++ stop) ≤ length (rest_cells line r p ++ stop)
   pub walked : HasWhite text (rest_cells line r p ++ stop) p q
+  pub end_is : q ≡ white_end (length (rest_cells line r p ++ stop)) (rest_cells line r p ++ stop) p
 
 -- What opens at such bytes where the definition says, and not where whitespace is left, opens where the definition
 -- says.
@@ -79,14 +81,18 @@ behind-indent options line text past r stop p Agrees new found is h k short none
         by from.spaces from.bytes (bare from indented.none) indented.stands (lose-no_ending (indent r) r h)
         indented.ends (omega (arith, columns, all, place, start)) indented.cells (white-length room cells)
         (white-walk line text past (indent r) room r p stop is k refl fits)
+        (white_end-same line text past (indent r) room r p stop is k refl fits
+        ∙ sym
+        (white_end-same line text past (indent r) (length cells) r p stop is k refl (omega (arith, most, size))))
       where
         by : (spaces : ℕ) (bytes : List ℕ) → Bare spaces bytes →
             RestAt text past (record { column = from.column; spaces = spaces; bytes = bytes }) q → NoEnding bytes →
             past_text bytes (past_cut spaces q) ≡ past_rest r p → q.column ≡ p.column + indent r →
             left ≡ cells_by line spaces bytes q ++ stop → length left ≤ length cells → HasWhite text cells p q →
+            q ≡ white_end (length cells) cells p →
             Agrees (new left q) (found (record { column = from.column; spaces = spaces; bytes = bytes }))
-        by (suc m) bytes dark stands no_ending ends column same less walked = absurd dark
-        by zero bytes dark stands no_ending ends column same less walked =
+        by (suc m) bytes dark stands no_ending ends column same less walked end_is = absurd dark
+        by zero bytes dark stands no_ending ends column same less walked end_is =
             let size = ap length same in
             subst (λ (l : List Cell). Agrees (new l q) (found (rest from.column bytes))) (sym same)
             (at bytes
@@ -98,6 +104,7 @@ behind-indent options line text past r stop p Agrees new found is h k short none
               column = column;
               shorter = omega (arith, size, less);
               walked = walked;
+              end_is = end_is;
             }))
 
     go : (x : Bool) → has_small_indent options r ≡ x → Agrees (new left q) (cond x (found from) None)

@@ -25,7 +25,7 @@ use Rattle.md_containers.proofs.FootnoteShorter.{LabelFits, label-fits}
 use Rattle.md_containers.proofs.ItemDigits.{byte-behind, spread-one, starts, starts-spread, starts-stop}
 use Rattle.md_containers.proofs.ItemLines.{ItemAgrees, LeavesRest}
 use Rattle.md_containers.proofs.ItemOpens.{past-append}
-use Rattle.md_containers.proofs.QuoteLines.{HasWhite, white-walk}
+use Rattle.md_containers.proofs.QuoteLines.{HasWhite, white-walk, white_end-same}
 use Rattle.md_meaning.specs.Containers.{Labelled, Taken, footnote_by, footnote_label, opens_footnote}
 use Rattle.md_meaning.specs.Lines.{begins_with}
 use Rattle.md_meaning.specs.Rest.{Rest, behind, behind_indent, has_small_indent, indent}
@@ -73,6 +73,14 @@ footnote_prefix label p q =
 abbrev pub IsSized : List ℕ → Type 0
 IsSized label = (1 ≤ length label) × (length label ≤ 999)
 
+-- what is left of these bytes behind all whitespace at their front, and where that is
+pub record WhiteFrom (line : Line) (text past bytes : List ℕ) (p : Point) (stop : List Cell) (end : Point)
+    (left : Rest) : Type 0 where
+  pub column : ℕ
+  pub stands : RestAt text past (rest column bytes) p
+  pub end_is : end ≡ white_end (indent (rest column bytes)) (rest_cells line (rest column bytes) p ++ stop) p
+  pub left_is : left ≡ behind_indent (rest column bytes)
+
 -- Behind the label.
 
 -- what is left there, behind these events: `:` and all whitespace belong to the prefix
@@ -89,6 +97,7 @@ record HasColon (line : Line) (text past : List ℕ) (column : ℕ) (bytes : Lis
       ++ (pair_unless_empty n.SpaceOrTab (past_byte 58 p) passed.point
       ++ exit n.GfmFootnoteDefinitionPrefix passed.point ∷ []))
   white : White text (past_byte 58 p) passed.point
+  padded : WhiteFrom line text past more (past_byte 58 p) stop passed.point taken.rest
 
 -- whitespace behind `:`, of which no more may stand than there are cells
 colon-opened : (line : Line) (text past : List ℕ) (column : ℕ) (bs : List ℕ) (p : Point) (stop : List Cell)
@@ -116,6 +125,12 @@ colon-opened line text past column bs p stop label front is h k short = record {
       append_assoc front marker (white ++ ended)
       ∙ ap (λ (es : List Event). front ++ (marker ++ (es ++ ended))) walked.events;
   white = walked.white;
+  padded = record {
+    column = column + 1;
+    stands = stands;
+    end_is = white_end-same line text past (indent r) any_size r q stop stands k refl fits;
+    left_is = refl;
+  };
 }
   where
     q : Point
@@ -229,6 +244,7 @@ pub record HasFootnote (line : Line) (text past : List ℕ) (bytes : List ℕ) (
   pub container : passed.container ≡ InFootnote label
   pub events : passed.events ≡ front ++ footnote_prefix label p passed.point
   pub white : White text (colon_end label p) passed.point
+  pub padded : WhiteFrom line text past more (colon_end label p) stop passed.point taken.rest
 
 -- lists of events, one after another
 joined : (a b c d e : List Event) → (((a ++ b) ++ c) ++ d) ++ e ≡ a ++ (b ++ (c ++ (d ++ e)))
@@ -366,6 +382,7 @@ labelled-agrees line text past column cs p stop front (Some l) (Some m) has fewe
           ∙ joined front (bracket_events p (past_byte 91 p)) (caret_events (past_byte 91 p) (label_start p))
           (label_ended end q) _;
       white = colon.white;
+      padded = colon.padded;
     }
 
     colon : ItemAgrees
@@ -527,8 +544,13 @@ pub record OpensFootnote (line : Line) (text past : List ℕ) (p end : Point) (s
   -- the label, where `[` stands, and the bytes from there on
   pub label : List ℕ
   pub start : Point
+  pub start_is : start ≡ white_end (length cells) cells p
   pub more : List ℕ
   pub text_is : drop start.index text ≡ footnote_bytes label more
+  -- what of them is on the line, and the whitespace at its front
+  pub line_more : List ℕ
+  pub more_is : more ≡ line_more ++ past
+  pub padded : WhiteFrom line text past line_more (colon_end label start) stop passed.point taken.rest
   pub whole : start.vs ≡ 0
   pub sized : IsSized label
   pub dark : has_no_white label ≡ true
@@ -589,7 +611,11 @@ footnote-opens_agrees options line text past r stop p is h k short = go options.
       fewer = let size = at.shorter in omega (arith, size, note.fewer);
       label = note.label;
       start = q;
+      start_is = at.end_is;
       more = note.more ++ past;
+      line_more = note.more;
+      more_is = refl;
+      padded = note.padded;
       text_is =
           at.stands.text_is ∙ ap (λ (l : List ℕ). l ++ past) note.bytes_are
           ∙ ap (λ (l : List ℕ). 91 ∷ 94 ∷ l) (append_assoc note.label (93 ∷ 58 ∷ note.more) past);

@@ -10,8 +10,8 @@ use Rattle.md_engine.specs.Meaning.{Cell}
 use Rattle.md_containers.specs.ItemPrefix.{ItemPassed, Padded, item_further, item_indented, item_same, padding}
 use Rattle.md_containers.specs.ItemPrefix.{padding_room}
 use Rattle.md_containers.proofs.ItemFurther.{blank-white, size-white}
-use Rattle.md_containers.proofs.QuoteLines.{white-walk}
-use Rattle.md_seam.proofs.LostColumns.{HasLost, White, lose-walk, white-none}
+use Rattle.md_containers.proofs.QuoteLines.{white-walk, white_end-same}
+use Rattle.md_seam.proofs.LostColumns.{HasLost, White, lose-walk, white-none, zero-end}
 use Rattle.md_seam.proofs.RestLines.{blank-cells}
 use Rattle.md_meaning.specs.Containers.{Taken, item_continues, item_padding}
 use Rattle.md_meaning.specs.Rest.{Rest, behind_indent, indent, is_blank, is_parted, is_white, lose}
@@ -202,6 +202,7 @@ pub record HasPadding (line : Line) (text past : List ℕ) (m : ℕ) (r : Rest) 
   pub column : (lose m r).column ≡ r.column + m
   pub events : t.events ≡ pair_unless_empty n.SpaceOrTab p t.point
   pub white : White text p t.point
+  pub point_is : t.point ≡ white_end m cells p
   pub shorter : length t.cells ≤ length cells
 
 -- they do where the rest of the line is parted from the marker
@@ -291,6 +292,7 @@ padding-is line text past column bytes p stop is h k =
       column = omega arith;
       events = sym (same-none p);
       white = white-none text p;
+      point_is = sym (zero-end cells p);
       shorter = omega arith;
     }
 
@@ -307,6 +309,7 @@ padding-is line text past column bytes p stop is h k =
           column = let c = lost.column in omega (arith, c, size);
           events = apart-pair p (white_end 1 cells p) (lost.apart (omega arith) white);
           white = lost.white;
+          point_is = refl;
           shorter = white-length 1 cells;
         }
 
@@ -326,6 +329,7 @@ padding-is line text past column bytes p stop is h k =
           events =
               sym (ap (λ (t : Bool). cond t (pair n.SpaceOrTab p (white_end 4 cells p)) []) white) ∙ walked.events;
           white = walked.white;
+          point_is = white_end-same line text past (indent r) 4 r p stop is k refl few;
           shorter = white-length 4 cells;
         }
 

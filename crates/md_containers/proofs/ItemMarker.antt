@@ -19,14 +19,23 @@ use Rattle.md_meaning.specs.Leaves.{is_rule}
 use Rattle.md_meaning.specs.Rest.{Rest, behind, is_blank, is_parted, is_white, lose}
 use Rattle.md_meaning.specs.State.{InItem}
 use Rattle.md_meaning.proofs.TextsLemmas.{NoEnding}
+use Rattle.md_seam.specs.Ahead.{white_end}
 use Rattle.md_seam.specs.Events.Inline.{pair_unless_empty}
 use Rattle.md_seam.specs.Events.Nested.{exit, pair}
 use Rattle.md_seam.specs.Events.Places.{past_byte, past_text}
 use Rattle.md_seam.proofs.FeedLines.{Stops, cell, spread}
-use Rattle.md_seam.proofs.RestCells.{RestAt, lose-no_ending}
+use Rattle.md_seam.proofs.RestCells.{RestAt, lose-no_ending, rest_cells}
 
 abbrev rest : ℕ → List ℕ → Rest
 rest column bytes = record { column = column; spaces = 0; bytes = bytes }
+
+-- what is left of these bytes behind the padding at their front, and where that is
+pub record PaddedFrom (line : Line) (text past bytes : List ℕ) (p : Point) (stop : List Cell) (end : Point)
+    (left : Rest) : Type 0 where
+  pub column : ℕ
+  pub stands : RestAt text past (rest column bytes) p
+  pub end_is : end ≡ white_end (item_padding (rest column bytes)) (rest_cells line (rest column bytes) p ++ stop) p
+  pub left_is : left ≡ lose (item_padding (rest column bytes)) (rest column bytes)
 
 -- a marker, the padding behind it, and what is left of the line
 pub record HasItemMarker (line : Line) (text past digits : List ℕ) (byte : ℕ) (bytes : List ℕ) (p : Point)
@@ -40,6 +49,7 @@ pub record HasItemMarker (line : Line) (text past digits : List ℕ) (byte : ℕ
       ++ (pair n.ListItemMarker p (past_byte byte p)
       ++ (pair_unless_empty n.SpaceOrTab (past_byte byte p) passed.point ++ exit n.ListItemPrefix passed.point ∷ []))
   pub white : White text (past_byte byte p) passed.point
+  pub padded : PaddedFrom line text past bytes (past_byte byte p) stop passed.point taken.rest
 
 one-least : (columns : ℕ) → 1 ≤ columns → at_least_one columns ≡ columns
 one-least columns some =
@@ -155,6 +165,7 @@ marked-agrees options interrupting line text past column byte bytes q stop p bef
               ∙ append_assoc front (pair n.ListItemMarker q q')
               (pair_unless_empty n.SpaceOrTab q' t.point ++ exit n.ListItemPrefix t.point ∷ []);
           white = has.white;
+          padded = record { column = column + 1; stands = stands; end_is = has.point_is; left_is = refl };
         }
 
     -- by whether the rest is blank, and the item would interrupt text

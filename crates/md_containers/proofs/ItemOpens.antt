@@ -22,7 +22,7 @@ use Rattle.md_containers.proofs.ItemBreak.{rule-spread}
 use Rattle.md_containers.proofs.ItemDigits.{HasDigits, TakesDigits, digits-walk, spread-one, starts, starts-spread}
 use Rattle.md_containers.proofs.ItemDigits.{starts-stop}
 use Rattle.md_containers.proofs.ItemLines.{ItemAgrees, LeavesRest}
-use Rattle.md_containers.proofs.ItemMarker.{HasItemMarker, marked-agrees}
+use Rattle.md_containers.proofs.ItemMarker.{HasItemMarker, PaddedFrom, marked-agrees}
 use Rattle.md_containers.proofs.ItemShorter.{digits-length}
 use Rattle.md_containers.proofs.ItemBeginMeaning.{bullet-dark}
 use Rattle.md_seam.proofs.LostColumns.{White}
@@ -77,6 +77,7 @@ pub record HasItem (line : Line) (text past : List ℕ) (bytes : List ℕ) (p : 
   pub item : (width : ℕ) × (blank : Bool) × (passed.container ≡ InItem digits byte width blank)
   pub events : passed.events ≡ front ++ prefix_of digits byte p passed.point
   pub white : White text (past_byte byte (past_text digits p)) passed.point
+  pub padded : PaddedFrom line text past more (past_byte byte (past_text digits p)) stop passed.point taken.rest
 
 -- Bytes.
 
@@ -158,6 +159,7 @@ bullet-agrees options interrupting line text past column b bs q stop p before fr
       item = has.item;
       events = has.events ∙ append_assoc front (enter n.ListItemPrefix q ∷ []) _;
       white = has.white;
+      padded = has.padded;
     }
 
     go : (x : Bool) → options.constructs.thematic_break && is_rule (b ∷ bs) ≡ x →
@@ -344,6 +346,7 @@ by-digits options interrupting line text past column bytes q stop p before front
           item = item.item;
           events = item.events ∙ digits-events ds front _ q some;
           white = item.white;
+          padded = item.padded;
         }
 
     ended : (left : List Cell) → starts ends_value left ≡ false → Agrees (numbered left) None
@@ -587,8 +590,14 @@ pub record OpensItem (line : Line) (text past : List ℕ) (p end : Point) (stop 
   pub digits : List ℕ
   pub byte : ℕ
   pub value : Point
+  pub value_is : value ≡ white_end (length cells) cells p
   pub more : List ℕ
   pub text_is : drop value.index text ≡ digits ++ (byte ∷ more)
+  -- what of them is on the line, and the padding
+  pub line_more : List ℕ
+  pub more_is : more ≡ line_more ++ past
+  pub padded :
+      PaddedFrom line text past line_more (past_byte byte (past_text digits value)) stop passed.point taken.rest
   pub whole : value.vs ≡ 0
   pub marker : IsMarker digits byte
   pub item : (width : ℕ) × (blank : Bool) × (passed.container ≡ InItem digits byte width blank)
@@ -652,7 +661,11 @@ opens-agrees options interrupting line text past r stop p is h k short = go opti
       digits = item.digits;
       byte = item.byte;
       value = q;
+      value_is = at.end_is;
       more = item.more ++ past;
+      line_more = item.more;
+      more_is = refl;
+      padded = item.padded;
       text_is =
           at.stands.text_is ∙ ap (λ (l : List ℕ). l ++ past) item.bytes_are
           ∙ append_assoc item.digits (item.byte ∷ item.more) past;

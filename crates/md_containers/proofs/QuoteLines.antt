@@ -112,6 +112,25 @@ white-walk line text behind (suc n) (suc room) r p stop is k e le =
     (step-append text p first.at (white_end room cs first.at)
     (column-step line text behind r p is (omega (arith, e)) first) further.white))
 
+-- room for more columns than there are changes nothing
+pub white_end-same : (line : Line) (text behind : List ℕ) (n room : ℕ) (r : Rest) (p : Point) (stop : List Cell) →
+    RestAt text behind r p → Stops stop → indent r ≡ n → n ≤ room →
+    white_end room (rest_cells line r p ++ stop) p ≡ white_end n (rest_cells line r p ++ stop) p
+white_end-same line text behind zero room r p stop is k e le =
+    let white = bare-cells line r p stop e k in
+    none-end room (rest_cells line r p ++ stop) p white ∙ sym (none-end 0 (rest_cells line r p ++ stop) p white)
+white_end-same line text behind (suc n) zero r p stop is k e le = absurd (omega (arith, le))
+white_end-same line text behind (suc n) (suc room) r p stop is k e le =
+    let first = column-first line text behind r p is (omega (arith, e)) in
+    let cs : List Cell = rest_cells line (without_first r) first.at ++ stop in
+    let cells : rest_cells line r p ++ stop ≡
+    cell first.byte first.at line ∷ cs = ap (λ (l : List Cell). l ++ stop) first.cells in
+    ap (λ (l : List Cell). white_end (suc room) l p) cells
+    ∙ ap (λ (x : Point). cond (is_white first.byte) x p)
+    (white_end-same line text behind n room (without_first r) first.at stop first.stands k
+    (omega (arith, e, first.columns)) (omega (arith, le)))
+    ∙ sym (ap (λ (l : List Cell). white_end (suc n) l p) cells)
+
 -- Behind the marker.
 
 -- at most one column of whitespace is taken

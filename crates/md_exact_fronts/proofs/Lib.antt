@@ -3,3 +3,4 @@ pub mod Front
 pub mod FrontBody
 pub mod Alerts
 pub mod FurtherPrefixes
+pub mod Items
