@@ -4,3 +4,4 @@ pub mod FrontBody
 pub mod Alerts
 pub mod FurtherPrefixes
 pub mod Items
+pub mod Footnotes
