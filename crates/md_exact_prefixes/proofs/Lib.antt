@@ -1,0 +1,2 @@
+pub mod ContainersSame
+pub mod FrontSame
