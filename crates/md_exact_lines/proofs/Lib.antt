@@ -5,3 +5,5 @@ pub mod Heading
 pub mod Runs
 pub mod Lost
 pub mod Fences
+pub mod OnLine
+pub mod LeafLines
