@@ -60,7 +60,8 @@ abbrev pub end_at : Rest → Point → Point
 end_at r p = past_text (rest_bytes r) p
 
 pub ends-at : (line : TextLine) (r : Rest) (p : Point) → BeginsAt line r p → place line (line_end line) ≡ end_at r p
-ends-at line r p at = begins-place line (line_end line) (end_at r p) (end-behind line r p (rest_bytes r) at refl).stands.at
+ends-at line r p at =
+    begins-place line (line_end line) (end_at r p) (end-behind line r p (rest_bytes r) at refl).stands.at
 
 -- a leaf on a line is what stands in it, from its begin to the end of the line
 pub leaf-one : (name : Name) (inside : TextLine → Rest → List Event) (row : Row) (p : Point) →
@@ -111,7 +112,8 @@ marks-line name line r p m bytes at e h =
     line-runs name m line r p at dark
     (ap (list_all (is_mark m)) (sym (take-append-drop w all)) ∙ list_all-append (is_mark m) (take w all) (drop w all)
     ∙ and_from (list_all (is_mark m) (take w all)) (list_all (is_mark m) (drop w all))
-    (pass-marks is_white m (take w all) (white-mark m) (front-passes is_white all)) (ap (list_all (is_mark m)) trimmed ∙ h))
+    (pass-marks is_white m (take w all) (white-mark m) (front-passes is_white all))
+    (ap (list_all (is_mark m)) trimmed ∙ h))
     (some r.bytes e)
   where
     all : List ℕ

@@ -7,3 +7,4 @@ pub mod Lost
 pub mod Fences
 pub mod OnLine
 pub mod LeafLines
+pub mod Spans
