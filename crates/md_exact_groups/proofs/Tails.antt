@@ -38,7 +38,8 @@ pub single-group : (options : ParseOptions) (bytes : List ℕ) (x : Row) (r : Fr
     events_by options x.role (x ∷ []) ≡ leaf_unread bytes r.kind r →
     group_events options (x ∷ []) ≡ tabled_group options bytes (Single r)
 single-group options bytes x r line last is =
-    ap₂ (λ (es fs : List Event). es ++ fs) (ap₂ (λ (es fs : List Event). es ++ fs) line.front is) (tail-one x r line last)
+    ap₂ (λ (es fs : List Event). es ++ fs) (ap₂ (λ (es fs : List Event). es ++ fs) line.front is)
+    (tail-one x r line last)
 
 -- Blank lines behind code, behind this line: no container ends in front of them.
 abbrev pub AreBehindCode : Row → List Row → List FrameRow → Type 0

@@ -8,3 +8,4 @@ pub mod Fences
 pub mod OnLine
 pub mod LeafLines
 pub mod Spans
+pub mod RoomLines
