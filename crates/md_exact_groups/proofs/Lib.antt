@@ -1,1 +1,2 @@
 pub mod Tails
+pub mod Remaining

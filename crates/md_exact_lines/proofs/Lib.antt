@@ -9,3 +9,4 @@ pub mod OnLine
 pub mod LeafLines
 pub mod Spans
 pub mod RoomLines
+pub mod TextLines
