@@ -19,9 +19,8 @@ use Rattle.md_seam.specs.Events.Spelled.{IsPrefix, IsQuiet, IsQuoteMarker, ItemS
 use Rattle.md_seam.specs.Events.Spelled.{TextRole, UnorderedShape, byte_at, is_ordered, role, spelled}
 use Rattle.md_containers.specs.ItemsHeld.{ItemsHeld}
 use Rattle.md_containers.specs.ItemsStand as stand
-use Rattle.md_containers.specs.ItemsStand.{AmongBlocks, InFront, InLabel, Inner, IsMarkerAt}
-use Rattle.md_containers.specs.ItemsStand.{ItemsStand, MayBegin, MayEnd, MayStand, Site, inner_behind, inner_in}
-use Rattle.md_containers.specs.ItemsStand.{is_list_marker, root}
+use Rattle.md_containers.specs.ItemsStand.{AmongBlocks, InFront, InLabel, Inner, IsMarkerAt, ItemsStand, MayBegin}
+use Rattle.md_containers.specs.ItemsStand.{MayEnd, MayStand, Site, inner_behind, inner_in, is_list_marker, root}
 use Rattle.md_containers.specs.ItemsStand.{site_after}
 use Rattle.md_containers.specs.Listed.{Begins, Ends, Place, Stays, Turn, given, given_by, goes_on, is_item, list_begin}
 use Rattle.md_containers.specs.Listed.{list_end, list_name, listed, listed_from, marker_ahead, marker_by, next_item}

@@ -1,7 +1,6 @@
 -- The events of a text: its byte order mark, its frontmatter, and the lines of its body, put together as leaves.
 use Rattle.std.specs.Prelude.{ℕ, ◌-◌, Bool, true, false, ◌||◌, if◌then◌else◌, List, [], ◌∷◌, ◌++◌, flat_map, length}
-use Rattle.std.specs.Prelude.{map}
-use Rattle.std.specs.Prelude.{take, drop, Some, None}
+use Rattle.std.specs.Prelude.{map, take, drop, Some, None}
 use Rattle.md_engine.specs.declared.configuration.ParseOptions.{ParseOptions}
 use Rattle.md_engine.specs.declared.event.Event.{Event}
 use Rattle.md_engine.specs.declared.event.Name.TheVariants as n

@@ -1,7 +1,6 @@
 -- The lines of a body, one by one: what each is where it meets what is open, and which containers end behind it.
 use Rattle.std.specs.Prelude.{ℕ, suc, Bool, true, false, ◌&&◌, ◌==◌, nat_lt, not, if◌then◌else◌, List, [], ◌∷◌, ◌++◌}
-use Rattle.std.specs.Prelude.{length}
-use Rattle.std.specs.Prelude.{drop, Option, Some, None}
+use Rattle.std.specs.Prelude.{length, drop, Option, Some, None}
 use Rattle.std.specs.Option.{is_some}
 use Rattle.md_engine.specs.declared.configuration.ParseOptions.{ParseOptions}
 use Rattle.md_engine.specs.declared.event.Event.{Event}

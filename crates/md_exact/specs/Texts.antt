@@ -2,8 +2,7 @@
 --
 -- What is left of a text is a list of rows, of which the first may be read in part.
 use Rattle.std.specs.Prelude.{ℕ, zero, suc, ◌+◌, ◌-◌, Bool, true, false, ◌==◌, if◌then◌else◌, List, [], ◌∷◌, ◌++◌}
-use Rattle.std.specs.Prelude.{length, map, drop}
-use Rattle.std.specs.Prelude.{Some, None}
+use Rattle.std.specs.Prelude.{length, map, drop, Some, None}
 use Rattle.std.specs.Option.{is_some}
 use Rattle.std.specs.List.{before_first}
 use Rattle.md_engine.specs.declared.configuration.ParseOptions.{ParseOptions}

@@ -1,6 +1,5 @@
 -- The prefix of a quote that opens, with the marker of an alert if there is one: its events are those of its cells.
-use Rattle.std.proofs.Common.{◌≡◌, ℕ, ◌^◌, ◌<◌, ◌≤◌, Bool, true, false, cond, ◌&&◌, List, [], ◌∷◌, ◌++◌, length}
-use Rattle.std.proofs.Common.{take}
+use Rattle.std.proofs.Common.{◌≡◌, ℕ, ◌^◌, ◌<◌, ◌≤◌, Bool, true, false, cond, ◌&&◌, List, [], ◌∷◌, ◌++◌, length, take}
 use Rattle.std.proofs.Common.{drop, refl, sym, ap, ap₂, ◌∙◌, subst, append_assoc, arith}
 use Rattle.std.specs.Prelude.{Option, Some, None}
 use Rattle.std.proofs.lemmas.Bool.{and_parts}
@@ -12,13 +11,11 @@ use Rattle.md_engine.specs.declared.event.Point.{Point}
 use Rattle.md_engine.specs.declared.tokenizer.Line.{Line}
 use Rattle.md_engine.specs.Meaning.{Cell}
 use Rattle.md_leaves.specs.BlankRule.{blank_events}
-use Rattle.md_containers.specs.QuoteRule.{alert_close, alert_end, alert_events, alert_of, behind_alert}
-use Rattle.md_containers.specs.QuoteRule.{marked_events, opening_end, opening_events, opening_kind, prefix_end}
-use Rattle.md_containers.specs.QuoteRule.{prefix_rest}
+use Rattle.md_containers.specs.QuoteRule.{alert_close, alert_end, alert_events, alert_of, behind_alert, marked_events}
+use Rattle.md_containers.specs.QuoteRule.{opening_end, opening_events, opening_kind, prefix_end, prefix_rest}
 use Rattle.md_containers.proofs.AlertBytes.{Marked, first-passes, marked-cells}
 use Rattle.md_containers.proofs.AlertLines.{HasBlankRest, alert-agrees, bare-spaces, behind_alert_of, blank-rest}
-use Rattle.md_containers.proofs.AlertLines.{empty-past}
-use Rattle.md_containers.proofs.AlertLines.{small-fits}
+use Rattle.md_containers.proofs.AlertLines.{empty-past, small-fits}
 use Rattle.md_containers.proofs.QuoteLines.{HasPrefix, HasWhite, PrefixIs, prefix-agrees, quote-container}
 use Rattle.md_containers.proofs.QuoteLines.{quote-no_ending, white-walk}
 use Rattle.md_meaning.specs.declared.alert.AlertKind.{AlertKind}

@@ -12,8 +12,7 @@ use Rattle.md_engine.specs.declared.event.Point.{Point}
 use Rattle.md_engine.specs.declared.tokenizer.Line.{Line}
 use Rattle.md_engine.specs.Meaning.{Cell}
 use Rattle.md_containers.specs.QuoteRule.{behind_end, behind_events, front_events, marker_end, marker_events}
-use Rattle.md_containers.specs.QuoteRule.{prefix_end}
-use Rattle.md_containers.specs.QuoteRule.{prefix_events}
+use Rattle.md_containers.specs.QuoteRule.{prefix_end, prefix_events}
 use Rattle.md_containers.proofs.QuoteLines.{HasWhite, white-walk}
 use Rattle.md_meaning.specs.declared.alert.AlertKind.{AlertKind}
 use Rattle.md_meaning.specs.Containers.{Taken, quote_taken}
@@ -31,8 +30,7 @@ use Rattle.md_seam.proofs.FeedLines.{Stops, cell}
 use Rattle.md_seam.proofs.InlineLemmas.{same-refl}
 use Rattle.md_seam.proofs.LostColumns.{column-step}
 use Rattle.md_seam.proofs.RestCells.{Bare, HasIndent, RestAt, bare, bare-cells, column-first, indent-length}
-use Rattle.md_seam.proofs.RestCells.{indent-taken}
-use Rattle.md_seam.proofs.RestCells.{lose-no_ending, rest_cells, without_first}
+use Rattle.md_seam.proofs.RestCells.{indent-taken, lose-no_ending, rest_cells, without_first}
 use Rattle.md_seam.proofs.RestLines.{small-room}
 use Rattle.md_exact.specs.Places.{TextLine, past, piece, white}
 use Rattle.md_exact.specs.Prefixes.{quote_prefix}

@@ -20,9 +20,8 @@ use Rattle.md_outline.specs.Roles.{is_plain, is_unlisted}
 use Rattle.md_seam.specs.Events.Prefix.{is_prefix}
 use Rattle.md_seam.specs.Events.Spelled.{AsCell, AsDelimiter, AsDestination, AsHeading, AsInfo, AsLabel, AsLine, AsMeta}
 use Rattle.md_seam.specs.Events.Spelled.{AsTitle, ContainerRole, IsCell, IsFence, IsRow, IsTitle, LeafKind, LeafRole}
-use Rattle.md_seam.specs.Events.Spelled.{OfCode}
-use Rattle.md_seam.specs.Events.Spelled.{OfDefinition, OfFence, OfFrontmatter, OfHeadingSetext, OfHtml, OfMath, OfTable}
-use Rattle.md_seam.specs.Events.Spelled.{Role, TextRole, role}
+use Rattle.md_seam.specs.Events.Spelled.{OfCode, OfDefinition, OfFence, OfFrontmatter, OfHeadingSetext, OfHtml, OfMath}
+use Rattle.md_seam.specs.Events.Spelled.{OfTable, Role, TextRole, role}
 
 -- Content, and what is told of it.
 

@@ -1,6 +1,5 @@
 -- The last line of an open text, and what is held of it.
-use Rattle.std.proofs.Common.{◌≡◌, ℕ, List, [], ◌∷◌, ◌++◌}
-use Rattle.std.proofs.Common.{refl}
+use Rattle.std.proofs.Common.{◌≡◌, ℕ, List, [], ◌∷◌, ◌++◌, refl}
 use Rattle.md_meaning.specs.State.{ParagraphLine}
 use Rattle.md_frame.specs.Leaf.Paragraph.{of_last}
 

@@ -1,6 +1,6 @@
 -- The laws of a leaf on one line: what the frame asks of each (`LineLeaf`), where this resolver sets such leaves.
 use Rattle.std.proofs.Common.{◌≡◌, ℕ, ◌^◌, ◌<◌, ◌≤◌, Bool, true, false, cond, List, ◌++◌, length}
-use Rattle.md_frame.specs.HeldLeaf.{kind_of_leaf, left_by, may_go_on, takes_lazy}
+use Rattle.md_frame.specs.HeldLeaf.{kind_of_leaf, left_by, may_go_on, takes_lazy, has_lines}
 use Rattle.std.specs.Prelude.{◌&&◌, ◌||◌, Some}
 use Rattle.md_engine.specs.declared.configuration.ParseOptions.{ParseOptions}
 use Rattle.md_engine.specs.declared.event.Content.{Content}
@@ -27,7 +27,6 @@ use Rattle.md_frame.proofs.LinedFacts.{AreLined}
 use Rattle.md_frame.proofs.OutsideFacts.{LineResolver}
 use Rattle.md_frame.proofs.SpannedFacts.{AreUnspanned}
 use Rattle.md_frame.proofs.UnturnedFacts.{AreUnturned}
-use Rattle.md_frame.specs.HeldLeaf.{has_lines}
 use Rattle.md_frame.proofs.ContentFacts.{NoContent, WantsContent}
 
 -- what its trial leaves open: one that always ends on its line leaves that to flow, and all as it was

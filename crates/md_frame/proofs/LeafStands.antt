@@ -12,9 +12,8 @@ use Rattle.md_containers.specs.ItemsStand.{InLeaf, Inner, IsPart, MayStand, Site
 use Rattle.md_containers.specs.Unlisted.{in_place}
 use Rattle.md_containers.proofs.UnlistedLemmas.{NoListing, StandsTo, among, stands-append}
 use Rattle.md_seam.specs.Events.Nested.{around, enter, exit}
-use Rattle.md_seam.specs.Events.Spelled.{ContainerRole, IsEnding, IsPrefix, IsQuiet, IsQuoteMarker, LeafKind}
-use Rattle.md_seam.specs.Events.Spelled.{LeafRole, Role, TextRole}
-use Rattle.md_seam.specs.Events.Spelled.{role}
+use Rattle.md_seam.specs.Events.Spelled.{ContainerRole, IsEnding, IsPrefix, IsQuiet, IsQuoteMarker, LeafKind, LeafRole}
+use Rattle.md_seam.specs.Events.Spelled.{Role, TextRole, role}
 use Rattle.md_seam.proofs.SpelledLemmas.{Between, Quiet, Roles}
 use Rattle.md_frame.specs.EndingName.{ending_name}
 use Rattle.md_frame.proofs.EventNames.{NoContainer, name-unlisted, part-no_container}

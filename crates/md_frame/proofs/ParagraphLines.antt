@@ -11,8 +11,7 @@ use Rattle.md_seam.specs.Events.Spelled.{Text, begun, byte_at, text_to}
 use Rattle.md_meaning.specs.State.{Container, ParagraphLine, texts}
 use Rattle.md_meaning.specs.Texts.{trim_each}
 use Rattle.md_seam.proofs.SpelledLemmas.{Between, Roles, roles-append, text_after}
-use Rattle.md_meaning.proofs.TextsLemmas.{Both, Ending, EndsBefore, IsOfLines, LineFeed, NoEnding, Return}
-use Rattle.md_meaning.proofs.TextsLemmas.{ending_bytes}
+use Rattle.md_meaning.proofs.TextsLemmas.{Both, Ending, EndsBefore, IsOfLines, LineFeed, NoEnding, Return, ending_bytes}
 use Rattle.md_outline.proofs.TextCuts.{trim-blank}
 use Rattle.md_frame.specs.Row.{Row, last_row, read_lines}
 use Rattle.md_frame.proofs.FrontFacts.{Behind, Begins, LinePrefix, Goes}

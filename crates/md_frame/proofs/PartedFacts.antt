@@ -11,8 +11,7 @@ use Rattle.md_seam.specs.declared.inline.Chunk.{Chunk}
 use Rattle.md_seam.specs.Events.Inline.{plain_chunk}
 use Rattle.md_seam.specs.Events.Nested.{around, enter, exit}
 use Rattle.md_seam.specs.Events.Spelled.{IsEnding as EndingRole, IsPrefix as PrefixRole, IsQuiet, Role, TextRole}
-use Rattle.md_seam.specs.Events.Spelled.{byte_at}
-use Rattle.md_seam.specs.Events.Spelled.{role}
+use Rattle.md_seam.specs.Events.Spelled.{byte_at, role}
 use Rattle.md_seam.proofs.SpelledLemmas.{Quiet, QuietOrEnding, Roles}
 use Rattle.md_outline.specs.Between.{is_between}
 use Rattle.md_outline.specs.Outlined.{OpenTextSpan, are_parted, parts_by, span_by}

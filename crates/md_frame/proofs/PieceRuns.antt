@@ -22,8 +22,7 @@ use Rattle.md_seam.proofs.PlacesLemmas.{at-next}
 use Rattle.md_frame.specs.MarkRuns.{Apart, Marks, Run, White, mark_runs}
 use Rattle.md_frame.proofs.BetweenFacts.{between-before, is_low, white-low}
 use Rattle.md_frame.proofs.SpanLemmas.{either}
-use Rattle.md_frame.proofs.PieceFacts.{CutsFirst, Over, Starts, begins-cut, begins-whole, over-front}
-use Rattle.md_frame.proofs.PieceFacts.{over-stands, span}
+use Rattle.md_frame.proofs.PieceFacts.{CutsFirst, Over, Starts, begins-cut, begins-whole, over-front, over-stands, span}
 use Rattle.md_frame.proofs.Stretch.{IsPiece, Stretch, stretch-append, stretch-none, stretch-pair}
 
 -- what a run is called

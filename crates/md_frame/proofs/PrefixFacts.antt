@@ -1,7 +1,7 @@
 -- What is known of the events that stand in front of the content of a container on a line, from the point where they
 -- begin to the one where its content does: the frame needs no more of a container.
 use Rattle.std.proofs.Common.{◌≡◌, ◌≢◌, ℕ, ◌≤◌, Bool, true, false, List, [], ◌∷◌, ◌++◌}
-use Rattle.std.specs.Prelude.{◌==◌}
+use Rattle.std.specs.Prelude.{◌==◌, None}
 use Rattle.md_engine.specs.declared.event.Event.{Event}
 use Rattle.md_engine.specs.declared.event.Point.{Point}
 use Rattle.md_containers.proofs.UnlistedLemmas.{NoListing, StandsTo, Unlists, among}
@@ -11,7 +11,6 @@ use Rattle.md_seam.specs.Events.Nested.{enter}
 use Rattle.md_seam.specs.Events.Spelled.{ContainerRole, Reading, byte_at, read}
 use Rattle.md_meaning.specs.Rest.{is_blank}
 use Rattle.md_meaning.specs.Tree.{End}
-use Rattle.std.specs.Prelude.{None}
 use Rattle.md_frame.specs.Around.{around_of}
 use Rattle.md_frame.proofs.CollectFacts.{Collects}
 use Rattle.md_seam.proofs.EndingsLemmas.{AreOthers}

@@ -10,8 +10,7 @@ use Rattle.md_engine.specs.Meaning.{Cell}
 use Rattle.md_seam.specs.Ahead.{begins_white, line_bytes, line_end, point_after, white_end, white_rest}
 use Rattle.md_seam.specs.Events.Places.{past_byte, past_text}
 use Rattle.md_seam.specs.Spaces.{small_indent}
-use Rattle.md_meaning.specs.Rest.{Rest, behind_indent, cut_tab, has_small_indent, indent, is_white}
-use Rattle.md_meaning.specs.Rest.{trim_start}
+use Rattle.md_meaning.specs.Rest.{Rest, behind_indent, cut_tab, has_small_indent, indent, is_white, trim_start}
 use Rattle.md_seam.proofs.FeedLines.{Stops, behind_last, bytes_of, cell, columns_more, next_column}
 use Rattle.md_seam.proofs.FeedLines.{spread, spread-end, tab_cells, tab_end, tab_end-stop}
 use Rattle.md_seam.proofs.RestCells.{Cut, HasIndent, RestAt, bare-cells, cells_by, indent-length}

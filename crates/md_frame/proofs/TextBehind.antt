@@ -1,8 +1,7 @@
 -- A line by its cells is its rest: of its text a tab counts once, and what is left of a tab that a prefix has cut does
 -- not count; where it begins, its point tells.
-use Rattle.std.proofs.Common.{◌≡◌, ℕ, zero, suc, ◌+◌, ◌-◌, ◌≤◌, Bool, true, false, cond, nat_eq, nat_lt, List, [], ◌∷◌, ◌++◌}
-use Rattle.std.proofs.Common.{append-nil, refl, ap, ap₂, sym}
-use Rattle.std.proofs.Common.{◌∙◌, arith}
+use Rattle.std.proofs.Common.{◌≡◌, ℕ, zero, suc, ◌+◌, ◌-◌, ◌≤◌, Bool, true, false, cond, nat_eq, nat_lt, List, [], ◌∷◌}
+use Rattle.std.proofs.Common.{◌++◌, append-nil, refl, ap, ap₂, sym, ◌∙◌, arith}
 use Rattle.std.proofs.lemmas.Bool.Decides.{nat_tests}
 use Rattle.md_meaning.specs.Rest.{Rest, tab_columns}
 use Rattle.md_meaning.proofs.TextsLemmas.{NoEnding}

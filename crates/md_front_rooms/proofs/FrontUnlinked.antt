@@ -17,10 +17,8 @@ use Rattle.md_seam.specs.Events.Nested.{enter, exit, pair}
 use Rattle.md_seam.specs.Events.Places.{past_text}
 use Rattle.md_seam.specs.Substituted.{stays}
 use Rattle.md_front_rooms.specs.Front.{FrontRead, behind_these, ending_of, ending_part, events_of, fence_part}
-use Rattle.md_front_rooms.specs.Front.{front_events}
-use Rattle.md_front_rooms.specs.Front.{front_from, front_read, line_part, lines_read, mark_end, mark_events}
-use Rattle.md_front_rooms.specs.Front.{mark_point}
-use Rattle.md_front_rooms.specs.Front.{past_ending, text_front}
+use Rattle.md_front_rooms.specs.Front.{front_events, front_from, front_read, line_part, lines_read, mark_end}
+use Rattle.md_front_rooms.specs.Front.{mark_events, mark_point, past_ending, text_front}
 use Rattle.md_frame.specs.LineColumns.{part_over}
 use Rattle.md_frame.proofs.EachEvent.{each-append}
 use Rattle.md_frame.proofs.PartFacts.{IsUnlinked, NoLinks}

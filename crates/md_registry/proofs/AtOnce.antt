@@ -1,8 +1,8 @@
 -- Prefixes that are taken at once are what the states of containers take.
-use Rattle.std.proofs.Common.{◌≡◌, Bool, true, false, Option, Some, None, refl, sym, ◌∙◌, ap}
-use Rattle.md_registry.specs.Registry.{bars_containers}
-use Rattle.md_registry.specs.Flow.{behind_all}
-use Rattle.std.proofs.Common.{subst}
+use Rattle.std.proofs.Common.{◌≡◌, Bool, true, false, Option, Some, None, refl, sym, ◌∙◌, ap, subst}
+use Rattle.md_registry.specs.Registry.{bars_containers, goes_on_with, may_go_on, opener_front, openers}
+use Rattle.md_registry.specs.Flow.{behind_all, existing_after_transition, existing_before_code}
+use Rattle.md_registry.specs.Flow.{existing_before_transition, trial_code}
 use Rattle.md_engine.specs.declared.state.Name.TheVariants as n
 use Rattle.md_engine.specs.declared.state.document.State.TheVariants as document
 use Rattle.md_engine.specs.declared.state.State.{State}
@@ -17,10 +17,7 @@ use Rattle.md_seam.specs.Spaces.{ends_line}
 use Rattle.md_seam.specs.Look.{looks_behind, may_with}
 use Rattle.md_seam.specs.Transition.{Transition, tried}
 use Rattle.md_registry.specs.AtOnce.{GoesAtOnce, HasPrefix, asking_by, asking_next, prefix_taken}
-use Rattle.md_registry.specs.Flow.{existing_after_transition, existing_before_code, existing_before_transition}
-use Rattle.md_registry.specs.Flow.{trial_code}
 use Rattle.md_registry.specs.LineFlags.{asking, next_container}
-use Rattle.md_registry.specs.Registry.{goes_on_with, may_go_on, opener_front, openers}
 use Rattle.md_registry.specs.States.{FlowStep}
 use Rattle.md_registry.proofs.PlainLaws.{TookPrefix, after-it, others}
 use Rattle.md_registry.proofs.Registry.{plain-laws}

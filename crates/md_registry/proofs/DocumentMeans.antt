@@ -24,9 +24,8 @@ use Rattle.md_leaves.proofs.BomMeaning.{bom_means}
 use Rattle.md_seam.specs.Ahead.{HasWhite}
 use Rattle.md_seam.proofs.SpacesTermination.{does-stands}
 use Rattle.md_seam.proofs.WhiteMeaning.{white_means}
-use Rattle.md_registry.specs.Document.{DocumentStep, before_frontmatter_transition}
-use Rattle.md_registry.specs.Document.{document_own_transition, document_table_scheme}
-use Rattle.md_registry.specs.Document.{document_transition, start_transition}
+use Rattle.md_registry.specs.Document.{DocumentStep, before_frontmatter_transition, document_own_transition}
+use Rattle.md_registry.specs.Document.{document_table_scheme, document_transition, start_transition}
 use Rattle.md_front_rooms.specs.DocumentRule.{document_behaves}
 use Rattle.md_frame.specs.Rule.{tried}
 use Rattle.md_registry.proofs.DocumentStates.{document_terminates}

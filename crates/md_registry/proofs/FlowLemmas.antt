@@ -1,8 +1,10 @@
 -- Flow goes line by line.
 use Rattle.std.proofs.Common.{◌≡◌, ℕ, zero, suc, ◌<◌, ◌≤◌, Bool, true, false, cond, nat_eq, List, [], ◌∷◌, length, Option, Some, None}
-use Rattle.md_registry.specs.Registry.{asked_first, bars_containers}
-use Rattle.md_registry.specs.FlowRule.{all_on, blank_at_end, inside_by, inside_of}
-use Rattle.md_registry.specs.FlowRule.{behind_leaf}
+use Rattle.md_registry.specs.Registry.{asked_first, bars_containers, begins_at, continues_at, leaf, openers, trials}
+use Rattle.md_registry.specs.FlowRule.{all_on, blank_at_end, inside_by, inside_of, behind_leaf, asking_here}
+use Rattle.md_registry.specs.FlowRule.{behind_containers, blank_ended, ended, ended_to, existing_by, existing_at}
+use Rattle.md_registry.specs.FlowRule.{existing_from, flow_at, flow_lines, leaf_ended, leaf_of, leaves_of, line_ended}
+use Rattle.md_registry.specs.FlowRule.{line_then, new_from, new_of, opened, openers_of, opens_of}
 use Rattle.std.proofs.Common.{refl, ap, arith}
 use Rattle.md_engine.specs.declared.configuration.ParseOptions.{ParseOptions}
 use Rattle.md_engine.specs.declared.tokenizer.container.Container.{Container}
@@ -16,16 +18,10 @@ use Rattle.md_seam.specs.Ahead.{line_bytes}
 use Rattle.md_seam.specs.Look.{first_seen}
 use Rattle.md_seam.specs.Spaces.{ends_line}
 use Rattle.md_meaning.specs.Rest.{is_blank}
-use Rattle.md_frame.specs.Rule.{Rule}
-use Rattle.md_registry.specs.FlowRule.{asking_here, behind_containers, blank_ended, ended, ended_to, existing_by}
-use Rattle.md_registry.specs.FlowRule.{existing_at, existing_from, flow_at, flow_lines, leaf_ended, leaf_of}
-use Rattle.md_registry.specs.FlowRule.{leaves_of, line_ended}
-use Rattle.md_frame.specs.Rule.{tried}
-use Rattle.md_registry.specs.FlowRule.{line_then, new_from, new_of, opened, openers_of, opens_of}
+use Rattle.md_frame.specs.Rule.{Rule, tried}
 use Rattle.md_registry.specs.LineFlags.{begun_line, blanked, ended_on, next_container, shut_leaf, kept_containers}
 use Rattle.md_registry.specs.LineFlags.{went_on}
 use Rattle.md_frame.specs.LeafName.{LeafName}
-use Rattle.md_registry.specs.Registry.{begins_at, continues_at, leaf, openers, trials}
 use Rattle.md_frame.proofs.FromEnding.{from_ending-again, from_ending-shrinks}
 use Rattle.md_frame.proofs.LeafLaws.{Shrinks, cond-shrinks}
 use Rattle.md_registry.proofs.Registry.{laws}

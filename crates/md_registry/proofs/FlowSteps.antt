@@ -1,16 +1,22 @@
 -- Each state of flow, and of the document, takes one step of its rule.
 use Rattle.md_registry.proofs.DocumentMeans.{IsFront, own_means}
 use Rattle.md_front_rooms.specs.DocumentRule.{document_behaves}
-use Rattle.std.proofs.Common.{◌≢◌}
-use Rattle.std.proofs.Common.{◌≡◌, inl, inr, ℕ, Bool, true, false, ◌||◌, cond, nat_eq, List, [], ◌∷◌, ◌++◌, length, take}
-use Rattle.md_registry.specs.FlowRule.{leaf_of}
-use Rattle.md_registry.specs.FlowRule.{all_on, inside_by, inside_of}
-use Rattle.md_registry.specs.Flow.{behind_all, inside_code, leaf_front}
-use Rattle.md_registry.specs.Registry.{asked_first, bars_containers}
+use Rattle.std.proofs.Common.{◌≢◌, ◌≡◌, inl, inr, ℕ, Bool, true, false, ◌||◌, cond, nat_eq, List, [], ◌∷◌, ◌++◌, length}
+use Rattle.std.proofs.Common.{take, Option, Some, None, refl, sym, ◌∙◌, ap, subst, arith, append_assoc}
+use Rattle.md_registry.specs.FlowRule.{leaf_of, all_on, inside_by, inside_of, behind_leaf, ContainersInvariant}
+use Rattle.md_registry.specs.FlowRule.{ContainersMean, DocumentMeans, FlowInvariant, FlowMeans, FrontMeans, GoesOn}
+use Rattle.md_registry.specs.FlowRule.{feeds, HasFlow, blank_ended, ended, ended_to, existing_at, existing_by}
+use Rattle.md_registry.specs.FlowRule.{leaves_of, line_ended, line_then, new_of, nonblank_of, opened, openers_of}
+use Rattle.md_registry.specs.Flow.{behind_all, inside_code, leaf_front, leaf_end, after_transition}
+use Rattle.md_registry.specs.Flow.{before_content_transition, before_transition, blank_line_after_transition}
+use Rattle.md_registry.specs.Flow.{blank_line_code, containers_after_transition, existing_after_transition}
+use Rattle.md_registry.specs.Flow.{existing_before_code, flow_end_code, flow_end_transition, flow_own_transition}
+use Rattle.md_registry.specs.Flow.{leaf_after_transition, new_after_transition, new_before_transition, row_transition}
+use Rattle.md_registry.specs.Flow.{start_by, start_code, trial_code}
+use Rattle.md_registry.specs.Registry.{asked_first, bars_containers, behind, container_rules, front_of, leaf, may_go_on}
+use Rattle.md_registry.specs.Registry.{may_open, next_of, next_opener, opener_at, opener_front, openers, openers_behind}
+use Rattle.md_registry.specs.Registry.{trials, row, tried_at}
 use Rattle.std.specs.Option.{is_some}
-use Rattle.md_registry.specs.FlowRule.{behind_leaf}
-use Rattle.md_registry.specs.Flow.{leaf_end}
-use Rattle.std.proofs.Common.{Option, Some, None, refl, sym, ◌∙◌, ap, subst, arith, append_assoc}
 use Rattle.std.proofs.lemmas.List.{take_all}
 use Rattle.md_engine.specs.declared.configuration.ParseOptions.{ParseOptions}
 use Rattle.md_engine.specs.declared.event.Event.{Event}
@@ -43,27 +49,11 @@ use Rattle.md_seam.specs.Transition.{entered, exited, taken}
 use Rattle.md_seam.proofs.LookLemmas.{first-seen, refused-first, seen-first}
 use Rattle.md_seam.proofs.WhiteMeaning.{begins-seen}
 use Rattle.md_registry.specs.Document.{document_own_transition}
-use Rattle.md_registry.specs.FlowRule.{ContainersInvariant, ContainersMean, DocumentMeans, FlowInvariant, FlowMeans}
-use Rattle.md_registry.specs.FlowRule.{FrontMeans, GoesOn, feeds}
-use Rattle.md_registry.specs.Flow.{after_transition, before_content_transition, before_transition}
-use Rattle.md_registry.specs.Flow.{blank_line_after_transition, blank_line_code, containers_after_transition}
-use Rattle.md_registry.specs.Flow.{existing_after_transition, existing_before_code, flow_end_code}
-use Rattle.md_registry.specs.Flow.{flow_end_transition, flow_own_transition, leaf_after_transition}
-use Rattle.md_registry.specs.Flow.{new_after_transition}
-use Rattle.md_registry.specs.Flow.{new_before_transition, row_transition, start_by, start_code, trial_code}
-use Rattle.md_frame.specs.Rule.{Rule}
-use Rattle.md_registry.specs.FlowRule.{HasFlow, blank_ended, ended, ended_to, existing_at, existing_by}
-use Rattle.md_registry.specs.FlowRule.{leaves_of, line_ended, line_then, new_of, nonblank_of}
-use Rattle.md_registry.specs.FlowRule.{opened, openers_of}
-use Rattle.md_frame.specs.Rule.{tried}
+use Rattle.md_frame.specs.Rule.{Rule, tried}
 use Rattle.md_registry.specs.LineFlags as flags
 use Rattle.md_frame.specs.EndingName.{ending_name}
-use Rattle.md_registry.specs.LineFlags.{asking, blank_here, next_container, next_line, nothing_stands}
-use Rattle.md_registry.specs.LineFlags.{went_on}
+use Rattle.md_registry.specs.LineFlags.{asking, blank_here, next_container, next_line, nothing_stands, went_on}
 use Rattle.md_frame.specs.LeafName.{LeafName}
-use Rattle.md_registry.specs.Registry.{behind, container_rules, front_of, leaf, may_go_on, may_open, next_of}
-use Rattle.md_registry.specs.Registry.{next_opener, opener_at, opener_front, openers, openers_behind, trials}
-use Rattle.md_registry.specs.Registry.{row, tried_at}
 use Rattle.md_registry.proofs.FlowLemmas.{line_by_container, new_by_container}
 use Rattle.md_registry.proofs.Openers as opening
 use Rattle.md_registry.proofs.Openers.{left-front}
@@ -72,8 +62,7 @@ use Rattle.md_registry.proofs.Dispatch.{AreNext, row-left, row-next}
 use Rattle.md_registry.proofs.LinesAtOnce.{looks-dark}
 use Rattle.md_meaning.specs.Rest.{is_white}
 use Rattle.std.proofs.lemmas.Bool.{or_parts}
-use Rattle.md_registry.proofs.ConstructStates.{HasTrial, is-tried}
-use Rattle.md_registry.proofs.ConstructStates.{opener-before, tried-before}
+use Rattle.md_registry.proofs.ConstructStates.{HasTrial, is-tried, opener-before, tried-before}
 use Rattle.md_registry.proofs.Registry.{container-laws, laws, trial-asked}
 
 -- an attempt that was begun here

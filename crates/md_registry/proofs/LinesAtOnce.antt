@@ -1,12 +1,15 @@
 -- Lines on which one look tells that no container opens and no leaf begins: what is passed at once is what the states
 -- refuse one after another.
-use Rattle.std.proofs.Common.{◌≡◌, ◌≢◌, ℕ, Bool, true, false, cond, ◌||◌, nat_eq, List, [], ◌∷◌, ◌++◌, Option, Some, None}
-use Rattle.md_registry.specs.Flow.{inside_code, inside_transition, leaf_front}
-use Rattle.md_registry.specs.Registry.{asked_first}
+use Rattle.std.proofs.Common.{◌≡◌, ◌≢◌, ℕ, Bool, true, false, cond, ◌||◌, nat_eq, List, [], ◌∷◌, ◌++◌, Option, Some}
+use Rattle.std.proofs.Common.{None, ◌<◌, ◌⊎◌, inl, length, refl, sym, ◌∙◌, ap, subst, ◌≤◌, ◌&&◌, not, take, arith}
+use Rattle.md_registry.specs.Flow.{inside_code, inside_transition, leaf_front, leaf_end, blank_line_before_transition}
+use Rattle.md_registry.specs.Flow.{blank_line_code, flow_end_code, flow_end_transition, new_before_transition}
+use Rattle.md_registry.specs.Flow.{opener_transition, row_transition, start_by, start_code, start_transition}
+use Rattle.md_registry.specs.Flow.{trial_code}
+use Rattle.md_registry.specs.Registry.{asked_first, container_rules, front_of, leaf, may_open, next_opener, opener_at}
+use Rattle.md_registry.specs.Registry.{opener_front, openers, opens_with, row, trials}
 use Rattle.std.specs.Option.{is_some}
-use Rattle.md_registry.specs.Flow.{leaf_end}
-use Rattle.std.proofs.Common.{◌<◌, ◌⊎◌, inl, length, refl, sym, ◌∙◌, ap, subst}
-use Rattle.std.specs.List.{list_any}
+use Rattle.std.specs.List.{list_any, All}
 use Rattle.std.specs.Prelude.{slice_range}
 use Rattle.std.proofs.lemmas.Bool.{and_parts, not-true, or_parts}
 use Rattle.md_meaning.specs.Rest.{is_white}
@@ -20,46 +23,34 @@ use Rattle.md_engine.specs.declared.state.State.{State}
 use Rattle.md_engine.specs.declared.state.State.TheVariants.{Error, Next, Nok, Retry}
 use Rattle.md_engine.specs.declared.tokenizer.container.name.ContainerKind.{ContainerKind}
 use Rattle.md_engine.specs.Going.{SeesOn}
-use Rattle.md_engine.specs.Run.{Remains, RunsHere}
+use Rattle.md_engine.specs.Run.{Remains, RunsHere, Step, reading}
 use Rattle.md_engine.specs.World.{World, closed, container_of, looks}
 use Rattle.md_engine.proofs.Keeps.{runs-setting}
 use Rattle.md_engine.proofs.Loops.{CameHere, CameTo, call-sees, came-calls, came-first, came-runs}
 use Rattle.md_engine.proofs.Loops.{came-stays, not_error, reading-same}
-use Rattle.md_engine.proofs.Walks.{Within, then-stays}
+use Rattle.md_engine.proofs.Walks.{Within, then-stays, then-run, within-one}
 use Rattle.md_content.specs.Chunks.{chunk_inside_code}
 use Rattle.md_leaves.specs.Blank as blank
 use Rattle.md_leaves.proofs.HeadingWords.{remains-of, sees-from}
 use Rattle.md_seam.specs.Look.{behind_code, first_behind, looks_behind, may_with}
 use Rattle.md_seam.specs.Spaces.{ends_line}
-use Rattle.md_seam.specs.Transition.{Transition, entered, exited, taken}
+use Rattle.md_seam.specs.Transition.{Transition, entered, exited, taken, tried}
 use Rattle.md_registry.specs.AtOnce.{all_asked, content_alone, is_common, opens_none, openers_passed}
 use Rattle.md_registry.specs.Document.{document_own_transition}
-use Rattle.md_registry.specs.Flow.{blank_line_before_transition, blank_line_code}
-use Rattle.md_registry.specs.Flow.{flow_end_code, flow_end_transition}
-use Rattle.md_registry.specs.Flow.{new_before_transition, opener_transition}
-use Rattle.md_registry.specs.Flow.{row_transition, start_by, start_code, start_transition, trial_code}
 use Rattle.md_frame.specs.EndingName.{ending_name}
 use Rattle.md_registry.specs.LineFlags.{asking, begun_line, blank_here, blanked, next_line}
 use Rattle.md_registry.specs.LineFlags.{nothing_stands, kept_containers}
 use Rattle.md_frame.specs.LeafName.{GfmTable, LeafName}
-use Rattle.md_registry.specs.Registry.{container_rules, front_of, leaf, may_open}
-use Rattle.md_registry.specs.Registry.{next_opener, opener_at, opener_front, openers, opens_with}
-use Rattle.md_registry.specs.Registry.{row, trials}
 use Rattle.md_registry.specs.States.{FlowStep, flow_transition}
 use Rattle.md_registry.proofs.ConstructStates.{NextOpener, container-states}
 use Rattle.md_registry.proofs.Dispatch.{common-row}
 use Rattle.md_tables.specs.GfmTable.{begins_code as table_begins, may_begin as may_table, start_transition as table_start}
 use Rattle.std.proofs.Math.Bool.{or-true}
-use Rattle.std.proofs.Common.{◌≤◌, ◌&&◌, not, take, arith}
-use Rattle.std.specs.List.{All}
 use Rattle.std.proofs.lemmas.List.{take_all}
-use Rattle.md_engine.specs.Run.{Step, reading}
 use Rattle.md_engine.specs.Run.Runs.{ThenLeaves}
 use Rattle.md_engine.specs.declared.event.Event.{Event}
 use Rattle.md_engine.specs.declared.tokenizer.Frame.{Frame}
 use Rattle.md_engine.specs.declared.tokenizer.held_leaf.HeldLeaf.{HeldLeaf}
-use Rattle.md_engine.proofs.Walks.{then-run, within-one}
-use Rattle.md_seam.specs.Transition.{tried}
 
 -- a byte that is no whitespace stands first behind whitespace
 pub looks-dark : (w : World) (b : ℕ) → w.current ≡ Some b → is_white b ≡ false → looks_behind w ≡ Some b

@@ -14,8 +14,7 @@ use Rattle.md_frame.specs.HeldLeaf.{has_lines, kind_of_leaf, left_by}
 use Rattle.md_registry.specs.OpenSpan.{IsBuiltLeaf}
 use Rattle.md_frame.specs.LeafName.{LeafName}
 use Rattle.md_frame.specs.TextLines.{text_leaf}
-use Rattle.md_registry.specs.Registry.{turn_leaf}
-use Rattle.md_registry.specs.Registry.{further_of, asked_first, leaf, bars_containers}
+use Rattle.md_registry.specs.Registry.{turn_leaf, further_of, asked_first, leaf, bars_containers}
 
 -- an outline can show the block that this has come to, if it has
 abbrev pub ComesShallow : LeafResult → Type 0

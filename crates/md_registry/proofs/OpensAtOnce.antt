@@ -25,8 +25,7 @@ use Rattle.md_container_rooms.specs.Containers.ListItem.{item_rules}
 use Rattle.md_registry.specs.Flow.{new_before_transition, trial_code}
 use Rattle.md_registry.specs.LineFlags.{asking}
 use Rattle.md_frame.specs.ContainerNames.{kind_number}
-use Rattle.md_registry.specs.Registry.{may_open, next_opener, opener_front, openers, openers_behind}
-use Rattle.md_registry.specs.Registry.{opens_with}
+use Rattle.md_registry.specs.Registry.{may_open, next_opener, opener_front, openers, openers_behind, opens_with}
 use Rattle.md_registry.specs.States.{FlowStep}
 use Rattle.md_registry.proofs.LinesAtOnce.{openers-refuse}
 use Rattle.md_registry.proofs.ListItem.Plain.{has-item}

@@ -1,6 +1,5 @@
 -- Where a line ends those containers go on that the tokenizer tells.
-use Rattle.std.proofs.Common.{◌≡◌, ℕ, zero, suc, ◌+◌, Bool, true, false, cond, List, [], ◌∷◌, drop}
-use Rattle.std.proofs.Common.{sym, ◌∙◌, ap, arith}
+use Rattle.std.proofs.Common.{◌≡◌, ℕ, zero, suc, ◌+◌, Bool, true, false, cond, List, [], ◌∷◌, drop, sym, ◌∙◌, ap, arith}
 use Rattle.md_engine.specs.KnownContinuing.{EndsContinuing, goes_over_empty}
 use Rattle.md_engine.specs.declared.tokenizer.container.Container.{Container}
 use Rattle.md_registry.specs.LineFlags.{over_end}

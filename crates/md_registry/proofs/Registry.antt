@@ -21,12 +21,11 @@ use Rattle.md_code.specs.Fence.{is_open as is_fence}
 use Rattle.md_frame.specs.LeafName.{CodeFurther, CodeIndented, Fence, FenceFurther, HeadingAtx, HeadingSetext, GfmTable}
 use Rattle.md_frame.specs.LeafName.{HtmlFlow, HtmlFurther, LeafName, ThematicBreak}
 use Rattle.md_registry.specs.Resolving.{resolved}
-use Rattle.md_frame.proofs.EventNames.{is_own}
+use Rattle.md_frame.proofs.EventNames.{is_own, is_front}
 use Rattle.md_frame.specs.TextLines.{text_leaf}
 use Rattle.md_container_rooms.proofs.BlockQuote.Laws.{quote-laws}
 use Rattle.md_registry.proofs.BlockQuote.Plain.{quote-plain}
 use Rattle.md_frame.proofs.ContainerLaws.{ContainerLaws}
-use Rattle.md_frame.proofs.EventNames.{is_front}
 use Rattle.md_literal_rooms.proofs.CodeIndented.Laws.{code-laws, code_further-laws}
 use Rattle.md_literal_rooms.proofs.Fence.Laws.{fence-laws}
 use Rattle.md_literal_rooms.proofs.FenceFurther.Laws.{fence_further-laws}

@@ -21,9 +21,8 @@ use Rattle.md_meaning.specs.Tree.{Blocks}
 use Rattle.md_outline.specs.HeadingDepths.{are_shallow, is_shallow}
 use Rattle.md_seam.proofs.RestCells.{past_rest, rest_cells}
 use Rattle.md_frame.specs.Passed.{Passed, passed_by, passed_over}
-use Rattle.md_frame.specs.ContainerNames.{IsOf, container_name}
+use Rattle.md_frame.specs.ContainerNames.{IsOf, container_name, container_kind}
 use Rattle.md_registry.specs.Registry.{MatchesContainer, begins_at, container_rules}
-use Rattle.md_frame.specs.ContainerNames.{container_kind}
 use Rattle.md_registry.specs.Registry.{continues_at, goes_at, goes_by, goes_over, openers, opens_at, opens_by}
 use Rattle.md_frame.proofs.ContainerLaws.{ByRest, IsPassed}
 use Rattle.md_frame.proofs.ContainerNames.{container-facts}

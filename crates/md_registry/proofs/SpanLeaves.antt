@@ -4,7 +4,7 @@ use Rattle.std.proofs.Common.{◌≡◌, Bool, true, false, cond, ◌&&◌, ◌|
 use Rattle.std.specs.Option.{is_some}
 use Rattle.md_engine.specs.declared.tokenizer.held_leaf.HeldLeaf.TheVariants as held_leaf
 use Rattle.md_code.specs.Fence.{is_open as is_fence}
-use Rattle.md_registry.specs.OpenSpan.{IsOpenSpan}
+use Rattle.md_registry.specs.OpenSpan.{IsOpenSpan, IsBuiltLeaf}
 use Rattle.md_registry.specs.Registry.{asked_first, bars_containers, further_of, leaf}
 use Rattle.md_engine.specs.declared.tokenizer.held_leaf.HeldLeaf.{HeldLeaf}
 use Rattle.std.specs.Prelude.{Option, Some, None, nat_le, not}
@@ -16,7 +16,6 @@ use Rattle.md_meaning.specs.State.{NoLeaf, OpenCode, OpenFence, OpenHtml, Openin
 use Rattle.md_meaning.specs.Tree.{Break, Code, Html, Line}
 use Rattle.md_leaves.specs.HeadingSetext.{is_text}
 use Rattle.md_frame.specs.HeldLeaf.{kind_of_leaf, left_by, takes_lazy}
-use Rattle.md_registry.specs.OpenSpan.{IsBuiltLeaf}
 use Rattle.md_frame.specs.LineLeaf.{LineLeaf}
 use Rattle.md_literal_rooms.specs.Leaf.CodeIndented.{code_further, code_leaf, is_code}
 use Rattle.md_literal_rooms.specs.Leaf.Fence.{fence_leaf, opening_at}

@@ -1,6 +1,6 @@
 -- Each state of flow keeps what its table needs.
 use Rattle.std.proofs.Common.{◌≡◌, List, [], ◌∷◌, Option, Some, None, refl, ap, sym, subst}
-use Rattle.md_registry.specs.Registry.{asked_first}
+use Rattle.md_registry.specs.Registry.{asked_first, front_of, opener_at, opener_front, openers, row, trials, tried_at}
 use Rattle.md_engine.specs.declared.state.Name.{Name as StateName}
 use Rattle.md_engine.specs.declared.state.Name.TheVariants as n
 use Rattle.md_engine.specs.declared.state.blank_line.State.TheVariants as blank_line
@@ -22,7 +22,6 @@ use Rattle.md_registry.specs.Document.{document_own_transition}
 use Rattle.md_registry.specs.Flow.{before_transition, flow_own_transition, leaf_transition, new_before_transition}
 use Rattle.md_registry.specs.Flow.{opener_transition}
 use Rattle.md_frame.specs.LeafName.{LeafName}
-use Rattle.md_registry.specs.Registry.{front_of, opener_at, opener_front, openers, row, trials, tried_at}
 use Rattle.md_registry.specs.States.{flow_owner, flow_table_scheme, flow_transition, leaf_owner, opener_owner}
 use Rattle.md_registry.proofs.Termination as goods
 use Rattle.md_registry.proofs.Termination.{FlowFits}
@@ -30,8 +29,7 @@ use Rattle.md_registry.proofs.Dispatch.{AreNext, row-next}
 use Rattle.md_registry.proofs.Openers.{opener-fits}
 use Rattle.md_registry.proofs.Trials.{inside_fits, leaf-fits}
 use Rattle.md_registry.proofs.ConstructStates.{blank_fits, construct-does, container-states, opener-before}
-use Rattle.md_registry.proofs.ConstructStates.{tried-before, is-tried}
-use Rattle.md_registry.proofs.ConstructStates.{white_fits}
+use Rattle.md_registry.proofs.ConstructStates.{tried-before, is-tried, white_fits}
 
 chunk_fits : ChunkFits flow_table_scheme
 chunk_fits = record { each = λ state. fits flow_owner (n.Content state) }

@@ -1,19 +1,22 @@
 -- Flow stands and ends in any table that has it.
 use Rattle.std.proofs.Common.{◌≡◌, ℕ, ◌<◌, Bool, true, false, ◌||◌, nat_eq, List, [], ◌∷◌, Option, Some, None, length, refl}
 use Rattle.std.proofs.Common.{arith}
-use Rattle.md_engine.specs.declared.state.State.TheVariants.{Retry}
-use Rattle.md_registry.specs.LineFlags.{begun_line}
-use Rattle.md_registry.specs.Flow.{behind_all, inside_code, leaf_front}
+use Rattle.md_engine.specs.declared.state.State.TheVariants.{Retry, Nok, Next}
+use Rattle.md_registry.specs.LineFlags.{begun_line, asking}
+use Rattle.md_registry.specs.Flow.{behind_all, inside_code, leaf_front, leaf_end, after_transition}
+use Rattle.md_registry.specs.Flow.{before_content_transition, before_transition, blank_line_after_transition}
+use Rattle.md_registry.specs.Flow.{blank_line_code, containers_after_transition, existing_after_transition}
+use Rattle.md_registry.specs.Flow.{existing_before_code, flow_end_code, flow_rank, flow_ready, flow_scheme}
+use Rattle.md_registry.specs.Flow.{leaf_after_transition, new_after_transition, new_before_transition, row_transition}
+use Rattle.md_registry.specs.Flow.{start_by, start_code, trial_code}
 use Rattle.md_registry.specs.Registry.{asked_first, bars_containers}
 use Rattle.std.specs.Option.{is_some}
-use Rattle.md_registry.specs.Flow.{leaf_end}
 use Rattle.md_engine.specs.declared.state.Name.{Name as StateName}
 use Rattle.md_engine.specs.declared.state.Name.TheVariants as n
 use Rattle.md_engine.specs.declared.state.document.State.TheVariants as document
 use Rattle.md_engine.specs.declared.state.flow.State.TheVariants as flow
 use Rattle.md_engine.specs.declared.state.blank_line.State.TheVariants as blank_line
 use Rattle.md_engine.specs.declared.state.content.State.TheVariants as content
-use Rattle.md_engine.specs.declared.state.State.TheVariants.{Nok, Next}
 use Rattle.md_engine.specs.declared.tokenizer.container.Container.{Container}
 use Rattle.md_engine.specs.declared.tokenizer.container.name.ContainerKind.{ContainerKind}
 use Rattle.md_engine.specs.Scheme.{After, EndsLater, Fits, Scheme, Position, Tries, TriesLater, after_all, seen, position}
@@ -27,14 +30,7 @@ use Rattle.md_leaves.specs.Blank.{blank_scheme, may_begin}
 use Rattle.md_seam.specs.Look.{looks_behind, may_with}
 use Rattle.md_seam.specs.Spaces.{IsRest, ends_line, rest_ready, sees_white}
 use Rattle.md_seam.proofs.SpacesTermination.{Does, seen-some}
-use Rattle.md_registry.specs.Flow.{after_transition, before_content_transition, before_transition}
-use Rattle.md_registry.specs.Flow.{blank_line_after_transition, blank_line_code, containers_after_transition}
-use Rattle.md_registry.specs.Flow.{existing_after_transition, existing_before_code, flow_end_code, flow_rank}
-use Rattle.md_registry.specs.Flow.{flow_ready, flow_scheme, leaf_after_transition, new_after_transition}
-use Rattle.md_registry.specs.Flow.{new_before_transition}
-use Rattle.md_registry.specs.Flow.{row_transition, start_by, start_code, trial_code}
 use Rattle.md_registry.specs.LineFlags as flags
-use Rattle.md_registry.specs.LineFlags.{asking}
 use Rattle.md_frame.specs.LeafName.{LeafName}
 use Rattle.md_registry.specs.Registry.{container_rules, front_of, goes_on_with, leaf, may_go_on, may_open}
 use Rattle.md_registry.specs.Registry.{next_of, next_opener, opener_front, openers, opens_with, row, trials}

@@ -56,9 +56,8 @@ use Rattle.md_leaf_rooms.specs.Leaf.ThematicBreak.{break_leaf}
 use Rattle.md_frame.specs.LineLeaf.{LineLeaf}
 use Rattle.md_frame.specs.Passed.{Passed}
 use Rattle.md_frame.specs.TurnLeaf.{TurnLeaf}
-use Rattle.md_frame.specs.LeafName.{CodeFurther, CodeIndented, Fence, FenceFurther, GfmTable, HeadingAtx}
-use Rattle.md_frame.specs.LeafName.{HeadingSetext, HtmlFlow, HtmlFurther, LeafName, ThematicBreak, behind_in}
-use Rattle.md_frame.specs.LeafName.{number}
+use Rattle.md_frame.specs.LeafName.{CodeFurther, CodeIndented, Fence, FenceFurther, GfmTable, HeadingAtx, HeadingSetext}
+use Rattle.md_frame.specs.LeafName.{HtmlFlow, HtmlFurther, LeafName, ThematicBreak, behind_in, number}
 use Rattle.md_frame.specs.ContainerNames.{IsOf, container_kind, kind_number}
 
 -- Leaves that take a line: of indented code, of fenced code and math, and of HTML, one takes the first line, and one

@@ -24,8 +24,7 @@ use Rattle.md_registry.specs.Flow.{flow_own_transition, flow_scheme}
 use Rattle.md_frame.specs.Rule.{Rule}
 use Rattle.md_registry.specs.FlowRule.{containers_behave, flow_at, leaves_behave}
 use Rattle.md_frame.specs.LeafName.{LeafName}
-use Rattle.md_registry.specs.Registry.{construct_behaves, construct_owner, construct_transition, opener_at}
-use Rattle.md_registry.specs.Registry.{tried_at}
+use Rattle.md_registry.specs.Registry.{construct_behaves, construct_owner, construct_transition, opener_at, tried_at}
 
 -- a container is tried at this state, or none
 abbrev pub opener_owner : Option ContainerKind → Scheme

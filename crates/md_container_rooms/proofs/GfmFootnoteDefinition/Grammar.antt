@@ -14,9 +14,8 @@ use Rattle.md_seam.proofs.EndingsLemmas.{AreOthers}
 use Rattle.md_seam.proofs.GrammarLemmas.{Leads, leads-append, leads-around}
 use Rattle.md_frame.proofs.ContainerNames.{TakesData}
 use Rattle.md_container_rooms.proofs.GfmFootnoteDefinition.Prefix.{IsFront, before_label, behind_colon, behind_label}
-use Rattle.md_container_rooms.proofs.GfmFootnoteDefinition.Prefix.{by-part}
-use Rattle.md_container_rooms.proofs.GfmFootnoteDefinition.Prefix.{colon_at, data_at, front-each, front_by, label_at}
-use Rattle.md_container_rooms.proofs.GfmFootnoteDefinition.Prefix.{label_end, label_part}
+use Rattle.md_container_rooms.proofs.GfmFootnoteDefinition.Prefix.{by-part, colon_at, data_at, front-each, front_by}
+use Rattle.md_container_rooms.proofs.GfmFootnoteDefinition.Prefix.{label_at, label_end, label_part}
 use Rattle.md_frame.proofs.LeafStands.{site_of, unlisted-both}
 
 -- no ending stands there, and no begin or end of a leaf

@@ -11,8 +11,7 @@ use Rattle.md_containers.specs.Footnote.{label_link}
 use Rattle.md_meaning.specs.Lines.{without_ending}
 use Rattle.md_meaning.specs.Texts.{split_lines}
 use Rattle.md_seam.specs.declared.inline.Chunk.{Chunk}
-use Rattle.md_seam.specs.Events.Inline.{are_lines, is_one_line, line_end, plain_chunk, plain_chunks}
-use Rattle.md_seam.specs.Events.Inline.{together}
+use Rattle.md_seam.specs.Events.Inline.{are_lines, is_one_line, line_end, plain_chunk, plain_chunks, together}
 use Rattle.md_seam.specs.Events.Nested.{around, exit, pair}
 use Rattle.md_seam.specs.Events.Places.{past_text, same_place}
 use Rattle.md_seam.proofs.InlineLemmas.{before-text, same-refl}

@@ -1,6 +1,5 @@
 -- The pieces in front of the content of a footnote definition stand over their bytes, and cover them.
-use Rattle.std.proofs.Common.{◌≡◌, ℕ, true, List, [], ◌∷◌, ◌++◌, drop, refl, sym, subst}
-use Rattle.std.proofs.Common.{arith}
+use Rattle.std.proofs.Common.{◌≡◌, ℕ, true, List, [], ◌∷◌, ◌++◌, drop, refl, sym, subst, arith}
 use Rattle.std.specs.Prelude.{Option, None, Some}
 use Rattle.std.proofs.lemmas.Bool.{and_from}
 use Rattle.md_engine.specs.declared.event.Event.{Event}
@@ -24,8 +23,7 @@ use Rattle.md_frame.proofs.LineTexts.{one-last}
 use Rattle.md_container_rooms.proofs.ListItem.Pieces.{white-stood}
 use Rattle.md_frame.proofs.PieceFacts.{PiecesValid, begins-whole, chunk-stands, over-front, over-stands}
 use Rattle.md_frame.proofs.PieceFacts.{stood-append, stood-around, stood-pair}
-use Rattle.md_frame.proofs.PiecesLemmas.{Covered, tiled-append, tiled-around, tiled-pair, tiled-two}
-use Rattle.md_frame.proofs.PiecesLemmas.{tiled-unless_empty}
+use Rattle.md_frame.proofs.PiecesLemmas.{Covered, tiled-append, tiled-around, tiled-pair, tiled-two, tiled-unless_empty}
 
 -- a marker of one byte
 byte-stood : (bytes rest : List ℕ) (name : Name) (b : ℕ) (p : Point) → drop p.index bytes ≡ b ∷ rest → p.vs ≡ 0 →

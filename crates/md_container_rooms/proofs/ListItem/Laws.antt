@@ -8,8 +8,7 @@ use Rattle.md_engine.specs.declared.tokenizer.container.name.ContainerKind.TheVa
 use Rattle.md_containers.specs.ItemPrefix.{item_holds}
 use Rattle.md_containers.proofs.ItemHeld.{item-empty, item-looked}
 use Rattle.md_containers.proofs.ItemShorter.{further-shortens, item-shortens}
-use Rattle.md_meaning.specs.Containers.{Marker, Taken, continues, item_by, list_marker, may_interrupt}
-use Rattle.md_meaning.specs.Containers.{opens_item}
+use Rattle.md_meaning.specs.Containers.{Marker, Taken, continues, item_by, list_marker, may_interrupt, opens_item}
 use Rattle.md_meaning.specs.Leaves.{is_rule}
 use Rattle.md_meaning.specs.Preamble.{rest_at}
 use Rattle.md_meaning.specs.Rest.{Rest, behind, behind_indent, has_small_indent, indent, is_blank, is_parted}

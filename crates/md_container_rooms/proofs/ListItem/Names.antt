@@ -1,8 +1,7 @@
 -- What stands in front of an item's content nests, goes forward, stands between characters, and has names that an
 -- outline knows.
 use Rattle.std.proofs.Common.{◌≡◌, ◌≢◌, ℕ, ◌+◌, ◌-◌, Bool, true, false, cond, ◌||◌, not, List, [], ◌∷◌, ◌++◌, refl, ap}
-use Rattle.std.proofs.Common.{sym}
-use Rattle.std.proofs.Common.{◌∙◌, subst, arith}
+use Rattle.std.proofs.Common.{sym, ◌∙◌, subst, arith}
 use Rattle.std.specs.Prelude.{IsTrue, slice_index}
 use Rattle.std.proofs.lemmas.Bool.{or_right}
 use Rattle.std.proofs.lemmas.Bool.Decides.{nat_tests}
@@ -21,8 +20,7 @@ use Rattle.md_seam.proofs.NestedLemmas.{at_or_before-refl, balanced-none}
 use Rattle.md_seam.proofs.SpelledLemmas.{Quiet, Roles}
 use Rattle.md_outline.specs.Between.{is_between}
 use Rattle.md_outline.specs.Roles.{is_plain, is_told}
-use Rattle.md_frame.proofs.BetweenFacts.{AreBetween, around-between, between-append, between-before}
-use Rattle.md_frame.proofs.BetweenFacts.{between-behind}
+use Rattle.md_frame.proofs.BetweenFacts.{AreBetween, around-between, between-append, between-before, between-behind}
 use Rattle.md_frame.proofs.BetweenFacts.{between-pair, between-unless, is_low, white-between}
 use Rattle.md_container_rooms.proofs.BlockQuote.Prefix.{pair-prefixes}
 use Rattle.md_frame.proofs.EventNames.{is_front}

@@ -17,8 +17,7 @@ use Rattle.md_seam.specs.Events.Nested.{around, pair}
 use Rattle.md_seam.specs.Events.Pieces.{piece_stands, stands_over}
 use Rattle.md_seam.specs.Events.Places.{past_text, same_place}
 use Rattle.md_seam.proofs.InlineLemmas.{same-refl}
-use Rattle.md_container_rooms.proofs.ListItem.Prefix.{IsFront, inside_by, marker-text}
-use Rattle.md_container_rooms.proofs.ListItem.Prefix.{marker-whole, no_digits}
+use Rattle.md_container_rooms.proofs.ListItem.Prefix.{IsFront, inside_by, marker-text, marker-whole, no_digits}
 use Rattle.md_frame.proofs.PieceFacts.{Starts, PiecesValid, begins-cut, begins-whole, over-front, over-stands}
 use Rattle.md_frame.proofs.PieceFacts.{piece-stands, span, stood-append, stood-around, stood-none, stood-pair}
 use Rattle.md_frame.proofs.PieceFacts.{stood-unless_empty}

@@ -1,7 +1,6 @@
 -- Texts between marks in the cells of lines: labels and titles.
-use Rattle.std.proofs.Common.{◌≡◌, ◌≢◌, inl, inr, ℕ, Bool, true, false, cond, nat_eq, List, []}
-use Rattle.std.proofs.Common.{◌∷◌, ◌++◌, refl, sym, ap, ◌∙◌, subst, arith, append_assoc}
-use Rattle.std.proofs.Common.{Option, Some, None}
+use Rattle.std.proofs.Common.{◌≡◌, ◌≢◌, inl, inr, ℕ, Bool, true, false, cond, nat_eq, List, [], ◌∷◌, ◌++◌, refl, sym}
+use Rattle.std.proofs.Common.{ap, ◌∙◌, subst, arith, append_assoc, Option, Some, None}
 use Rattle.std.specs.Prelude.{◌&&◌, option_map}
 use Rattle.std.proofs.lemmas.Bool.{eqb-true}
 use Rattle.std.proofs.lemmas.Bool.Decides.{nat_tests}
@@ -27,14 +26,12 @@ use Rattle.md_link_definitions.proofs.TitleLemmas.{title-marks}
 use Rattle.md_seam.specs.Ahead.{point_after}
 use Rattle.md_seam.specs.Events.Nested.{around, enter, exit, pair}
 use Rattle.md_content_rooms.proofs.Defined.Along.{IsCell, Stands, Turn}
-use Rattle.md_content_rooms.proofs.Defined.Form.{IsByte, IsStrand, IsText, IsTitle, NoLine, Strand, Titled}
-use Rattle.md_content_rooms.proofs.Defined.Form.{gap_events, strand_lines, strand_unread, string_of, text_lines}
-use Rattle.md_content_rooms.proofs.Defined.Form.{title_by}
+use Rattle.md_content_rooms.proofs.Defined.Form.{IsByte, IsStrand, IsText, IsTitle, NoLine, Strand, Titled, gap_events}
+use Rattle.md_content_rooms.proofs.Defined.Form.{strand_lines, strand_unread, string_of, text_lines, title_by}
 use Rattle.md_content_rooms.proofs.Defined.Gaps.{gap-of}
 use Rattle.md_content_rooms.proofs.Defined.Runs.{step-stands}
 use Rattle.md_content_rooms.proofs.Defined.Strands.{StrandOf, strand-of}
-use Rattle.md_content_rooms.proofs.Defined.Takes.{Takes, Walk, takes-none, takes-quiet, takes-then}
-use Rattle.md_content_rooms.proofs.Defined.Takes.{walk-whole}
+use Rattle.md_content_rooms.proofs.Defined.Takes.{Takes, Walk, takes-none, takes-quiet, takes-then, walk-whole}
 use Rattle.md_content_rooms.proofs.Defined.Targets.{byte-of}
 
 -- Cells between marks.

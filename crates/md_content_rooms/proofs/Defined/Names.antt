@@ -13,10 +13,8 @@ use Rattle.md_engine.specs.declared.event.Point.{Point}
 use Rattle.md_engine.specs.Meaning.{Cell}
 use Rattle.md_link_definitions.specs.Chunks.{chunks}
 use Rattle.md_link_definitions.specs.DefinitionRule.{DefinitionParts, definition_end, definition_events}
-use Rattle.md_link_definitions.specs.DefinitionRule.{definition_rest, is_literal}
-use Rattle.md_link_definitions.specs.DefinitionRule.{destination_begin, destination_end, destination_rest, label_begin}
-use Rattle.md_link_definitions.specs.DefinitionRule.{parts_end}
-use Rattle.md_link_definitions.specs.DefinitionRule.{parts_rest, titled_part}
+use Rattle.md_link_definitions.specs.DefinitionRule.{definition_rest, is_literal, destination_begin, destination_end}
+use Rattle.md_link_definitions.specs.DefinitionRule.{destination_rest, label_begin, parts_end, parts_rest, titled_part}
 use Rattle.md_link_definitions.specs.DestinationRule.{behind_cells, destination_part, literal_begin, literal_end}
 use Rattle.md_link_definitions.specs.DestinationRule.{text_part}
 use Rattle.md_link_definitions.specs.GapRule.{ending_part, gap_end, gap_part, gap_rest, white_part}

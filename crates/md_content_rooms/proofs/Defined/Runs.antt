@@ -13,9 +13,8 @@ use Rattle.md_seam.specs.Events.Places.{past_byte, past_text}
 use Rattle.md_seam.proofs.FeedLines.{behind_last, byte_cells, cell, columns_more, next_column}
 use Rattle.md_seam.proofs.FeedLines.{slice-front, spread, tab_cells, tab_end, tab_end-last, tab_end-next, tab_end-stop}
 use Rattle.md_seam.proofs.RestCells.{Cut, cells_by}
-use Rattle.md_content_rooms.proofs.Defined.Along.{IsColumn, IsLast, IsPlain, IsStep, Kind, OfByte}
-use Rattle.md_content_rooms.proofs.Defined.Along.{OfColumn, OfLast, Stands, Steps, column_byte, kind}
-use Rattle.md_content_rooms.proofs.Defined.Along.{no_line}
+use Rattle.md_content_rooms.proofs.Defined.Along.{IsColumn, IsLast, IsPlain, IsStep, Kind, OfByte, OfColumn, OfLast}
+use Rattle.md_content_rooms.proofs.Defined.Along.{Stands, Steps, column_byte, kind, no_line}
 use Rattle.md_content_rooms.proofs.Defined.Form.{IsRun}
 use Rattle.md_frame.proofs.PieceFacts.{CutsFirst}
 

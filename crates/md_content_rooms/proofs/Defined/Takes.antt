@@ -20,12 +20,10 @@ use Rattle.md_seam.specs.Events.Tiles.{is_data}
 use Rattle.md_seam.specs.Spaces.{any_size}
 use Rattle.md_seam.proofs.FeedLines.{NoFeed, behind_last, ending-some, next_column}
 use Rattle.md_frame.specs.Laid.{LineBreak, laid}
-use Rattle.md_content_rooms.proofs.Defined.Along.{IsCell, IsStep, IsTurn, Kind, OfByte}
-use Rattle.md_content_rooms.proofs.Defined.Along.{OfColumn, OfLast, Stands, Steps, Turn, Walks, breaks, column_byte}
-use Rattle.md_content_rooms.proofs.Defined.Along.{kind}
-use Rattle.md_content_rooms.proofs.Defined.Placed.{Before}
-use Rattle.md_content_rooms.proofs.Defined.Placed.{Fits, Upto, bare-front, bared, fits-append, fits-from, placed}
-use Rattle.md_content_rooms.proofs.Defined.Placed.{placed-break, placed-here, placed-upto}
+use Rattle.md_content_rooms.proofs.Defined.Along.{IsCell, IsStep, IsTurn, Kind, OfByte, OfColumn, OfLast, Stands, Steps}
+use Rattle.md_content_rooms.proofs.Defined.Along.{Turn, Walks, breaks, column_byte, kind}
+use Rattle.md_content_rooms.proofs.Defined.Placed.{Before, Fits, Upto, bare-front, bared, fits-append, fits-from}
+use Rattle.md_content_rooms.proofs.Defined.Placed.{placed, placed-break, placed-here, placed-upto}
 use Rattle.md_content_rooms.proofs.Defined.Runs.{step-line, step-stands}
 use Rattle.md_frame.proofs.FrontPlaces.{fronts-grow, fronts-line}
 

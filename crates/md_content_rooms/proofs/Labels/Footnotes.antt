@@ -1,8 +1,7 @@
 -- The labels of footnote definitions among events that may stand as blocks do (`ItemsStand`) are those of the tree that
 -- these spell out: each footnote definition begins with its label, which no container prefix parts.
 use Rattle.std.proofs.Common.{◌≡◌, ◌⊎◌, inl, inr, ℕ, Bool, true, false, cond, ◌&&◌, not, List, [], ◌∷◌, ◌++◌, refl, ap}
-use Rattle.std.proofs.Common.{ap₂}
-use Rattle.std.proofs.Common.{sym, ◌∙◌, append_assoc, append-nil, subst, slice_range}
+use Rattle.std.proofs.Common.{ap₂, sym, ◌∙◌, append_assoc, append-nil, subst, slice_range}
 use Rattle.std.specs.Prelude.{nat_lt, length, Option, Some, None}
 use Rattle.std.proofs.lemmas.Bool.{and_parts}
 use Rattle.md_engine.specs.declared.event.Event.{Event}
@@ -19,16 +18,14 @@ use Rattle.md_meaning.specs.Label.{normal_form}
 use Rattle.md_meaning.specs.Tree.{Blocks, End}
 use Rattle.md_outline.specs.Outlined.{OpenTextSpan, are_parted, parts_by, span_by}
 use Rattle.md_seam.specs.Events.Nested.{Fits, Matches, is_enter, is_exit, open_behind}
-use Rattle.md_seam.specs.Events.Spelled.{AsDigits, AsFootnoteLabel, AsItemMarker, AsParagraph, OpenContainer, FootnoteShape}
-use Rattle.md_seam.specs.Events.Spelled.{ContainerRole}
-use Rattle.md_seam.specs.Events.Spelled.{IsEnding, IsPrefix, IsQuiet, IsQuoteMarker, ItemShape, OpenLeaf}
-use Rattle.md_seam.specs.Events.Spelled.{LeafRole, OrderedShape, Purpose, QuoteShape, Reading, Role, Shape, TextRole, Text}
-use Rattle.md_seam.specs.Events.Spelled.{UnorderedShape, at_ending, block_around, block_of, byte_at, finished}
-use Rattle.md_seam.specs.Events.Spelled.{left, named, on_leaf, on_shape, read, read_by, role, spelled, text_to, told_at}
-use Rattle.md_seam.specs.Events.Spelled.{BreakLeaf, CodeLeaf, DefinitionLeaf, FenceLeaf, FrontmatterLeaf}
-use Rattle.md_seam.specs.Events.Spelled.{HeadingAtxLeaf}
-use Rattle.md_seam.specs.Events.Spelled.{HeadingSetextLeaf, HtmlLeaf, MathLeaf, TableLeaf, is_before_blocks, kind_at}
-use Rattle.md_seam.specs.Events.Spelled.{next_line, unread, with_kind}
+use Rattle.md_seam.specs.Events.Spelled.{AsDigits, AsFootnoteLabel, AsItemMarker, AsParagraph, OpenContainer}
+use Rattle.md_seam.specs.Events.Spelled.{FootnoteShape, ContainerRole, IsEnding, IsPrefix, IsQuiet, IsQuoteMarker}
+use Rattle.md_seam.specs.Events.Spelled.{ItemShape, OpenLeaf, LeafRole, OrderedShape, Purpose, QuoteShape, Reading}
+use Rattle.md_seam.specs.Events.Spelled.{Role, Shape, TextRole, Text, UnorderedShape, at_ending, block_around, block_of}
+use Rattle.md_seam.specs.Events.Spelled.{byte_at, finished, left, named, on_leaf, on_shape, read, read_by, role}
+use Rattle.md_seam.specs.Events.Spelled.{spelled, text_to, told_at, BreakLeaf, CodeLeaf, DefinitionLeaf, FenceLeaf}
+use Rattle.md_seam.specs.Events.Spelled.{FrontmatterLeaf, HeadingAtxLeaf, HeadingSetextLeaf, HtmlLeaf, MathLeaf}
+use Rattle.md_seam.specs.Events.Spelled.{TableLeaf, is_before_blocks, kind_at, next_line, unread, with_kind}
 use Rattle.md_meaning.specs.declared.alert.AlertKind.{AlertKind}
 use Rattle.md_content_rooms.proofs.Labels.Trees.{noted-then, noted_by, noted_in}
 

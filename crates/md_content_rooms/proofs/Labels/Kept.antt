@@ -1,7 +1,6 @@
 -- Lists around items change no label of a footnote definition, and nor does what is read in the places of chunks.
 use Rattle.std.proofs.Common.{◌≡◌, ℕ, zero, suc, Bool, true, false, cond, ◌&&◌, not, List, [], ◌∷◌, ◌++◌, refl, ap, sym}
-use Rattle.std.proofs.Common.{◌∙◌}
-use Rattle.std.proofs.Common.{◌⊎◌, append-nil, inl, inr, subst}
+use Rattle.std.proofs.Common.{◌∙◌, ◌⊎◌, append-nil, inl, inr, subst}
 use Rattle.std.specs.Prelude.{◌==◌, if◌then◌else◌, slice_range}
 use Rattle.std.proofs.lemmas.Bool.{and_parts}
 use Rattle.md_engine.specs.declared.event.Event.{Event}
@@ -22,8 +21,7 @@ use Rattle.md_seam.specs.Events.Nested.{enter, exit, is_enter, is_exit, pair}
 use Rattle.md_seam.specs.Events.Places.{same_place}
 use Rattle.md_seam.specs.Events.Spelled.{byte_at, is_ordered, role}
 use Rattle.md_seam.specs.Events.Tiles.{chunks_stand, depth_behind, filled_from, first_list, further_lists, is_chunk}
-use Rattle.md_seam.specs.Events.Tiles.{is_data}
-use Rattle.md_seam.specs.Events.Tiles.{is_part, parts, plain_lists, plain_read, stands_in_part}
+use Rattle.md_seam.specs.Events.Tiles.{is_data, is_part, parts, plain_lists, plain_read, stands_in_part}
 
 -- One event.
 

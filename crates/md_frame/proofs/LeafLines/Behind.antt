@@ -18,8 +18,7 @@ use Rattle.md_seam.specs.Events.Spelled.{IsEnding as EndingRole, IsPrefix, IsQui
 use Rattle.md_seam.proofs.EndingsLemmas as ending
 use Rattle.md_seam.proofs.EndingsLemmas.{others-lead}
 use Rattle.md_seam.proofs.GrammarLemmas as grammar
-use Rattle.md_seam.proofs.SpelledLemmas.{Between, Roles, Unmarked, read-between, read-from}
-use Rattle.md_seam.proofs.SpelledLemmas.{unmarked-append}
+use Rattle.md_seam.proofs.SpelledLemmas.{Between, Roles, Unmarked, read-between, read-from, unmarked-append}
 use Rattle.md_frame.specs.EndingName.{ending_name}
 use Rattle.md_frame.specs.Row.{Row, is_blank_row, last_row, span_behind}
 use Rattle.md_frame.proofs.BetweenFacts.{ending-before, ending-behind}

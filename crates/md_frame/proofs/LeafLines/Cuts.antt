@@ -5,8 +5,7 @@ use Rattle.md_engine.specs.declared.event.Event.{Event}
 use Rattle.md_engine.specs.declared.event.Name.{Name}
 use Rattle.md_engine.specs.declared.event.Point.{Point}
 use Rattle.md_seam.specs.Events.Nested.{around, enter, exit, pair}
-use Rattle.md_frame.specs.Row.{Row, ending_events, last_row}
-use Rattle.md_frame.specs.Row.{but_end, but_ends, end_of}
+use Rattle.md_frame.specs.Row.{Row, ending_events, last_row, but_end, but_ends, end_of}
 use Rattle.md_frame.proofs.LeafLines.Framed.{framed_by, framed_rest}
 
 -- events in front of an end

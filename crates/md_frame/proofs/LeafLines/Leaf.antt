@@ -1,7 +1,6 @@
 -- Events that stand inside of a leaf, with its begin and its end and whitespace in front of it, are a leaf.
 use Rattle.std.proofs.Common.{◌≡◌, ℕ, Bool, true, false, ◌&&◌, ◌||◌, not, List, [], ◌∷◌, ◌++◌, refl, ap, sym, ◌∙◌}
-use Rattle.std.proofs.Common.{subst}
-use Rattle.std.proofs.Common.{append_assoc}
+use Rattle.std.proofs.Common.{subst, append_assoc}
 use Rattle.std.specs.Prelude.{Option, Some, None}
 use Rattle.md_engine.specs.declared.event.Event.{Event}
 use Rattle.md_engine.specs.declared.event.Kind.TheVariants.{Enter, Exit}
@@ -11,14 +10,12 @@ use Rattle.md_containers.specs.ItemsStand.{IsPart}
 use Rattle.md_containers.proofs.UnlistedLemmas.{among, stands-append as places-append}
 use Rattle.md_meaning.specs.Tree.{Block}
 use Rattle.md_seam.specs.Events.Endings.{IsLeaf, OnLine, EndingPlace, endings_stand_from, ends_rightly, line_start}
-use Rattle.md_seam.specs.Events.Endings.{on_line}
-use Rattle.md_seam.specs.Events.Endings.{spot_behind}
+use Rattle.md_seam.specs.Events.Endings.{on_line, spot_behind}
 use Rattle.md_seam.specs.Events.Grammar.{Expression, behind, behind_block, blocks, inside, may_end, plain_text}
 use Rattle.md_seam.specs.Events.Grammar.{unread_text}
 use Rattle.md_seam.specs.Events.Nested.{around, exit}
-use Rattle.md_seam.specs.Events.Spelled.{LeafKind, OpenLeaf}
-use Rattle.md_seam.specs.Events.Spelled.{LeafRole, Reading, Role}
-use Rattle.md_seam.specs.Events.Spelled.{add_block, block_of, fresh, read, read_enter, read_exit, role}
+use Rattle.md_seam.specs.Events.Spelled.{LeafKind, OpenLeaf, LeafRole, Reading, Role, add_block, block_of, fresh, read}
+use Rattle.md_seam.specs.Events.Spelled.{read_enter, read_exit, role}
 use Rattle.md_seam.specs.Events.Tiles.{part_kind}
 use Rattle.md_seam.proofs.EndingsLemmas as ending
 use Rattle.md_seam.proofs.EndingsLemmas.{in_leaf, others-lead}

@@ -11,8 +11,7 @@ use Rattle.md_seam.specs.Events.Spelled.{LeafKind, OpenLeaf, block_of, byte_at, 
 use Rattle.md_outline.specs.Between.{is_between}
 use Rattle.md_outline.specs.LinesStand.{HasLines, Site, begun_site}
 use Rattle.md_outline.proofs.LinesPass.{IsOnLine, MayLeave, ended_site, on-ended}
-use Rattle.md_frame.specs.Row.{Row, last_row}
-use Rattle.md_frame.specs.Row.{but_end, but_ends, end_of}
+use Rattle.md_frame.specs.Row.{Row, last_row, but_end, but_ends, end_of}
 use Rattle.md_frame.proofs.BetweenFacts.{ending-before, ending-behind}
 use Rattle.md_frame.proofs.ContainerNames.{TakesPrefixes}
 use Rattle.md_frame.proofs.FrontFacts.{LinePrefix}

@@ -1,7 +1,6 @@
 -- The frontmatter that the lines of a text have: where its parts stand, and that it is what the line definition finds.
-use Rattle.std.proofs.Common.{◌≡◌, ℕ, ◌+◌, ◌≤◌, Bool, true, false, cond, ◌||◌, List, [], ◌∷◌, ◌++◌, drop}
-use Rattle.std.proofs.Common.{take}
-use Rattle.std.proofs.Common.{map, suc, Option, Some, None, refl, sym, ◌∙◌, ap, ap₂, subst, subst₂, arith, append_assoc}
+use Rattle.std.proofs.Common.{◌≡◌, ℕ, ◌+◌, ◌≤◌, Bool, true, false, cond, ◌||◌, List, [], ◌∷◌, ◌++◌, drop, take, map}
+use Rattle.std.proofs.Common.{suc, Option, Some, None, refl, sym, ◌∙◌, ap, ap₂, subst, subst₂, arith, append_assoc}
 use Rattle.std.proofs.Common.{append-nil}
 use Rattle.std.specs.Prelude.{not}
 use Rattle.std.specs.List.{after_first, before_first, list_any, position_or_len, prefix_len}
@@ -17,19 +16,17 @@ use Rattle.md_meaning.specs.Tree.{Frontmatter}
 use Rattle.md_meaning.proofs.TextsLemmas.{Ending, EndsBefore, NoEnding, ending_bytes}
 use Rattle.md_seam.specs.Events.Nested.{around, enter, exit, pair}
 use Rattle.md_seam.specs.Events.Places.{past_text}
-use Rattle.md_seam.proofs.FeedLines.{drop-past, is-ending, past_ending}
+use Rattle.md_seam.proofs.FeedLines.{drop-past, is-ending, past_ending, IsEnding}
 use Rattle.md_seam.proofs.InlineLemmas.{past-index}
 use Rattle.md_front_rooms.specs.Front.{FrontRead, behind_these, ending_of, fence_part, front_from}
 use Rattle.md_front_rooms.specs.Front.{front_read, line_part, lines_read}
 use Rattle.md_front_rooms.proofs.FrontAgrees as agrees
 use Rattle.md_front_rooms.proofs.FrontAgrees.{from-by, last-none, lines_from, marked, marker_by, off-none, part-same}
-use Rattle.md_front_rooms.proofs.FrontAgrees.{past-same}
-use Rattle.md_front_rooms.proofs.FrontAgrees.{some-same}
+use Rattle.md_front_rooms.proofs.FrontAgrees.{past-same, some-same}
 use Rattle.md_front_rooms.proofs.FullLines.{IsLines, LastLine, NextLine, NoLines, ending-is, full-lines, last-ending}
 use Rattle.md_front_rooms.proofs.FullLines.{last-is, line-is}
 use Rattle.md_front_rooms.proofs.Frontmatter.Lines.{Closes, IsFront, IsRest, More}
 use Rattle.md_front_rooms.proofs.Frontmatter.Parts.{HasText, fence_over, has-fence}
-use Rattle.md_seam.proofs.FeedLines.{IsEnding}
 
 -- Lists, up to the first that passes a test.
 

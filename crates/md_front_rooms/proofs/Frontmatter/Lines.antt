@@ -1,7 +1,6 @@
 -- What is known of the lines of frontmatter, one behind the other, and of all that stands in it.
-use Rattle.std.proofs.Common.{◌≡◌, ℕ, ◌+◌, ◌<◌, Bool, true, false, cond, List, [], ◌∷◌, ◌++◌, length, take}
-use Rattle.std.proofs.Common.{drop}
-use Rattle.std.proofs.Common.{map, nat_lt, refl, sym, ◌∙◌, ap, subst, arith, append_assoc, append-nil}
+use Rattle.std.proofs.Common.{◌≡◌, ℕ, ◌+◌, ◌<◌, Bool, true, false, cond, List, [], ◌∷◌, ◌++◌, length, take, drop, map}
+use Rattle.std.proofs.Common.{nat_lt, refl, sym, ◌∙◌, ap, subst, arith, append_assoc, append-nil}
 use Rattle.std.specs.Prelude.{◌==◌}
 use Rattle.std.proofs.lemmas.Bool.Decides.{nat_tests}
 use Rattle.std.proofs.lemmas.List.{length-append, length-drop}
@@ -14,16 +13,14 @@ use Rattle.md_seam.specs.Events.Grammar.{Nothing, inside, plain_text}
 use Rattle.md_seam.specs.Events.Nested.{pair}
 use Rattle.md_seam.specs.Events.Spelled.{OfFrontmatter, OpenLeaf, empty_line, fresh, next_line}
 use Rattle.md_seam.proofs.EndingsLemmas.{Filling, filling-append, stays-append}
-use Rattle.md_seam.proofs.FeedLines.{ending-some}
+use Rattle.md_seam.proofs.FeedLines.{ending-some, IsEnding}
 use Rattle.md_seam.proofs.InlineLemmas.{past-index}
 use Rattle.md_frame.specs.LineColumns.{part_over}
 use Rattle.md_frame.proofs.BetweenFacts.{ending-before, ending-behind}
 use Rattle.md_front_rooms.proofs.Frontmatter.Parts.{HasFence, HasText, behind_chunk, behind_open, chunk-inside}
-use Rattle.md_front_rooms.proofs.Frontmatter.Parts.{close-inside, end-whole}
-use Rattle.md_front_rooms.proofs.Frontmatter.Parts.{fence-fills, fence_over, front_leaf, in_line, open-inside}
-use Rattle.md_front_rooms.proofs.Frontmatter.Parts.{text_line}
+use Rattle.md_front_rooms.proofs.Frontmatter.Parts.{close-inside, end-whole, fence-fills, fence_over, front_leaf}
+use Rattle.md_front_rooms.proofs.Frontmatter.Parts.{in_line, open-inside, text_line}
 use Rattle.md_frame.proofs.IndentRemoved.Shown.{whole-clear}
-use Rattle.md_seam.proofs.FeedLines.{IsEnding}
 use Rattle.md_frame.proofs.LeafLines.Inside.{InsideFacts, Meets, ending-inside, inside-append}
 use Rattle.md_frame.proofs.PartsFacts.{behind_ending}
 

@@ -2,8 +2,7 @@
 use Rattle.std.proofs.Common.{◌≡◌, ℕ, zero, suc, ◌+◌, ◌-◌, ◌<◌, ◌≤◌, Bool, true, false, cond, ◌&&◌, ◌||◌, List, []}
 use Rattle.std.proofs.Common.{◌∷◌, ◌++◌, length, take, drop, slice_range, Option, Some, None, refl, sym, ◌∙◌, ap, ap₂}
 use Rattle.std.proofs.Common.{nat_eq, subst, arith, append_assoc}
-use Rattle.std.specs.Prelude.{replicate}
-use Rattle.std.specs.Prelude.{◌==◌, option_map}
+use Rattle.std.specs.Prelude.{replicate, ◌==◌, option_map}
 use Rattle.std.specs.List.{list_all}
 use Rattle.std.proofs.lemmas.Bool.{and_from, and_parts, eqb-true}
 use Rattle.std.proofs.lemmas.Bool.Decides.{nat_tests}
@@ -37,13 +36,11 @@ use Rattle.md_seam.proofs.InlineLemmas.{past-index, past_text-append}
 use Rattle.md_seam.proofs.RestLines.{count-none, count-one}
 use Rattle.md_seam.proofs.SpelledLemmas.{Roles, read-from, read-quiet}
 use Rattle.md_frame.specs.LineColumns.{part_over}
-use Rattle.md_frame.proofs.BetweenFacts.{AreBetween, between-append, between-behind, between-pair, is_low}
-use Rattle.md_frame.proofs.BetweenFacts.{low-at}
+use Rattle.md_frame.proofs.BetweenFacts.{AreBetween, between-append, between-behind, between-pair, is_low, low-at}
 use Rattle.md_frame.proofs.BetweenFacts.{around-between}
 use Rattle.md_frame.proofs.WhiteQuiet.{white-quiet}
 use Rattle.md_frame.proofs.IndentRemoved.Placed.{Placed, in-line, over-onward, over-placed, placed-append}
-use Rattle.md_frame.proofs.IndentRemoved.Placed.{placed-around}
-use Rattle.md_frame.proofs.IndentRemoved.Placed.{placed-pair}
+use Rattle.md_frame.proofs.IndentRemoved.Placed.{placed-around, placed-pair}
 use Rattle.md_frame.proofs.IndentRemoved.Reads.{empty-joined, leaf-told, on-last}
 use Rattle.md_frame.proofs.IndentRemoved.Shown.{whole-clear}
 use Rattle.md_frame.proofs.PartFacts.{NoLinks, NoParts}
@@ -51,8 +48,7 @@ use Rattle.md_frame.proofs.PartedFacts.{PrefixesAtLineStart}
 use Rattle.md_frame.proofs.PieceFacts.{begins-cut, begins-whole, over-front, over-stands}
 use Rattle.md_frame.proofs.PlainFacts.{AreKnown, known-append, known-around, known-none, plain-quiet}
 use Rattle.md_frame.proofs.LeafLines.Inside.{InsideFacts}
-use Rattle.md_frame.proofs.PartsFacts.{ReadsLeaf}
-use Rattle.md_frame.proofs.PartsFacts.{PartsFacts}
+use Rattle.md_frame.proofs.PartsFacts.{ReadsLeaf, PartsFacts}
 use Rattle.md_frame.proofs.Stretch.{stretch-same}
 
 -- A line, where it stands: it begins at a byte, and ends behind its bytes.

@@ -7,13 +7,12 @@ use Rattle.md_engine.specs.declared.event.Kind.TheVariants.{Enter, Exit}
 use Rattle.md_engine.specs.declared.event.Point.{Point}
 use Rattle.md_meaning.specs.State.{then_block}
 use Rattle.md_meaning.specs.Tree.{Block, Blocks, End, Line, More}
-use Rattle.md_seam.specs.Events.Spelled.{OpenContainer, AsDigits, AsFootnoteLabel, AsItemMarker, AsParagraph, ContainerRole, IsCell}
-use Rattle.md_seam.specs.Events.Spelled.{IsEnding}
-use Rattle.md_seam.specs.Events.Spelled.{IsFence, IsPrefix, IsQuiet, IsRow, IsTitle, OpenLeaf, LeafRole, Purpose, Reading}
-use Rattle.md_seam.specs.Events.Spelled.{Role, Shape}
-use Rattle.md_seam.specs.Events.Spelled.{TextRole, Text, add_block, at_ending, finished, left, named, next_line, on_leaf}
-use Rattle.md_seam.specs.Events.Spelled.{IsQuoteMarker, is_before_blocks, kind_at, on_shape, with_kind}
-use Rattle.md_seam.specs.Events.Spelled.{read, read_by, role, told, told_at, unread}
+use Rattle.md_seam.specs.Events.Spelled.{OpenContainer, AsDigits, AsFootnoteLabel, AsItemMarker, AsParagraph}
+use Rattle.md_seam.specs.Events.Spelled.{ContainerRole, IsCell, IsEnding, IsFence, IsPrefix, IsQuiet, IsRow, IsTitle}
+use Rattle.md_seam.specs.Events.Spelled.{OpenLeaf, LeafRole, Purpose, Reading, Role, Shape, TextRole, Text, add_block}
+use Rattle.md_seam.specs.Events.Spelled.{at_ending, finished, left, named, next_line, on_leaf, IsQuoteMarker}
+use Rattle.md_seam.specs.Events.Spelled.{is_before_blocks, kind_at, on_shape, with_kind, read, read_by, role, told}
+use Rattle.md_seam.specs.Events.Spelled.{told_at, unread}
 
 -- Behind a block.
 

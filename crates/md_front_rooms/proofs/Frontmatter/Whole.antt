@@ -20,9 +20,8 @@ use Rattle.md_meaning.proofs.PreambleLemmas.{mark-bytes}
 use Rattle.md_outline.specs.Between.{is_between}
 use Rattle.md_outline.proofs.FrontPass.{passes-front}
 use Rattle.md_seam.specs.Events.Endings.{endings_stand, endings_stand_from, line_start}
-use Rattle.md_seam.specs.Events.Grammar.{Expression, Never, Nothing, Then, behind, behind_block, blocks}
-use Rattle.md_seam.specs.Events.Grammar.{is_whole}
-use Rattle.md_seam.specs.Events.Grammar.{one, or_else, plain_text, unread_text}
+use Rattle.md_seam.specs.Events.Grammar.{Expression, Never, Nothing, Then, behind, behind_block, blocks, is_whole, one}
+use Rattle.md_seam.specs.Events.Grammar.{or_else, plain_text, unread_text}
 use Rattle.md_seam.specs.Events.Nested.{around, exit, pair}
 use Rattle.md_seam.specs.Events.Spelled.{OfFrontmatter, OpenLeaf, Reading, Text, add_block, at_ending, block_of, fresh}
 use Rattle.md_seam.specs.Events.Spelled.{next_line, on_leaf, read, unread}
@@ -31,8 +30,7 @@ use Rattle.md_seam.proofs.GrammarLemmas as grammar
 use Rattle.md_seam.proofs.GrammarLemmas.{leads-around}
 use Rattle.md_seam.proofs.SpelledLemmas.{read-from, read-quiet}
 use Rattle.md_front_rooms.specs.Front.{mark_end, mark_events, mark_point}
-use Rattle.md_frame.proofs.BetweenFacts.{AreBetween, between-end}
-use Rattle.md_frame.proofs.BetweenFacts.{ending-before, ending-behind}
+use Rattle.md_frame.proofs.BetweenFacts.{AreBetween, between-end, ending-before, ending-behind}
 use Rattle.md_front_rooms.proofs.Frontmatter.Found.{AtEnd, Ended, Tail}
 use Rattle.md_front_rooms.proofs.Frontmatter.Lines.{IsFront, front-fills, front-inside}
 use Rattle.md_front_rooms.proofs.Frontmatter.Parts.{front_leaf, text_line}
@@ -42,8 +40,7 @@ use Rattle.md_front_rooms.proofs.MarkLemmas.{between-mark, body-between, body-vs
 use Rattle.md_frame.proofs.PartedFacts.{clear}
 use Rattle.md_frame.proofs.PartsStand as parts
 use Rattle.md_frame.proofs.PieceFacts.{Starts, over-stands}
-use Rattle.md_frame.proofs.PlainFacts.{ArePlain, known-around, plain-append, plain-nil, plain-quiet}
-use Rattle.md_frame.proofs.PlainFacts.{plain-untold}
+use Rattle.md_frame.proofs.PlainFacts.{ArePlain, known-around, plain-append, plain-nil, plain-quiet, plain-untold}
 use Rattle.md_seam.proofs.FeedLines.{IsEnding}
 use Rattle.md_frame.proofs.EndingFacts.{stretch-ended}
 use Rattle.md_frame.proofs.EventNames.{NoContainer, part-no_container}

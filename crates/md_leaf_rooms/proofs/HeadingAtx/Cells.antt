@@ -27,8 +27,7 @@ use Rattle.md_meaning.proofs.TextsLemmas.{NoEnding}
 use Rattle.md_frame.specs.RestLine.{rest_line}
 use Rattle.md_leaf_rooms.specs.Leaf.HeadingAtx.{heading_leaf}
 use Rattle.md_frame.proofs.MarkRuns.Fits.{Tells, line-fits}
-use Rattle.md_frame.proofs.RestFacts.{Indented, rest-line_end, rest-no_ending, rest-same}
-use Rattle.md_frame.proofs.RestFacts.{small-indented}
+use Rattle.md_frame.proofs.RestFacts.{Indented, rest-line_end, rest-no_ending, rest-same, small-indented}
 use Rattle.md_seam.proofs.RestLines.{spread-line}
 
 -- Where it stands.

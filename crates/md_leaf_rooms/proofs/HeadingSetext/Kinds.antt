@@ -13,8 +13,7 @@ use Rattle.md_engine.specs.Meaning.{Cell}
 use Rattle.md_meaning.specs.Rest.{Rest, has_small_indent, is_blank, is_white, trim_start}
 use Rattle.md_meaning.specs.Texts.{first_byte}
 use Rattle.md_meaning.proofs.TextsLemmas.{NoEnding}
-use Rattle.md_leaves.specs.HeadingSetext.{is_marker, is_text}
-use Rattle.md_leaves.specs.HeadingSetext.{may_turn}
+use Rattle.md_leaves.specs.HeadingSetext.{is_marker, is_text, may_turn}
 use Rattle.md_leaves.specs.HeadingSetextRule.{is_run, is_underline}
 use Rattle.md_seam.specs.Ahead.{line_bytes, white_rest}
 use Rattle.md_seam.specs.Spaces.{small_indent}

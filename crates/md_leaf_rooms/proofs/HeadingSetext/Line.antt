@@ -23,8 +23,7 @@ use Rattle.md_seam.specs.Events.Grammar.{Expression, inside}
 use Rattle.md_seam.specs.Events.Nested.{enter, exit, pair}
 use Rattle.md_seam.specs.Events.Pieces.{is_run, stands_over}
 use Rattle.md_seam.specs.Events.Places.{past_text}
-use Rattle.md_seam.specs.Events.Spelled.{AsMarkers, Reading, byte_at, columns_left, read}
-use Rattle.md_seam.specs.Events.Spelled.{told}
+use Rattle.md_seam.specs.Events.Spelled.{AsMarkers, Reading, byte_at, columns_left, read, told}
 use Rattle.md_seam.proofs.BlocksLemmas.{read-around, read-told}
 use Rattle.md_seam.proofs.EndingsLemmas.{AreOthers, is_other}
 use Rattle.md_seam.proofs.GrammarLemmas.{IsWord}
@@ -44,16 +43,14 @@ use Rattle.md_leaf_rooms.proofs.HeadingSetext.Kinds.{setext-starts, underline-fi
 use Rattle.md_frame.proofs.LeafFacts.{LineAt}
 use Rattle.md_frame.proofs.LineTexts.{line-stands}
 use Rattle.md_frame.proofs.MarkRuns.Each.{Holds, each-others, line-holds, runs-hold}
-use Rattle.md_leaf_rooms.proofs.MarkRuns.Line.{HasRun, run-first, run-marks, run-text, run-whole}
-use Rattle.md_leaf_rooms.proofs.MarkRuns.Line.{run_parts, runs-are}
+use Rattle.md_leaf_rooms.proofs.MarkRuns.Line.{HasRun, run-first, run-marks, run-text, run-whole, run_parts, runs-are}
 use Rattle.md_frame.proofs.OutsideFacts.{AreOutside, IsOutside}
 use Rattle.md_frame.proofs.PartedFacts.{clear}
 use Rattle.md_frame.proofs.PieceFacts.{Starts}
 use Rattle.md_frame.proofs.PieceRuns.{IsMarker, marker-run, runs-start, runs-stretch}
 use Rattle.md_frame.proofs.Stretch.{Stretch, stretch-around}
 use Rattle.md_containers.specs.ItemsStand.{IsPart}
-use Rattle.md_frame.proofs.PlainFacts.{ArePlainFrom, known-around, known-none, past-clear, plain-through}
-use Rattle.md_frame.proofs.PlainFacts.{quiet-from}
+use Rattle.md_frame.proofs.PlainFacts.{ArePlainFrom, known-around, known-none, past-clear, plain-through, quiet-from}
 use Rattle.md_frame.proofs.RestFacts.{rest-trim}
 use Rattle.md_frame.proofs.SpannedFacts.{AreUnspanned, IsUnspanned}
 

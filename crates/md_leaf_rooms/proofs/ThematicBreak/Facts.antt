@@ -23,8 +23,7 @@ use Rattle.md_seam.proofs.GrammarLemmas.{IsWord}
 use Rattle.md_seam.proofs.SpelledLemmas.{Quiet, Roles}
 use Rattle.md_frame.proofs.EachEvent.{Each}
 use Rattle.md_frame.specs.RestLine.{rest_line}
-use Rattle.md_leaf_rooms.specs.Leaf.ThematicBreak.{break_line, first_byte}
-use Rattle.md_leaf_rooms.specs.Leaf.ThematicBreak.{is_ruled}
+use Rattle.md_leaf_rooms.specs.Leaf.ThematicBreak.{break_line, first_byte, is_ruled}
 use Rattle.md_frame.specs.MarkRuns.{Apart, Marks, Run, White, mark_runs}
 use Rattle.md_frame.proofs.BetweenFacts.{is_low}
 use Rattle.md_frame.proofs.LeafFacts.{LeafFacts, LineAt}

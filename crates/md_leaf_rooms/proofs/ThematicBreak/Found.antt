@@ -1,13 +1,10 @@
 -- Where the line definition has a thematic break.
-use Rattle.std.proofs.Common.{Bool, true, false}
-use Rattle.std.proofs.Common.{◌≡◌, cond, refl}
-use Rattle.std.specs.Prelude.{Some, None}
-use Rattle.std.specs.Prelude.{◌&&◌, not}
+use Rattle.std.proofs.Common.{Bool, true, false, ◌≡◌, cond, refl}
+use Rattle.std.specs.Prelude.{Some, None, ◌&&◌, not}
 use Rattle.md_engine.specs.declared.configuration.ParseOptions.{ParseOptions}
 use Rattle.md_engine.specs.declared.tokenizer.held_leaf.HeldLeaf.{HeldLeaf}
 use Rattle.md_meaning.specs.Leaves.{Finished, break_at, is_rule}
-use Rattle.md_meaning.specs.Rest.{Rest}
-use Rattle.md_meaning.specs.Rest.{has_small_indent, trim_start}
+use Rattle.md_meaning.specs.Rest.{Rest, has_small_indent, trim_start}
 use Rattle.md_meaning.specs.Tree.{Break}
 use Rattle.md_leaf_rooms.specs.Leaf.ThematicBreak.{break_leaf}
 use Rattle.md_leaves.specs.HeadingSetext.{turns_nothing}

@@ -1,10 +1,9 @@
 -- The laws of thematic breaks.
-use Rattle.std.proofs.Common.{refl}
-use Rattle.std.proofs.Common.{◌≡◌, true}
+use Rattle.std.proofs.Common.{refl, ◌≡◌, true}
 use Rattle.std.proofs.lemmas.Bool.{and_parts}
 use Rattle.std.specs.Prelude.{◌&&◌, not}
 use Rattle.md_frame.specs.RestLine.{rest_line}
-use Rattle.md_leaf_rooms.specs.Leaf.ThematicBreak.{break_leaf}
+use Rattle.md_leaf_rooms.specs.Leaf.ThematicBreak.{break_leaf, is_ruled}
 use Rattle.md_frame.proofs.LeafLaws.{LeafLaws}
 use Rattle.md_frame.proofs.OutsideFacts.{LineResolver}
 use Rattle.md_leaf_rooms.proofs.ThematicBreak.Facts.{break-facts, break-set, break-unspanned}
@@ -12,7 +11,6 @@ use Rattle.md_leaf_rooms.proofs.ThematicBreak.Kinds.{break-fits}
 use Rattle.md_leaf_rooms.proofs.ThematicBreak.Runs.{break-adds, break-no_content}
 use Rattle.md_leaf_rooms.proofs.ThematicBreak.Trial.{break-looked, break-refused, break-shrinks, break-took}
 use Rattle.md_leaf_rooms.proofs.ThematicBreak.Unturned.{break-alone, break-unturned}
-use Rattle.md_leaf_rooms.specs.Leaf.ThematicBreak.{is_ruled}
 use Rattle.md_engine.specs.declared.configuration.ParseOptions.{ParseOptions}
 use Rattle.md_engine.specs.declared.tokenizer.held_leaf.HeldLeaf.{HeldLeaf}
 use Rattle.md_meaning.specs.Rest.{Rest, trim_start}

@@ -17,13 +17,12 @@ use Rattle.md_seam.proofs.FeedLines.{Stops}
 use Rattle.md_seam.proofs.RestCells.{RestAt, rest_cells}
 use Rattle.md_meaning.proofs.TextsLemmas.{NoEnding}
 use Rattle.md_frame.specs.RestLine.{rest_line}
-use Rattle.md_leaf_rooms.specs.Leaf.ThematicBreak.{break_leaf, first_byte, first_cell}
+use Rattle.md_leaf_rooms.specs.Leaf.ThematicBreak.{break_leaf, first_byte, first_cell, is_ruled}
 use Rattle.md_frame.proofs.ContentFacts.{NoContent}
 use Rattle.md_frame.proofs.EachEvent.{Each}
 use Rattle.md_leaf_rooms.proofs.MarkRuns.Cells.{line-adds}
 use Rattle.md_frame.proofs.MarkRuns.Each.{Holds, IsNoContent, cell_line-holds, each-no_content}
 use Rattle.md_leaf_rooms.proofs.ThematicBreak.Kinds.{break-mark, rule-first}
-use Rattle.md_leaf_rooms.specs.Leaf.ThematicBreak.{is_ruled}
 
 -- the whole break
 pub break-adds :

@@ -1,8 +1,7 @@
 -- What a thematic break comes to, where it takes a line and where it refuses one.
 use Rattle.std.proofs.Common.{◌≡◌, ℕ, ◌≤◌, Bool, true, false, cond, List, [], ◌∷◌, ◌++◌, length, arith, refl, sym, ◌∙◌}
 use Rattle.std.proofs.Common.{ap, ap₂, append_assoc, Some}
-use Rattle.std.proofs.lemmas.Bool.{and_from, and_left}
-use Rattle.std.proofs.lemmas.Bool.{and_parts}
+use Rattle.std.proofs.lemmas.Bool.{and_from, and_left, and_parts}
 use Rattle.std.proofs.lemmas.Bool.Decides.{nat_tests}
 use Rattle.std.specs.Prelude.{◌&&◌, not}
 use Rattle.md_engine.specs.declared.configuration.ParseOptions.{ParseOptions}
@@ -25,11 +24,10 @@ use Rattle.md_seam.specs.Events.Nested.{around, enter, exit}
 use Rattle.md_seam.specs.Spaces.{IsRest, calmed, small_indent}
 use Rattle.md_seam.proofs.AheadLemmas.{none-rest, white-ending, white-line_end}
 use Rattle.md_seam.proofs.WhiteMeaning.{behind_white}
-use Rattle.md_leaf_rooms.specs.Leaf.ThematicBreak.{break_inside, first_cell, is_break}
+use Rattle.md_leaf_rooms.specs.Leaf.ThematicBreak.{break_inside, first_cell, is_break, break_leaf, is_lost}
 use Rattle.md_frame.proofs.FromEnding.{from_ending-again, from_ending-shrinks}
 use Rattle.md_frame.proofs.LeafStarts.{start-shrinks}
 use Rattle.md_frame.proofs.LeafLaws.{Shrinks, cond-shrinks, whole_line}
-use Rattle.md_leaf_rooms.specs.Leaf.ThematicBreak.{break_leaf, is_lost}
 
 -- what stands in it behind its indent
 abbrev behind_indent : List Cell → Point → List Event

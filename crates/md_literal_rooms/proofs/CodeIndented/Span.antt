@@ -1,7 +1,6 @@
 -- The laws of indented code with all its lines, joined.
 use Rattle.std.proofs.Common.{◌≡◌, ◌⊎◌, inl, inr, ℕ, Bool, true, false, cond, ◌||◌, ◌&&◌, not, List, [], ◌∷◌, ◌++◌}
-use Rattle.std.proofs.Common.{refl}
-use Rattle.std.proofs.Common.{sym, ◌∙◌, ap, subst, subst₂}
+use Rattle.std.proofs.Common.{refl, sym, ◌∙◌, ap, subst, subst₂}
 use Rattle.std.specs.Prelude.{◌==◌, Some}
 use Rattle.md_engine.specs.declared.configuration.ParseOptions.{ParseOptions}
 use Rattle.md_engine.specs.declared.event.Event.{Event}

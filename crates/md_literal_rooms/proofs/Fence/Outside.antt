@@ -20,11 +20,10 @@ use Rattle.md_seam.specs.Substituted.{wanted}
 use Rattle.md_frame.specs.HeldLeaf.{takes_lazy}
 use Rattle.md_literal_rooms.specs.Leaf.Fence.{fence_keeps, fence_line, linked, or_none}
 use Rattle.md_frame.proofs.ContentFacts.{NoContent}
-use Rattle.md_frame.proofs.EventNames.{is_told}
+use Rattle.md_frame.proofs.EventNames.{is_told, is_lined}
 use Rattle.md_frame.proofs.EachEvent.{Each}
 use Rattle.md_literal_rooms.proofs.Fence.Each.{adds-each, is_block_name, is_fence_name, line-each}
 use Rattle.md_frame.proofs.LinedFacts.{AreLined, IsLined}
-use Rattle.md_frame.proofs.EventNames.{is_lined}
 
 -- Its names.
 

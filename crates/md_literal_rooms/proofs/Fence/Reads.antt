@@ -1,7 +1,6 @@
 -- The events of a fence are read as its block.
-use Rattle.std.proofs.Common.{◌≡◌, ℕ, zero, suc, ◌+◌, Bool, true, false, cond, List, [], ◌∷◌, ◌++◌, length, take}
-use Rattle.std.proofs.Common.{drop, refl}
-use Rattle.std.proofs.Common.{sym, ap, ◌∙◌, subst, slice_range, arith}
+use Rattle.std.proofs.Common.{◌≡◌, ℕ, zero, suc, ◌+◌, Bool, true, false, cond, List, [], ◌∷◌, ◌++◌, length, take, drop}
+use Rattle.std.proofs.Common.{refl, sym, ap, ◌∙◌, subst, slice_range, arith}
 use Rattle.std.specs.Prelude.{◌==◌, not, Option, Some, None}
 use Rattle.std.specs.List.{prefix_len}
 use Rattle.md_engine.specs.declared.configuration.ParseOptions.{ParseOptions}
@@ -18,14 +17,11 @@ use Rattle.md_seam.specs.Events.Nested.{around, pair}
 use Rattle.md_seam.specs.Events.Places.{past_text}
 use Rattle.md_seam.specs.Events.Pieces.{stands_over}
 use Rattle.md_seam.specs.Events.Spelled.{AsInfo, AsMarkers, AsMeta, FenceLeaf, Fenced, MathLeaf, OfFence, OfMath}
-use Rattle.md_seam.specs.Events.Spelled.{OpenLeaf}
-use Rattle.md_seam.specs.Events.Spelled.{Purpose, Reading, TextRole, Text, begun, columns_left, fresh, read}
-use Rattle.md_seam.specs.Events.Spelled.{role}
-use Rattle.md_seam.specs.Events.Spelled.{text_to, told}
+use Rattle.md_seam.specs.Events.Spelled.{OpenLeaf, Purpose, Reading, TextRole, Text, begun, columns_left, fresh, read}
+use Rattle.md_seam.specs.Events.Spelled.{role, text_to, told}
 use Rattle.md_seam.proofs.BlocksLemmas.{read-around, read-told}
 use Rattle.md_seam.proofs.SpelledLemmas.{Between, Quiet, QuietOrEnding, Roles, read-from, read-quiet, text-inline}
-use Rattle.md_literal_rooms.specs.Leaf.Fence.{behind_parts, fence_parts, past_white}
-use Rattle.md_literal_rooms.specs.Leaf.Fence.{read_inner, text_part, white_part}
+use Rattle.md_literal_rooms.specs.Leaf.Fence.{behind_parts, fence_parts, past_white, read_inner, text_part, white_part}
 use Rattle.md_literal_rooms.proofs.Fence.Kept.{white-roles}
 use Rattle.md_literal_rooms.proofs.Fence.Laid.{Laid}
 use Rattle.md_frame.proofs.LineWalk.{At}

@@ -1,7 +1,6 @@
 -- The trial of a fence takes a line to its end, or refuses it.
-use Rattle.std.proofs.Common.{◌≡◌, ℕ, ◌+◌, ◌-◌, ◌≤◌, nat_lt, Bool, true, false, cond, ◌&&◌, List, [], ◌∷◌, ◌++◌}
-use Rattle.std.proofs.Common.{Option, Some, None, length}
-use Rattle.std.proofs.Common.{◌⊎◌, inl, inr, refl, sym, ◌∙◌, ap, arith}
+use Rattle.std.proofs.Common.{◌≡◌, ℕ, ◌+◌, ◌-◌, ◌≤◌, nat_lt, Bool, true, false, cond, ◌&&◌, List, [], ◌∷◌, ◌++◌, Option}
+use Rattle.std.proofs.Common.{Some, None, length, ◌⊎◌, inl, inr, refl, sym, ◌∙◌, ap, arith}
 use Rattle.std.specs.Prelude.{◌==◌}
 use Rattle.std.specs.Option.{is_some}
 use Rattle.std.proofs.lemmas.Bool.Decides.{nat_tests}
@@ -17,8 +16,7 @@ use Rattle.md_code.specs.Fence.{is_on, is_refused, may_begin, meta_name, sequenc
 use Rattle.md_code.specs.FenceLine.{fence_begins, fence_by, fence_opened, is_opening, marker_at}
 use Rattle.md_code.specs.FenceRule.{before_info, before_meta, before_sequence, behind_sequence, behind_white_of}
 use Rattle.md_code.specs.FenceRule.{fence_at, in_info, in_meta, in_sequence, is_end, is_line, is_word, opens}
-use Rattle.md_code.specs.FenceRule.{part_begun}
-use Rattle.md_code.specs.FenceRule.{part_ended, refuses, run_end, run_has, run_rest, run_size}
+use Rattle.md_code.specs.FenceRule.{part_begun, part_ended, refuses, run_end, run_has, run_rest, run_size}
 use Rattle.md_code.proofs.FenceCells.{line-all, line-done, run-length}
 use Rattle.md_code.proofs.FenceOpened.{fence-whole}
 use Rattle.md_code.proofs.FenceOpens.{marker-no}

@@ -1,6 +1,5 @@
 -- A fence keeps the grammar of events.
-use Rattle.std.proofs.Common.{◌≡◌, ℕ, Bool, true, false, cond, List, [], ◌∷◌, ◌++◌, length, drop, refl, sym, ap}
-use Rattle.std.proofs.Common.{◌∙◌}
+use Rattle.std.proofs.Common.{◌≡◌, ℕ, Bool, true, false, cond, List, [], ◌∷◌, ◌++◌, length, drop, refl, sym, ap, ◌∙◌}
 use Rattle.std.proofs.Common.{subst, append_assoc, append-nil}
 use Rattle.std.specs.Prelude.{not}
 use Rattle.std.proofs.lemmas.List.Sums.{take_while-cons}
@@ -13,14 +12,12 @@ use Rattle.md_meaning.specs.Rest.{is_white, trim_start}
 use Rattle.md_seam.proofs.RestLines.{count-none, count-one}
 use Rattle.md_code.proofs.FenceParts.{prefix-take}
 use Rattle.md_seam.specs.declared.inline.Chunk.{Chunk}
-use Rattle.md_seam.specs.Events.Grammar.{Expression, behind, inside, may_end, plain_text}
-use Rattle.md_seam.specs.Events.Grammar.{unread_text}
+use Rattle.md_seam.specs.Events.Grammar.{Expression, behind, inside, may_end, plain_text, unread_text}
 use Rattle.md_seam.specs.Events.Inline.{plain_chunk}
 use Rattle.md_seam.specs.Events.Nested.{around, pair}
 use Rattle.md_seam.specs.Events.Places.{past_text}
 use Rattle.md_seam.proofs.GrammarLemmas.{IsWord, Leads, leads-around, leads-pair, maybe, word-behind}
-use Rattle.md_literal_rooms.specs.Leaf.Fence.{Inner, linked}
-use Rattle.md_literal_rooms.specs.Leaf.Fence.{past_white, read_inner, text_part, white_part}
+use Rattle.md_literal_rooms.specs.Leaf.Fence.{Inner, linked, past_white, read_inner, text_part, white_part}
 use Rattle.md_frame.proofs.ChunkFacts.{chunk-word}
 use Rattle.md_literal_rooms.proofs.Fence.Walk.{CutsWord, behind-first}
 

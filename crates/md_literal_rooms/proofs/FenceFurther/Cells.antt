@@ -19,9 +19,8 @@ use Rattle.md_meaning.specs.Rest.{Rest, cut_tab, has_small_indent, indent, is_bl
 use Rattle.md_meaning.specs.Rest.{trim_start}
 use Rattle.md_meaning.proofs.TextsLemmas.{NoEnding}
 use Rattle.md_code.specs.Fence.{block_name, chunk_name, fence_name, held_indent, held_marker, held_size, may_begin}
-use Rattle.md_code.specs.Fence.{sequence_name}
-use Rattle.md_code.specs.FenceLine.{chunk_events, closes_here, closing_end, closing_events, further_end}
-use Rattle.md_code.specs.FenceLine.{further_inside}
+use Rattle.md_code.specs.Fence.{sequence_name, is_open as is_fence}
+use Rattle.md_code.specs.FenceLine.{chunk_events, closes_here, closing_end, closing_events, further_end, further_inside}
 use Rattle.md_code.specs.FenceLine.{spaces}
 use Rattle.md_code.specs.FenceRule.{is_line, run_end, run_rest}
 use Rattle.md_leaves.specs.Further.{further_link}
@@ -40,14 +39,10 @@ use Rattle.md_seam.proofs.RestCells.{RestAt, column-first, indent-length, lose-n
 use Rattle.md_seam.proofs.RestCells.{past_rest, rest_cells, without_first}
 use Rattle.md_frame.specs.RestLine.{rest_line}
 use Rattle.md_literal_rooms.specs.Leaf.FenceFurther.{chunk_line, closing_line, closing_part, fence_further}
-use Rattle.md_frame.specs.LineColumns.{columns_part}
-use Rattle.md_code.specs.Fence.{is_open as is_fence}
-use Rattle.md_literal_rooms.specs.Leaf.FenceFurther.{further_parts}
-use Rattle.md_frame.specs.LineColumns.{next_point, part_over, past_columns}
-use Rattle.md_literal_rooms.specs.Leaf.FenceFurther.{opening_of}
-use Rattle.md_frame.proofs.IndentRemoved.Columns.{columns-end, past-line, rest-again}
+use Rattle.md_literal_rooms.specs.Leaf.FenceFurther.{further_parts, opening_of}
+use Rattle.md_frame.specs.LineColumns.{columns_part, next_point, part_over, past_columns}
+use Rattle.md_frame.proofs.IndentRemoved.Columns.{columns-end, past-line, rest-again, first-next, rest}
 use Rattle.md_literal_rooms.proofs.IndentRemoved.Columns.{columns-part}
-use Rattle.md_frame.proofs.IndentRemoved.Columns.{first-next, rest}
 use Rattle.md_literal_rooms.proofs.FenceFurther.Trial.{fence-marker, fence-size}
 
 -- What is held is a fence, with one marker at least.

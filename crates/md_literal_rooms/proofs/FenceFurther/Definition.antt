@@ -12,10 +12,9 @@ use Rattle.md_meaning.specs.Leaves.{is_fence_marker, least_size, opening}
 use Rattle.md_meaning.specs.Rest.{Rest, has_small_indent, indent, line_of, lose, run_len, trim_start}
 use Rattle.md_meaning.specs.State.{Leaf, OpenFence, Opening, fence_block}
 use Rattle.md_meaning.specs.Tree.{Line}
-use Rattle.md_code.specs.Fence.{held_indent, may_begin}
+use Rattle.md_code.specs.Fence.{held_indent, may_begin, is_open as is_fence}
 use Rattle.md_code.proofs.FenceOpened.{marker-may}
 use Rattle.md_frame.specs.HeldLeaf.{kind_of_leaf, left_by}
-use Rattle.md_code.specs.Fence.{is_open as is_fence}
 use Rattle.md_literal_rooms.specs.Leaf.FenceFurther.{fence_comes, further_holds, opening_of}
 
 -- what is held of a block behind its opening

@@ -14,10 +14,8 @@ use Rattle.md_seam.specs.Events.Places.{past_text}
 use Rattle.md_seam.proofs.EndingsLemmas.{Stays, stays-others}
 use Rattle.md_seam.proofs.GrammarLemmas.{IsWord, Leads, leads-append, leads-around}
 use Rattle.md_frame.specs.RestLine.{rest_line}
-use Rattle.md_literal_rooms.specs.Leaf.FenceFurther.{chunk_line, closing_line, closing_part, further_parts}
-use Rattle.md_frame.specs.LineColumns.{columns_part}
-use Rattle.md_literal_rooms.specs.Leaf.FenceFurther.{opening_of}
-use Rattle.md_frame.specs.LineColumns.{part_over, past_columns}
+use Rattle.md_literal_rooms.specs.Leaf.FenceFurther.{chunk_line, closing_line, closing_part, further_parts, opening_of}
+use Rattle.md_frame.specs.LineColumns.{columns_part, part_over, past_columns}
 use Rattle.md_frame.proofs.ContainerNames.{TakesPrefixes}
 use Rattle.md_literal_rooms.proofs.FenceFurther.Parts.{further-others}
 use Rattle.md_literal_rooms.proofs.IndentRemoved.Grammar.{columns-lead, left_over, lost-leads}

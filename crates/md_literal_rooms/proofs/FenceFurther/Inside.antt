@@ -19,18 +19,14 @@ use Rattle.md_seam.specs.Events.Places.{at_or_before, past_text}
 use Rattle.md_seam.proofs.FeedLines.{drop-past}
 use Rattle.md_seam.proofs.InlineLemmas.{past-index, past_text-append}
 use Rattle.md_frame.specs.RestLine.{rest_line}
-use Rattle.md_literal_rooms.specs.Leaf.FenceFurther.{chunk_line, closing_line, closing_part, further_parts}
-use Rattle.md_frame.specs.LineColumns.{columns_part}
+use Rattle.md_literal_rooms.specs.Leaf.FenceFurther.{chunk_line, closing_line, closing_part, further_parts, opening_of}
+use Rattle.md_frame.specs.LineColumns.{columns_part, part_over, past_columns}
 use Rattle.md_code.specs.Fence.{is_open as is_fence}
-use Rattle.md_literal_rooms.specs.Leaf.FenceFurther.{opening_of}
-use Rattle.md_frame.specs.LineColumns.{part_over, past_columns}
-use Rattle.md_frame.proofs.IndentRemoved.Placed.{Placed}
-use Rattle.md_frame.proofs.IndentRemoved.Placed.{columns-placed, in-line, lost-placed, over-onward, over-placed}
+use Rattle.md_frame.proofs.IndentRemoved.Placed.{Placed, columns-placed, in-line, lost-placed, over-onward, over-placed}
 use Rattle.md_frame.proofs.IndentRemoved.Placed.{placed-append, placed-around, placed-pair}
 use Rattle.md_literal_rooms.proofs.FenceFurther.Names.{either-name}
-use Rattle.md_frame.proofs.IndentRemoved.Places.{FurtherAt}
+use Rattle.md_frame.proofs.IndentRemoved.Places.{FurtherAt, has-left}
 use Rattle.md_literal_rooms.proofs.FenceFurther.Places.{HasClosing, has-closing}
-use Rattle.md_frame.proofs.IndentRemoved.Places.{has-left}
 use Rattle.md_literal_rooms.proofs.FenceFurther.Trial.{fence-marker, fence-size}
 use Rattle.md_frame.proofs.PieceFacts.{Over, begins-cut, begins-whole, over-front, over-stands}
 

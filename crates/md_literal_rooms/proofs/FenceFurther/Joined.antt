@@ -12,14 +12,12 @@ use Rattle.md_meaning.specs.Leaves.{closes}
 use Rattle.md_meaning.specs.Rest.{Rest, has_small_indent, lose}
 use Rattle.md_leaves.specs.Spanned.{has_lines}
 use Rattle.md_leaves.proofs.SpannedLines.{IsEnd, IsFurther}
-use Rattle.md_code.specs.Fence.{block_name, chunk_name, held_indent, held_marker, held_size}
+use Rattle.md_code.specs.Fence.{block_name, chunk_name, held_indent, held_marker, held_size, is_open as is_fence}
 use Rattle.md_leaves.specs.Further.{further_link}
 use Rattle.md_seam.specs.Events.Nested.{enter_link, exit, pair}
 use Rattle.md_seam.specs.Events.Spelled.{role}
 use Rattle.md_frame.specs.RestLine.{rest_line}
-use Rattle.md_code.specs.Fence.{is_open as is_fence}
-use Rattle.md_literal_rooms.specs.Leaf.FenceFurther.{chunk_line, closing_line, fence_further, further_parts}
-use Rattle.md_literal_rooms.specs.Leaf.FenceFurther.{opening_of}
+use Rattle.md_literal_rooms.specs.Leaf.FenceFurther.{chunk_line, closing_line, fence_further, further_parts, opening_of}
 use Rattle.md_frame.specs.LineColumns.{part_over, past_columns}
 use Rattle.md_literal_rooms.proofs.FenceFurther.Cells.{fence-some}
 use Rattle.md_frame.proofs.IndentRemoved.Columns.{rest-again}

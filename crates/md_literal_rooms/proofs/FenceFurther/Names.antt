@@ -22,16 +22,13 @@ use Rattle.md_seam.specs.Events.Places.{past_text}
 use Rattle.md_seam.specs.Spaces.{any_size, small_indent}
 use Rattle.md_literal_rooms.specs.Leaf.FenceFurther.{closing_line, closing_part, fence_further}
 use Rattle.md_literal_rooms.specs.Leaf.FenceFurther.{chunk_line, further_parts, opening_of}
-use Rattle.md_frame.specs.LineColumns.{past_columns}
-use Rattle.md_frame.specs.LineColumns.{rest_of}
+use Rattle.md_frame.specs.LineColumns.{past_columns, rest_of}
 use Rattle.md_frame.proofs.ContentFacts.{NoContent}
-use Rattle.md_frame.proofs.EventNames.{is_told}
-use Rattle.md_literal_rooms.proofs.IndentRemoved.Names.{is_inside}
-use Rattle.md_frame.proofs.EachEvent.{each-append}
-use Rattle.md_literal_rooms.proofs.IndentRemoved.Names.{AreInside, More, either-part, inside-lined}
+use Rattle.md_frame.proofs.EventNames.{is_told, is_lined}
+use Rattle.md_literal_rooms.proofs.IndentRemoved.Names.{is_inside, AreInside, More, either-part, inside-lined}
 use Rattle.md_literal_rooms.proofs.IndentRemoved.Names.{lost-each, more-no_content, over-each}
+use Rattle.md_frame.proofs.EachEvent.{each-append}
 use Rattle.md_frame.proofs.LinedFacts.{AreLined, IsLined}
-use Rattle.md_frame.proofs.EventNames.{is_lined}
 
 pub either-name : (P : Name → Type 0) (x : Bool) (a b : Name) → P a → P b → P (cond x a b)
 either-name P true a b h k = h

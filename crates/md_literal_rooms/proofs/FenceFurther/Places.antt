@@ -10,17 +10,14 @@ use Rattle.md_engine.specs.declared.configuration.ParseOptions.{ParseOptions}
 use Rattle.md_engine.specs.declared.event.Point.{Point}
 use Rattle.md_engine.specs.declared.tokenizer.held_leaf.HeldLeaf.{HeldLeaf}
 use Rattle.md_meaning.specs.Leaves.{closes}
-use Rattle.md_meaning.specs.Rest.{Rest, behind_indent, cut_tab, has_small_indent, indent, is_blank}
-use Rattle.md_meaning.specs.Rest.{run_len, trim_start}
+use Rattle.md_meaning.specs.Rest.{Rest, behind_indent, cut_tab, has_small_indent, indent, is_blank, run_len, trim_start}
 use Rattle.md_code.specs.Fence.{held_marker, held_size}
 use Rattle.md_seam.proofs.RestLines.{count-none, count-one, indent-trims}
 use Rattle.md_seam.specs.Events.Places.{past_text}
 use Rattle.md_seam.proofs.RestCells.{Bare, Cut, HasIndent, bare, indent-taken}
 use Rattle.md_literal_rooms.specs.Leaf.FenceFurther.{opening_of}
 use Rattle.md_frame.specs.LineColumns.{past_columns}
-use Rattle.md_frame.proofs.IndentRemoved.Places.{FurtherAt, HasLeft, further-rest}
-use Rattle.md_frame.proofs.IndentRemoved.Places.{has-left}
-use Rattle.md_frame.proofs.IndentRemoved.Places.{unsaid}
+use Rattle.md_frame.proofs.IndentRemoved.Places.{FurtherAt, HasLeft, further-rest, has-left, unsaid}
 
 -- A closing fence.
 

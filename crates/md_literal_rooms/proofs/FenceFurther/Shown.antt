@@ -1,6 +1,5 @@
 -- What stands in a further line of fenced code or math stands between characters, and parts no text.
-use Rattle.std.proofs.Common.{◌≡◌, ℕ, ◌-◌, Bool, true, false, cond, List, [], ◌∷◌}
-use Rattle.std.proofs.Common.{◌++◌, drop, take, refl, arith}
+use Rattle.std.proofs.Common.{◌≡◌, ℕ, ◌-◌, Bool, true, false, cond, List, [], ◌∷◌, ◌++◌, drop, take, refl, arith}
 use Rattle.std.specs.Prelude.{◌==◌}
 use Rattle.std.specs.List.{list_all}
 use Rattle.std.proofs.lemmas.Bool.{and_from}
@@ -21,17 +20,14 @@ use Rattle.md_seam.specs.Events.Nested.{around, exit, pair}
 use Rattle.md_seam.specs.Events.Places.{past_text}
 use Rattle.md_seam.specs.Events.Spelled.{role}
 use Rattle.md_seam.proofs.InlineLemmas.{past-index}
-use Rattle.md_literal_rooms.specs.Leaf.FenceFurther.{chunk_line, closing_line, closing_part, further_parts}
-use Rattle.md_frame.specs.LineColumns.{columns_part}
+use Rattle.md_literal_rooms.specs.Leaf.FenceFurther.{chunk_line, closing_line, closing_part, further_parts, opening_of}
+use Rattle.md_frame.specs.LineColumns.{columns_part, part_over, past_columns}
 use Rattle.md_code.specs.Fence.{is_open as is_fence}
-use Rattle.md_literal_rooms.specs.Leaf.FenceFurther.{opening_of}
-use Rattle.md_frame.specs.LineColumns.{part_over, past_columns}
 use Rattle.md_frame.proofs.BetweenFacts.{AreBetween, all-more, between-behind, is_low, low-at, white-between}
 use Rattle.md_frame.proofs.EachEvent.{each-append}
-use Rattle.md_frame.proofs.IndentRemoved.Shown.{left-clear, whole-clear}
-use Rattle.md_frame.proofs.IndentRemoved.Shown.{OfPoints, SitsPair, columns-points, columns-sits, each-all}
-use Rattle.md_frame.proofs.IndentRemoved.Shown.{lost-points, lost-sits, over-points, over-sits, points-clear}
-use Rattle.md_frame.proofs.IndentRemoved.Shown.{white-sits}
+use Rattle.md_frame.proofs.IndentRemoved.Shown.{left-clear, whole-clear, OfPoints, SitsPair, columns-points}
+use Rattle.md_frame.proofs.IndentRemoved.Shown.{columns-sits, each-all, lost-points, lost-sits, over-points, over-sits}
+use Rattle.md_frame.proofs.IndentRemoved.Shown.{points-clear, white-sits}
 use Rattle.md_literal_rooms.proofs.FenceFurther.Inside.{has-sequence}
 use Rattle.md_literal_rooms.proofs.FenceFurther.Names.{either-name, parts-each}
 use Rattle.md_literal_rooms.proofs.IndentRemoved.Names.{inside-name, is_inside}

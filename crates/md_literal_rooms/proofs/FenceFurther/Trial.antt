@@ -1,7 +1,6 @@
 -- What a further line of fenced code or math comes to: it is always taken, where such a block is open.
-use Rattle.std.proofs.Common.{◌≡◌, ◌≤◌, ◌+◌, ℕ, Bool, true, false, cond, List, [], ◌∷◌, ◌++◌, length, arith, refl}
-use Rattle.std.proofs.Common.{◌∙◌, ap, ap₂}
-use Rattle.std.proofs.Common.{sym, Some}
+use Rattle.std.proofs.Common.{◌≡◌, ◌≤◌, ◌+◌, ℕ, Bool, true, false, cond, List, [], ◌∷◌, ◌++◌, length, arith, refl, ◌∙◌}
+use Rattle.std.proofs.Common.{ap, ap₂, sym, Some}
 use Rattle.std.specs.Prelude.{◌==◌, ◌&&◌, nat_le, nat_lt}
 use Rattle.std.proofs.lemmas.Bool.{and_parts}
 use Rattle.md_engine.specs.declared.configuration.ParseOptions.{ParseOptions}
@@ -11,10 +10,9 @@ use Rattle.md_engine.specs.declared.tokenizer.held_leaf.HeldLeaf.TheVariants as 
 use Rattle.md_engine.specs.Meaning.{Accepts, Cell, Fails, Here, Outcome, Refuses}
 use Rattle.md_meaning.specs.Leaves.{closes, least_size}
 use Rattle.md_meaning.specs.Rest.{Rest}
-use Rattle.md_code.specs.Fence.{held_indent, held_marker, held_size, may_begin}
+use Rattle.md_code.specs.Fence.{held_indent, held_marker, held_size, may_begin, is_open as is_fence}
 use Rattle.md_code.specs.FenceLine.{closes_here, further_events}
-use Rattle.md_code.specs.FenceRule.{before_chunk, before_close, behind_white_of, close_at, close_end}
-use Rattle.md_code.specs.FenceRule.{closed_or_content}
+use Rattle.md_code.specs.FenceRule.{before_chunk, before_close, behind_white_of, close_at, close_end, closed_or_content}
 use Rattle.md_code.specs.FenceRule.{content_at, further_at, in_chunk, in_close, is_end, is_line, run_rest, run_size}
 use Rattle.md_code.proofs.FenceCells.{line-all, line-done, run-length}
 use Rattle.md_code.proofs.FenceFurther.{further-end}
@@ -24,7 +22,6 @@ use Rattle.md_seam.specs.Look.{seen_behind}
 use Rattle.md_seam.specs.Spaces.{IsRest, small_indent}
 use Rattle.md_seam.proofs.RestCells.{white-length}
 use Rattle.md_frame.specs.HeldLeaf.{takes_lazy}
-use Rattle.md_code.specs.Fence.{is_open as is_fence}
 use Rattle.md_literal_rooms.specs.Leaf.FenceFurther.{fence_further, opening_of}
 use Rattle.md_frame.proofs.FromEnding.{from_ending-again}
 use Rattle.md_frame.proofs.LeafLaws.{Shrinks, cond-shrinks, left_open, whole_line}

@@ -13,7 +13,7 @@ use Rattle.md_meaning.specs.Leaves.{behind_word, first_word, nonempty, opening}
 use Rattle.md_meaning.specs.Rest.{run_len, trim_start}
 use Rattle.md_meaning.specs.State.{Opening}
 use Rattle.md_meaning.specs.Texts.{first_byte}
-use Rattle.md_code.specs.Fence.{fence_name, sequence_name}
+use Rattle.md_code.specs.Fence.{fence_name, sequence_name, block_name}
 use Rattle.md_seam.specs.Events.Grammar.{Expression, plain_text, unread_text}
 use Rattle.md_seam.specs.Events.Nested.{around}
 use Rattle.md_seam.specs.Events.Pieces.{stands_over}
@@ -33,17 +33,15 @@ use Rattle.md_literal_rooms.proofs.Fence.Words.{Word, fence-word, linked-word, r
 use Rattle.md_literal_rooms.proofs.FenceFurther.Grammar.{behind_line}
 use Rattle.md_literal_rooms.proofs.FenceSpan.Open.{AreMarks, begin_of, kind_of, leaf_by, leaf_of}
 use Rattle.md_literal_rooms.proofs.FenceSpan.OutlineSites.{first-passes}
-use Rattle.md_frame.proofs.FillFacts.{PartsRead}
+use Rattle.md_frame.proofs.FillFacts.{PartsRead, fill-append, fill-around}
 use Rattle.md_frame.proofs.PartedFacts.{Still, clear}
 use Rattle.md_frame.proofs.PlainFacts.{known-around}
 use Rattle.md_frame.proofs.LeafLines.Inside.{InsideFacts}
 use Rattle.md_containers.specs.ItemsStand.{IsPart}
 use Rattle.md_frame.proofs.Stretch.{stretch-around}
-use Rattle.md_code.specs.Fence.{block_name}
 use Rattle.md_literal_rooms.specs.Leaf.Fence.{fence_line, white_part}
 use Rattle.md_literal_rooms.proofs.Fence.Facts.{FenceInside, fence-inside}
 use Rattle.md_literal_rooms.proofs.FenceSpan.White.{white-lead}
-use Rattle.md_frame.proofs.FillFacts.{fill-append, fill-around}
 use Rattle.md_seam.specs.Events.Tiles.{part_kind}
 
 -- What a fence opens, by what stands behind its whitespace.

@@ -1,7 +1,6 @@
 -- A further line of fenced code or math in its block: what is known of what stands in it.
 use Rattle.std.proofs.Common.{◌≡◌, ℕ, zero, suc, ◌≤◌, Bool, true, false, cond, List, [], ◌∷◌, ◌++◌, length, refl, sym}
-use Rattle.std.proofs.Common.{ap, ◌∙◌}
-use Rattle.std.proofs.Common.{subst, arith}
+use Rattle.std.proofs.Common.{ap, ◌∙◌, subst, arith}
 use Rattle.std.specs.Prelude.{◌==◌, Some}
 use Rattle.std.proofs.lemmas.Bool.{and_parts, eqb-true}
 use Rattle.md_engine.specs.declared.configuration.ParseOptions.{ParseOptions}
@@ -12,14 +11,13 @@ use Rattle.md_meaning.specs.Leaves.{closes}
 use Rattle.md_meaning.specs.Rest.{Rest, cut_tab, line_of, lose}
 use Rattle.md_meaning.specs.State.{Opening}
 use Rattle.md_meaning.specs.Tree.{Line}
-use Rattle.md_code.specs.Fence.{held_indent, held_marker}
+use Rattle.md_code.specs.Fence.{held_indent, held_marker, is_open as is_fence}
 use Rattle.md_outline.specs.LinesStand.{AtLine, Site}
 use Rattle.md_seam.specs.Events.Grammar.{Expression, Nothing, plain_text, unread_text}
 use Rattle.md_seam.specs.Events.Places.{past_text}
 use Rattle.md_seam.specs.Events.Spelled.{OpenLeaf, Reading, next_line}
 use Rattle.md_seam.proofs.GrammarLemmas.{Leads}
 use Rattle.md_frame.specs.RestLine.{rest_line}
-use Rattle.md_code.specs.Fence.{is_open as is_fence}
 use Rattle.md_literal_rooms.specs.Leaf.FenceFurther.{further_parts, opening_of}
 use Rattle.md_literal_rooms.proofs.FenceFurther.Definition.{held_of}
 use Rattle.md_literal_rooms.proofs.FenceFurther.Grammar.{further-leads, further-stays, further_left, in_line, left_by}
@@ -27,13 +25,12 @@ use Rattle.md_literal_rooms.proofs.FenceFurther.Inside.{further-placed}
 use Rattle.md_literal_rooms.proofs.FenceFurther.Joined.{further-empty, nothing-open, nothing_from}
 use Rattle.md_literal_rooms.proofs.FenceFurther.Names.{parts-inside}
 use Rattle.md_literal_rooms.proofs.IndentRemoved.Parts.{inside-stretch}
-use Rattle.md_frame.proofs.IndentRemoved.Places.{FurtherAt}
+use Rattle.md_frame.proofs.IndentRemoved.Places.{FurtherAt, line-over}
 use Rattle.md_literal_rooms.proofs.FenceFurther.Reads.{further-closing-read, further-line-read}
 use Rattle.md_literal_rooms.proofs.FenceFurther.Shown.{further-between, further-known, further-sits}
 use Rattle.md_literal_rooms.proofs.FenceSpan.Open.{AreMarks, behind-same, closing-told, kind_of, leaf_of, line-same}
 use Rattle.md_literal_rooms.proofs.FenceSpan.Open.{lines-told, opened-line}
 use Rattle.md_literal_rooms.proofs.FenceSpan.OutlineSites.{further-passes, further_site}
-use Rattle.md_frame.proofs.IndentRemoved.Places.{line-over}
 use Rattle.md_frame.proofs.PiecesLemmas.{Covered}
 use Rattle.md_frame.proofs.LeafLines.Inside.{InsideFacts, inside-none}
 use Rattle.md_frame.proofs.PartsFacts.{ReadsLeaf}

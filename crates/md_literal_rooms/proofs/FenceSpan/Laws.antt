@@ -1,6 +1,5 @@
 -- The laws of fenced code and math with all their lines, joined.
-use Rattle.std.proofs.Common.{◌≡◌, ℕ, Bool, true, false, cond, not, List, [], ◌∷◌, drop, refl, sym, ◌∙◌}
-use Rattle.std.proofs.Common.{inl, subst}
+use Rattle.std.proofs.Common.{◌≡◌, ℕ, Bool, true, false, cond, not, List, [], ◌∷◌, drop, refl, sym, ◌∙◌, inl, subst}
 use Rattle.std.proofs.Common.{append_assoc}
 use Rattle.std.specs.Prelude.{Some}
 use Rattle.md_engine.specs.declared.configuration.ParseOptions.{ParseOptions}
@@ -36,8 +35,7 @@ use Rattle.md_literal_rooms.proofs.FenceSpan.First.{first-others, first_inside, 
 use Rattle.md_literal_rooms.proofs.FenceSpan.Open.{fence-begin, fence-lined, fence-name, kind_of, leaf_of}
 use Rattle.md_literal_rooms.proofs.FenceSpan.Opening.{begin-is, done-is, line-ends, line-fence, line-full, line-held}
 use Rattle.md_literal_rooms.proofs.FenceSpan.Opening.{line-inside, line-laid, line-lead, line-marks, name_of}
-use Rattle.md_literal_rooms.proofs.FenceSpan.Opening.{opening-same}
-use Rattle.md_literal_rooms.proofs.FenceSpan.Opening.{opening_of, text_of, unread-is}
+use Rattle.md_literal_rooms.proofs.FenceSpan.Opening.{opening-same, opening_of, text_of, unread-is}
 use Rattle.md_frame.proofs.LeafLines.Rest.{HasRest, row_done, row_unread}
 use Rattle.md_frame.proofs.LeafLines.Whole.{rest-facts}
 use Rattle.md_literal_rooms.proofs.FenceSpan.Walk.{rest-open}

@@ -12,7 +12,7 @@ use Rattle.md_engine.specs.declared.event.Point.{Point}
 use Rattle.md_meaning.specs.Rest.{Rest, indent, is_white, trim_start}
 use Rattle.md_meaning.specs.State.{Opening}
 use Rattle.md_meaning.specs.Texts.{first_byte}
-use Rattle.md_code.specs.Fence.{block_name}
+use Rattle.md_code.specs.Fence.{block_name, is_open as is_fence}
 use Rattle.md_outline.specs.LinesStand.{AtEnding, begun_site}
 use Rattle.md_seam.specs.Events.Grammar.{plain_text}
 use Rattle.md_seam.specs.Events.Nested.{around, enter, exit, pair}
@@ -22,7 +22,6 @@ use Rattle.md_seam.specs.Events.Tiles.{plain_read}
 use Rattle.md_frame.specs.RestLine.{rest_line}
 use Rattle.md_literal_rooms.specs.Leaf.Fence.{fence_leaf, fence_line, linked, opening_at, past_white, read_inner}
 use Rattle.md_literal_rooms.specs.Leaf.Fence.{white_part}
-use Rattle.md_code.specs.Fence.{is_open as is_fence}
 use Rattle.md_frame.specs.Row.{Row, but_end}
 use Rattle.md_literal_rooms.proofs.Fence.Laid.{Laid, laid}
 use Rattle.md_literal_rooms.proofs.Fence.Opened.{fence-starts}

@@ -1,17 +1,15 @@
 -- A further line of fenced code or math as one of its block, with what is known of what stands in it.
-use Rattle.std.proofs.Common.{◌≡◌, ℕ, Bool, true, false, List, [], ◌∷◌, drop, refl}
-use Rattle.std.proofs.Common.{sym, ap, ◌∙◌}
+use Rattle.std.proofs.Common.{◌≡◌, ℕ, Bool, true, false, List, [], ◌∷◌, drop, refl, sym, ap, ◌∙◌}
 use Rattle.std.proofs.lemmas.Bool.{true≢false}
 use Rattle.md_engine.specs.declared.configuration.ParseOptions.{ParseOptions}
 use Rattle.md_engine.specs.declared.event.Event.{Event}
 use Rattle.md_engine.specs.declared.tokenizer.held_leaf.HeldLeaf.{HeldLeaf}
 use Rattle.md_meaning.specs.State.{Opening}
-use Rattle.md_code.specs.Fence.{block_name}
+use Rattle.md_code.specs.Fence.{block_name, is_open as is_fence}
 use Rattle.md_outline.specs.LinesStand.{Site}
 use Rattle.md_seam.specs.Events.Grammar.{Expression}
 use Rattle.md_seam.specs.Events.Spelled.{OpenLeaf}
 use Rattle.md_frame.specs.RestLine.{rest_line}
-use Rattle.md_code.specs.Fence.{is_open as is_fence}
 use Rattle.md_literal_rooms.specs.Leaf.FenceFurther.{fence_further, further_parts}
 use Rattle.md_frame.specs.Row.{Row, is_empty_row}
 use Rattle.md_literal_rooms.proofs.FenceFurther.Definition.{held_of}
@@ -20,8 +18,7 @@ use Rattle.md_literal_rooms.proofs.FenceFurther.Joined.{further-is}
 use Rattle.md_literal_rooms.proofs.FenceFurther.Parts.{further-others}
 use Rattle.md_frame.proofs.IndentRemoved.Places.{FurtherAt, further-at, further-rest}
 use Rattle.md_frame.proofs.IndentRemoved.Shown.{left-clear}
-use Rattle.md_literal_rooms.proofs.FenceSpan.Further.{bare-same}
-use Rattle.md_literal_rooms.proofs.FenceSpan.Further.{same-bare}
+use Rattle.md_literal_rooms.proofs.FenceSpan.Further.{bare-same, same-bare}
 use Rattle.md_frame.proofs.PrefixFacts.{is_bare}
 use Rattle.md_frame.proofs.LeafLines.Inside.{InsideFacts}
 use Rattle.md_frame.proofs.SpanLaws.{IsLineOf}

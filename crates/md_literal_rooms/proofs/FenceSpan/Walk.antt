@@ -1,7 +1,6 @@
 -- All further lines of fenced code or math: as long as the block is open, each is one more line of it, or closes it.
 use Rattle.std.proofs.Common.{◌≡◌, ℕ, ◌≤◌, Bool, true, false, cond, List, [], ◌∷◌, ◌++◌, length, refl, sym, ap, ◌∙◌}
-use Rattle.std.proofs.Common.{subst}
-use Rattle.std.proofs.Common.{arith}
+use Rattle.std.proofs.Common.{subst, arith}
 use Rattle.std.specs.Prelude.{nat_lt}
 use Rattle.std.proofs.lemmas.Bool.Decides.{nat_tests}
 use Rattle.md_engine.specs.declared.configuration.ParseOptions.{ParseOptions}
@@ -14,13 +13,12 @@ use Rattle.md_meaning.specs.Leaves.{LeafResult, Finished, Opened, closes}
 use Rattle.md_meaning.specs.Rest.{Rest, line_of, lose}
 use Rattle.md_meaning.specs.State.{OpenFence, Opening, fence_block, then_block}
 use Rattle.md_meaning.specs.Tree.{Line}
-use Rattle.md_code.specs.Fence.{block_name}
+use Rattle.md_code.specs.Fence.{block_name, is_open as is_fence}
 use Rattle.md_outline.specs.LinesStand.{AtEnd, AtLine, Site}
 use Rattle.md_outline.proofs.LinesPass.{ended_site}
 use Rattle.md_seam.specs.Events.Grammar.{Expression, Nothing, behind, may_end, plain_text}
 use Rattle.md_seam.specs.Events.Spelled.{LeafKind, OpenLeaf, next_line}
 use Rattle.md_frame.specs.RestLine.{rest_line}
-use Rattle.md_code.specs.Fence.{is_open as is_fence}
 use Rattle.md_literal_rooms.specs.Leaf.FenceFurther.{fence_comes, fence_further, further_holds, further_parts}
 use Rattle.md_literal_rooms.specs.Leaf.FenceFurther.{opening_of}
 use Rattle.md_frame.specs.Row.{Row}

@@ -5,8 +5,7 @@ use Rattle.md_literal_rooms.specs.Leaf.HtmlFlow.{html_further, html_leaf}
 use Rattle.md_literal_rooms.proofs.HtmlFlow.Cells.{further-adds, further-fits, further-keeps, html-adds, html-fits}
 use Rattle.md_literal_rooms.proofs.HtmlFlow.Cells.{html-keeps}
 use Rattle.md_literal_rooms.proofs.HtmlFlow.Found.{further-held, further-not_lazy, html-held, html-lines, html-not_lazy}
-use Rattle.md_literal_rooms.proofs.HtmlFlow.Outside.{further-lined, further-no_content}
-use Rattle.md_literal_rooms.proofs.HtmlFlow.Outside.{html-lined, html-no_content}
+use Rattle.md_literal_rooms.proofs.HtmlFlow.Outside.{further-lined, further-no_content, html-lined, html-no_content}
 use Rattle.md_literal_rooms.proofs.HtmlFlow.Trial.{further-looked, further-refused, further-shrinks, further-took}
 use Rattle.md_literal_rooms.proofs.HtmlFlow.Trial.{html-looked, html-refused, html-shrinks, html-took}
 use Rattle.md_frame.proofs.LeafLaws.{LeafLaws}

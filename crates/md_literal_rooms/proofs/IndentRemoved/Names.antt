@@ -14,9 +14,8 @@ use Rattle.md_seam.specs.Substituted.{wanted}
 use Rattle.md_frame.specs.RestLine.{rest_line}
 use Rattle.md_frame.specs.LineColumns.{lost_line, part_over, past_columns}
 use Rattle.md_frame.proofs.ContentFacts.{NoContent}
-use Rattle.md_frame.proofs.EventNames.{is_told}
+use Rattle.md_frame.proofs.EventNames.{is_told, is_lined}
 use Rattle.md_frame.proofs.LinedFacts.{AreLined}
-use Rattle.md_frame.proofs.EventNames.{is_lined}
 
 -- An event of a part.
 

@@ -15,15 +15,13 @@ use Rattle.md_meaning.specs.Leaves.{is_fence_marker, underline_depth}
 use Rattle.md_meaning.specs.Rest.{Rest, has_small_indent, indent, is_blank, is_white, trim, trim_end, trim_start}
 use Rattle.md_meaning.specs.Texts.{first_byte}
 use Rattle.md_leaves.specs.HeadingRule.{is_heading}
-use Rattle.md_leaves.specs.HeadingSetext.{is_marker, is_text}
-use Rattle.md_leaves.specs.HeadingSetext.{may_turn}
+use Rattle.md_leaves.specs.HeadingSetext.{is_marker, is_text, may_turn}
 use Rattle.md_leaves.specs.HeadingSetextRule.{is_run, is_underline}
 use Rattle.md_leaves.proofs.TitleTexts.{front-stops}
 use Rattle.md_literal_rooms.specs.Leaf.CodeIndented.{code_leaf}
 use Rattle.md_literal_rooms.specs.Leaf.Fence.{fence_leaf}
 use Rattle.md_leaf_rooms.specs.Leaf.HeadingAtx.{heading_leaf}
-use Rattle.md_leaf_rooms.specs.Leaf.HeadingSetext.{depth_of}
-use Rattle.md_leaf_rooms.specs.Leaf.HeadingSetext.{setext_leaf}
+use Rattle.md_leaf_rooms.specs.Leaf.HeadingSetext.{depth_of, setext_leaf}
 use Rattle.md_literal_rooms.specs.Leaf.HtmlFlow.{html_leaf}
 use Rattle.md_literal_rooms.proofs.Fence.Opened.{fence-starts}
 use Rattle.md_leaf_rooms.proofs.HeadingAtx.Cells.{heading-other}

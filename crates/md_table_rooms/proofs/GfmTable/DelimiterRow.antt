@@ -30,8 +30,7 @@ use Rattle.md_frame.proofs.PlainFacts.{known-around, past-clear}
 use Rattle.md_frame.proofs.LeafLines.Inside.{InsideFacts}
 use Rattle.md_frame.proofs.PartsFacts.{ReadsLeaf}
 use Rattle.md_table_rooms.proofs.GfmTable.DelimiterRowCells.{IsValue, delimiter-name, delimiter-words, value-kind}
-use Rattle.md_table_rooms.proofs.GfmTable.DelimiterRowCells.{values-fit}
-use Rattle.md_table_rooms.proofs.GfmTable.DelimiterRowCells.{AreDelimiters}
+use Rattle.md_table_rooms.proofs.GfmTable.DelimiterRowCells.{values-fit, AreDelimiters}
 use Rattle.md_frame.proofs.Stretch.{stretch-by}
 
 -- what stands in it

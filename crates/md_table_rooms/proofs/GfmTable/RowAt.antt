@@ -5,14 +5,13 @@ use Rattle.std.specs.Prelude.{◌==◌}
 use Rattle.std.proofs.lemmas.Bool.Decides.{nat_tests}
 use Rattle.md_engine.specs.declared.event.Point.{Point}
 use Rattle.md_meaning.specs.Bytes.{begins}
-use Rattle.md_meaning.specs.Rest.{Rest, is_blank, is_white, trim_start}
+use Rattle.md_meaning.specs.Rest.{Rest, is_blank, is_white, trim_start, cut_tab}
 use Rattle.md_meaning.proofs.TextsLemmas.{NoEnding}
 use Rattle.md_seam.specs.Events.Places.{past_text}
 use Rattle.md_seam.proofs.FeedLines.{past_text-whole}
 use Rattle.md_seam.proofs.InlineLemmas.{past-index}
 use Rattle.md_tables.specs.RowCells.{white_front}
 use Rattle.md_tables.proofs.RowBytes.{front-whole, stands-line}
-use Rattle.md_meaning.specs.Rest.{cut_tab}
 use Rattle.md_frame.specs.RestLine.{rest_line}
 use Rattle.md_frame.proofs.LineWalk.{At, past-stands}
 use Rattle.md_frame.proofs.LeafFacts.{LineAt}

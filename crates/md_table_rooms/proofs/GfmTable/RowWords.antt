@@ -19,8 +19,7 @@ use Rattle.md_seam.specs.Events.Places.{past_byte, past_text}
 use Rattle.md_seam.proofs.GrammarLemmas.{IsWord, Leads, leads-append, leads-around, leads-pair, maybe, word-behind}
 use Rattle.md_tables.specs.RowCells as row
 use Rattle.md_tables.specs.RowCells.{Cells, Divides, Ends, Shut, cell_by, cells_by, first_pipe, line_cells, past_pipe}
-use Rattle.md_tables.specs.RowCells.{pipe_part, read_text, row_by, text_part, white_back, white_front}
-use Rattle.md_tables.specs.RowCells.{white_part}
+use Rattle.md_tables.specs.RowCells.{pipe_part, read_text, row_by, text_part, white_back, white_front, white_part}
 use Rattle.md_tables.proofs.WhiteEnds.{back-blank, end-whole}
 use Rattle.md_frame.proofs.ChunkFacts.{chunk-word}
 use Rattle.md_table_rooms.proofs.GfmTable.RowCells.{EachFits}

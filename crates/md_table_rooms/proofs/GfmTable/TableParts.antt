@@ -20,16 +20,16 @@ use Rattle.md_tables.specs.RowCells.{read_text, unread_text}
 use Rattle.md_frame.specs.Row.{Row, ending_events, last_row, row_line}
 use Rattle.md_frame.proofs.BetweenFacts.{ending-before, ending-behind}
 use Rattle.md_frame.proofs.ContainerNames.{TakesPrefixes}
-use Rattle.md_frame.proofs.PartsFacts.{IsPartName, PartsFacts, around-reads, parts-around}
+use Rattle.md_frame.proofs.PartsFacts.{IsPartName, PartsFacts, around-reads, parts-around, behind_ending, parts-append}
+use Rattle.md_frame.proofs.PartsFacts.{parts-ended, parts-front}
 use Rattle.md_frame.proofs.FrontNames.{fronts-prefixes}
 use Rattle.md_frame.proofs.FrontStands.{fronts-between}
 use Rattle.md_table_rooms.proofs.GfmTable.DelimiterRowCells.{columns-cells}
 use Rattle.md_table_rooms.proofs.GfmTable.DelimiterRow.{delimiter-inside}
 use Rattle.md_table_rooms.proofs.GfmTable.Row.{front_of, row-inside}
 use Rattle.md_table_rooms.proofs.GfmTable.RowAt.{RowAt, row-at}
-use Rattle.md_table_rooms.proofs.GfmTable.TableForm.{AreBodyRows, IsFilledLine, IsGap, IsTable, body_behind}
-use Rattle.md_table_rooms.proofs.GfmTable.TableForm.{gap_events, head_events, row_part, rows_behind}
-use Rattle.md_table_rooms.proofs.GfmTable.TableForm.{rows_cells, table_inside}
+use Rattle.md_table_rooms.proofs.GfmTable.TableForm.{AreBodyRows, IsFilledLine, IsGap, IsTable, body_behind, gap_events}
+use Rattle.md_table_rooms.proofs.GfmTable.TableForm.{head_events, row_part, rows_behind, rows_cells, table_inside}
 use Rattle.md_table_rooms.proofs.GfmTable.TableUnread.{line-end}
 use Rattle.md_frame.proofs.IndentRemoved.Places.{further-rest}
 use Rattle.md_frame.proofs.IndentRemoved.Shown.{left-clear, whole-clear}
@@ -38,11 +38,8 @@ use Rattle.md_frame.proofs.PieceFacts.{Starts}
 use Rattle.md_frame.proofs.PlainFacts.{plain-through, quiet-from}
 use Rattle.md_frame.proofs.PrefixNames.{prefixes-roles}
 use Rattle.md_frame.proofs.LeafLines.Cuts.{ending-is}
-use Rattle.md_frame.proofs.LeafLines.Inside.{InsideFacts, Meets}
-use Rattle.md_frame.proofs.PartsFacts.{behind_ending}
-use Rattle.md_frame.proofs.LeafLines.Inside.{inside-append, inside-none}
+use Rattle.md_frame.proofs.LeafLines.Inside.{InsideFacts, Meets, inside-append, inside-none}
 use Rattle.md_frame.proofs.LeafLines.Behind.{gap-plain}
-use Rattle.md_frame.proofs.PartsFacts.{parts-append, parts-ended, parts-front}
 
 -- A part around events inside of a leaf, with a name that the tree does not show.
 pub inside-around : (bytes : List ℕ) (name : Name) (p q : Point) (x begin left : Expression) (from to : OpenLeaf)

@@ -26,14 +26,12 @@ use Rattle.md_tables.specs.declared.cells.RowKind.TheVariants.{Delimiter, Text}
 use Rattle.md_tables.proofs.DelimiterBytes.{row_of-columns}
 use Rattle.md_tables.proofs.TableRows.{delimiter-parts, delimiter_row-celled, text-celled, text-parts}
 use Rattle.md_tables.proofs.TabledLines.{AreFree, AreFreeLines, IsFreeTable, free-append, of_tables, tabled-table}
-use Rattle.md_frame.specs.Row.{Row, but_end, but_ends, end_of, last_row, row_line}
+use Rattle.md_frame.specs.Row.{Row, but_end, but_ends, end_of, last_row, row_line, ending_events, is_framed, span_by}
 use Rattle.md_table_rooms.specs.Headed.{headed_row, headed_unread}
-use Rattle.md_frame.specs.Row.{ending_events, is_framed, span_by}
 use Rattle.md_frame.proofs.EventNames.{is_lined}
 use Rattle.md_frame.proofs.FrontNames.{fronts-prefixes}
 use Rattle.md_table_rooms.proofs.GfmTable.TableForm.{AreBodyRows, IsBodyRow, IsFilledLine, IsGap, IsTable, body_behind}
-use Rattle.md_table_rooms.proofs.GfmTable.TableForm.{gap_events, head_events, row_part, rows_behind}
-use Rattle.md_table_rooms.proofs.GfmTable.TableForm.{table_events}
+use Rattle.md_table_rooms.proofs.GfmTable.TableForm.{gap_events, head_events, row_part, rows_behind, table_events}
 use Rattle.md_frame.proofs.PrefixNames.{ArePrefixes}
 use Rattle.md_frame.proofs.LeafLines.Cuts.{but_end-is, but_ends-is, end-is, ending-is}
 use Rattle.md_frame.proofs.LeafLines.Framed.{AreFramed, framed_rest, span-framed}

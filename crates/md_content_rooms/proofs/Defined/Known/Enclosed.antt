@@ -15,8 +15,7 @@ use Rattle.md_seam.proofs.SpelledLemmas.{Quiet}
 use Rattle.md_frame.proofs.BetweenFacts.{is_low}
 use Rattle.md_content_rooms.proofs.Defined.Form.{IsByte}
 use Rattle.md_content_rooms.proofs.Defined.Known.Marks.{mark-before, mark-behind, mark-parts}
-use Rattle.md_frame.proofs.PartsFacts.{PartsFacts}
-use Rattle.md_frame.proofs.PartsFacts.{parts-append}
+use Rattle.md_frame.proofs.PartsFacts.{PartsFacts, parts-append}
 
 -- what is asked of the name of a mark, each of which `refl` or `tt` proves
 pub record IsMarkName (name : Name) : Type 0 where

@@ -1,6 +1,5 @@
 -- What is known of the whitespace between two parts of a definition, with at most one line ending in it.
-use Rattle.std.proofs.Common.{◌≡◌, ℕ, Bool, true, false, cond, List, [], length, refl, sym, subst}
-use Rattle.std.proofs.Common.{subst₂}
+use Rattle.std.proofs.Common.{◌≡◌, ℕ, Bool, true, false, cond, List, [], length, refl, sym, subst, subst₂}
 use Rattle.std.specs.Prelude.{nat_lt}
 use Rattle.md_engine.specs.declared.event.Event.{Event}
 use Rattle.md_engine.specs.declared.event.Name.TheVariants as n
@@ -15,11 +14,8 @@ use Rattle.md_frame.proofs.BetweenFacts.{ending-before, ending-behind}
 use Rattle.md_frame.proofs.ContainerNames.{TakesPrefixes}
 use Rattle.md_content_rooms.proofs.Defined.Form.{Gap, IsBreak, IsGap, IsWhite, OnLine, OverLine, gap_events}
 use Rattle.md_content_rooms.proofs.Defined.Known.Marks.{white-back, white-between, white-parts}
-use Rattle.md_frame.proofs.PartsFacts.{PartsFacts}
-use Rattle.md_frame.proofs.PartsFacts.{parts-append}
+use Rattle.md_frame.proofs.PartsFacts.{PartsFacts, parts-append, behind_ending, parts-ended, parts-front}
 use Rattle.md_frame.proofs.FrontStands.{fronts-between}
-use Rattle.md_frame.proofs.PartsFacts.{behind_ending}
-use Rattle.md_frame.proofs.PartsFacts.{parts-ended, parts-front}
 
 -- Places between characters.
 

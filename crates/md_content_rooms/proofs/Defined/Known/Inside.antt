@@ -19,11 +19,9 @@ use Rattle.md_content_rooms.proofs.Defined.Form.{target_by, target_text, text_li
 use Rattle.md_content_rooms.proofs.Defined.Known.Gap.{gap-between, gap-parts}
 use Rattle.md_content_rooms.proofs.Defined.Known.Label.{label-parts, label_last, label_text}
 use Rattle.md_content_rooms.proofs.Defined.Known.Left.{behind_gap, colon_left, end_left, form_left, so_far, target-gap}
-use Rattle.md_content_rooms.proofs.Defined.Known.Left.{target-left}
-use Rattle.md_content_rooms.proofs.Defined.Known.Left.{target_left, title-gap, title_left}
+use Rattle.md_content_rooms.proofs.Defined.Known.Left.{target-left, target_left, title-gap, title_left}
 use Rattle.md_content_rooms.proofs.Defined.Known.Marks.{mark-behind, mark-parts, white-back, white-parts, white_left}
-use Rattle.md_frame.proofs.PartsFacts.{PartsFacts}
-use Rattle.md_frame.proofs.PartsFacts.{parts-append}
+use Rattle.md_frame.proofs.PartsFacts.{PartsFacts, parts-append}
 use Rattle.md_content_rooms.proofs.Defined.Known.Target.{StringParts, target-fills, target-parts}
 use Rattle.md_content_rooms.proofs.Defined.Known.Title.{TextParts, TitleParts, title-back, title-fills, title-parts}
 

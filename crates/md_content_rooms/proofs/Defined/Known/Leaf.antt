@@ -11,8 +11,7 @@ use Rattle.md_seam.specs.Events.Spelled.{OfDefinition, fresh}
 use Rattle.md_seam.proofs.BlocksLemmas.{read-leaf}
 use Rattle.md_seam.proofs.EndingsLemmas.{Filling}
 use Rattle.md_content_rooms.proofs.Defined.Form.{Form, IsForm, form_block, form_done, form_unread, inside_by}
-use Rattle.md_content_rooms.proofs.Defined.Form.{strand_done}
-use Rattle.md_content_rooms.proofs.Defined.Form.{strand_unread, string_done, string_unread, target_text}
+use Rattle.md_content_rooms.proofs.Defined.Form.{strand_done, strand_unread, string_done, string_unread, target_text}
 use Rattle.md_content_rooms.proofs.Defined.Known.Inside.{FormTexts, form-fills, form-inside, label_lines, title_lines}
 use Rattle.md_content_rooms.proofs.Defined.Known.Left.{end-left, end_left, form_left, so_far}
 use Rattle.md_content_rooms.proofs.Defined.Known.Marks.{white-lead, white_left}

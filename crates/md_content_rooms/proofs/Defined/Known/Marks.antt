@@ -22,8 +22,7 @@ use Rattle.md_seam.proofs.SpelledLemmas.{Quiet}
 use Rattle.md_outline.specs.Between.{is_between}
 use Rattle.md_frame.proofs.BetweenFacts.{between-before, between-behind, blank-low, is_low, low-at}
 use Rattle.md_content_rooms.proofs.Defined.Form.{IsByte, IsRun, IsWhite}
-use Rattle.md_frame.proofs.PartsFacts.{PartsFacts}
-use Rattle.md_frame.proofs.PartsFacts.{parts-none, parts-pair}
+use Rattle.md_frame.proofs.PartsFacts.{PartsFacts, parts-none, parts-pair}
 use Rattle.md_frame.proofs.IndentRemoved.Shown.{whole-clear}
 use Rattle.md_frame.proofs.PieceFacts.{Over, begins-cut, begins-whole, over-stands, span}
 use Rattle.md_frame.proofs.LeafLines.Lead.{LeadFacts, lead-none, lead-white}

@@ -1,6 +1,5 @@
 -- A definition as an outline can show it: its parts stand in their order, and its names are known.
-use Rattle.std.proofs.Common.{◌≡◌, ◌≢◌, ℕ, Bool, true, false, cond, List, [], ◌∷◌, ◌++◌, refl, sym, subst}
-use Rattle.std.proofs.Common.{subst₂}
+use Rattle.std.proofs.Common.{◌≡◌, ◌≢◌, ℕ, Bool, true, false, cond, List, [], ◌∷◌, ◌++◌, refl, sym, subst, subst₂}
 use Rattle.std.specs.Prelude.{None, Option, Some}
 use Rattle.md_engine.specs.declared.event.Event.{Event}
 use Rattle.md_engine.specs.declared.event.Name.{Name}
@@ -15,10 +14,9 @@ use Rattle.md_seam.specs.Events.Nested.{around, enter, exit, pair}
 use Rattle.md_seam.specs.Events.Places.{same_place}
 use Rattle.md_seam.specs.Events.Spelled.{IsEnding, IsPrefix, IsQuiet, IsQuoteMarker, Role, role}
 use Rattle.md_seam.proofs.SpelledLemmas.{Between, Quiet, Roles, roles-append}
-use Rattle.md_content_rooms.proofs.Defined.Form.{Form, Gap, IsForm, IsGap, IsRun, IsTarget, IsText, IsTitle}
-use Rattle.md_content_rooms.proofs.Defined.Form.{Literal, OnLine, OverLine, Raw, Strand, Target, Titled}
-use Rattle.md_content_rooms.proofs.Defined.Form.{gap_events, inside_by, label_by, strand_done, string_done, string_of}
-use Rattle.md_content_rooms.proofs.Defined.Form.{target_by, title_by}
+use Rattle.md_content_rooms.proofs.Defined.Form.{Form, Gap, IsForm, IsGap, IsRun, IsTarget, IsText, IsTitle, Literal}
+use Rattle.md_content_rooms.proofs.Defined.Form.{OnLine, OverLine, Raw, Strand, Target, Titled, gap_events, inside_by}
+use Rattle.md_content_rooms.proofs.Defined.Form.{label_by, strand_done, string_done, string_of, target_by, title_by}
 use Rattle.md_content_rooms.proofs.Defined.Known.Inside.{through_gap, through_target}
 use Rattle.md_content_rooms.proofs.Defined.Known.Passes.{strand-passes}
 use Rattle.md_content_rooms.proofs.Defined.Strings.Lines.{strand-lines}

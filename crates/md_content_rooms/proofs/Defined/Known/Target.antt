@@ -16,12 +16,10 @@ use Rattle.md_seam.proofs.PlacesLemmas.{apart-later}
 use Rattle.md_frame.proofs.FilledAround.{around-fills}
 use Rattle.md_content_rooms.proofs.Defined.Known.Enclosed.{IsMarkName, parts-enclosed}
 use Rattle.md_content_rooms.proofs.Defined.Form.{IsByte, IsRun, IsTarget, Literal, Raw, Target, string_done}
-use Rattle.md_content_rooms.proofs.Defined.Form.{string_unread, target_by}
-use Rattle.md_content_rooms.proofs.Defined.Form.{target_text}
+use Rattle.md_content_rooms.proofs.Defined.Form.{string_unread, target_by, target_text}
 use Rattle.md_content_rooms.proofs.Defined.Known.Left.{so_far}
 use Rattle.md_content_rooms.proofs.Defined.Known.Marks.{run-over, some-long}
-use Rattle.md_frame.proofs.PartsFacts.{IsPartName, PartsFacts, around-reads, parts-around}
-use Rattle.md_frame.proofs.PartsFacts.{parts-none}
+use Rattle.md_frame.proofs.PartsFacts.{IsPartName, PartsFacts, around-reads, parts-around, parts-none}
 use Rattle.md_content_rooms.proofs.Defined.Strings.Lines.{run-end}
 use Rattle.md_frame.proofs.PieceFacts.{Starts}
 

@@ -23,9 +23,7 @@ use Rattle.md_content_rooms.proofs.Defined.Known.Gap.{gap-back, gap-parts}
 use Rattle.md_content_rooms.proofs.Defined.Known.Left.{behind_gap, end_left, last_left, so_far, title-gap, title-left}
 use Rattle.md_content_rooms.proofs.Defined.Known.Left.{title_left}
 use Rattle.md_content_rooms.proofs.Defined.Known.Marks.{mark-before}
-use Rattle.md_frame.proofs.PartsFacts.{IsPartName, PartsFacts, parts-around}
-use Rattle.md_frame.proofs.PartsFacts.{parts-append, parts-none}
-use Rattle.md_frame.proofs.PartsFacts.{ReadsLeaf}
+use Rattle.md_frame.proofs.PartsFacts.{IsPartName, PartsFacts, parts-around, parts-append, parts-none, ReadsLeaf}
 
 -- Its marks.
 

@@ -14,8 +14,7 @@ use Rattle.md_seam.specs.declared.inline.PartKind.TheVariants.{String}
 use Rattle.md_seam.specs.Events.Endings.{on_line}
 use Rattle.md_seam.specs.Events.Grammar.{Expression, behind, inside}
 use Rattle.md_seam.specs.Events.Nested.{around}
-use Rattle.md_seam.specs.Events.Spelled.{DefinitionLeaf, DefinitionSoFar, Purpose, TextRole, first_told}
-use Rattle.md_seam.specs.Events.Spelled.{role}
+use Rattle.md_seam.specs.Events.Spelled.{DefinitionLeaf, DefinitionSoFar, Purpose, TextRole, first_told, role}
 use Rattle.md_seam.specs.Events.Spelled.{with_title}
 use Rattle.md_seam.specs.Events.Tiles.{part_kind}
 use Rattle.md_seam.proofs.EndingsLemmas.{is_other}

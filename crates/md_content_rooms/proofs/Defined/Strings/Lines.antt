@@ -11,16 +11,14 @@ use Rattle.md_meaning.proofs.TextsLemmas.{ending_bytes}
 use Rattle.md_seam.specs.Events.Inline.{line_end, pair_unless_empty}
 use Rattle.md_seam.specs.Events.Nested.{pair}
 use Rattle.md_seam.specs.Events.Places.{at_or_before, past_text, same_place}
-use Rattle.md_seam.proofs.FeedLines.{ending-some, slice-split}
+use Rattle.md_seam.proofs.FeedLines.{ending-some, slice-split, IsEnding}
 use Rattle.md_seam.proofs.InlineLemmas.{before-text, same-refl}
 use Rattle.md_seam.proofs.NestedLemmas.{at_or_before-trans}
 use Rattle.md_seam.proofs.PlacesLemmas.{apart-later}
-use Rattle.md_frame.proofs.ChunkFacts.{Chunked, chunked-alone, chunked-ended, ending-order, ending-stands}
-use Rattle.md_frame.proofs.ChunkFacts.{line-ending}
+use Rattle.md_frame.proofs.ChunkFacts.{Chunked, chunked-alone, chunked-ended, ending-order, ending-stands, line-ending}
 use Rattle.md_content_rooms.proofs.Defined.Form.{IsBreak, IsRun, IsStrand, LastLine, NoLine, OneLine, Strand}
 use Rattle.md_frame.proofs.LineTexts.{one-next, without-none, without-one}
 use Rattle.md_frame.proofs.PieceFacts.{Starts, PiecesValid, chunk-stands, stood-append, stood-unless_empty}
-use Rattle.md_seam.proofs.FeedLines.{IsEnding}
 
 -- These lines of a text, or what is left of it behind a line, stand from a point to a point. So it is told line by line.
 pub data AreLines (bytes : List ℕ) : Point → Point → Strand → Type 0 where

@@ -5,8 +5,7 @@ use Rattle.md_engine.specs.declared.event.Point.{Point}
 use Rattle.md_seam.specs.Events.Inline.{plain_chunk}
 use Rattle.md_content_rooms.proofs.Defined.Form.{IsStrand, LastLine, NoLine, OneLine, Strand, strand_done}
 use Rattle.md_content_rooms.proofs.Defined.Form.{strand_unread}
-use Rattle.md_content_rooms.proofs.Defined.Strings.Lines.{AreLines, Last, More, NoneLeft}
-use Rattle.md_content_rooms.proofs.Defined.Strings.Lines.{run-alone, run-ended}
+use Rattle.md_content_rooms.proofs.Defined.Strings.Lines.{AreLines, Last, More, NoneLeft, run-alone, run-ended}
 use Rattle.md_frame.proofs.PieceFacts.{Starts, starts-append}
 
 -- a text that has a line

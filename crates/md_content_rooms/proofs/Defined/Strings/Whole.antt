@@ -15,8 +15,7 @@ use Rattle.md_seam.specs.Events.Grammar.{Expression, plain_text, unread_text}
 use Rattle.md_seam.specs.Events.Inline.{plain_chunk}
 use Rattle.md_seam.specs.Events.Nested.{around, enter, enter_link, exit}
 use Rattle.md_seam.specs.Events.Spelled.{AsDestination, AsLabel, AsTitle, DefinitionLeaf, DefinitionSoFar, OpenLeaf}
-use Rattle.md_seam.specs.Events.Spelled.{Purpose, Text, begun, byte_at, noted, role, text_to}
-use Rattle.md_seam.specs.Events.Spelled.{first_told, with_title}
+use Rattle.md_seam.specs.Events.Spelled.{Purpose, Text, begun, byte_at, noted, role, text_to, first_told, with_title}
 use Rattle.md_seam.proofs.BlocksLemmas.{read-told}
 use Rattle.md_seam.proofs.EndingsLemmas.{AreOthers, Stays, is_other, stays-append, stays-others}
 use Rattle.md_seam.proofs.GrammarLemmas.{IsWord, leads-around}
@@ -27,13 +26,10 @@ use Rattle.md_content_rooms.proofs.Defined.Strings.Facts.{FurtherFilled, IsStrin
 use Rattle.md_content_rooms.proofs.Defined.Strings.Facts.{target_told, title_told}
 use Rattle.md_content_rooms.proofs.Defined.Strings.Lines.{AreLines, Last, More, NoneLeft, strand-lines}
 use Rattle.md_content_rooms.proofs.Defined.Strings.Parted.{line-sits, strand-sits}
-use Rattle.md_content_rooms.proofs.Defined.Strings.Parts.{strand-begins, strand-inside, strand-one}
-use Rattle.md_content_rooms.proofs.Defined.Strings.Parts.{strand-order}
-use Rattle.md_content_rooms.proofs.Defined.Strings.Places.{HasLine, done-starts}
-use Rattle.md_content_rooms.proofs.Defined.Strings.Places.{strand-some, unread-starts}
+use Rattle.md_content_rooms.proofs.Defined.Strings.Parts.{strand-begins, strand-inside, strand-one, strand-order}
+use Rattle.md_content_rooms.proofs.Defined.Strings.Places.{HasLine, done-starts, strand-some, unread-starts}
 use Rattle.md_content_rooms.proofs.Defined.Strings.Reads.{told-line, told-lines}
-use Rattle.md_content_rooms.proofs.Defined.Strings.Words.{done-stays, done-word, unread-stays}
-use Rattle.md_content_rooms.proofs.Defined.Strings.Words.{unread-word}
+use Rattle.md_content_rooms.proofs.Defined.Strings.Words.{done-stays, done-word, unread-stays, unread-word}
 use Rattle.md_frame.proofs.LeafStands.{between-part}
 use Rattle.md_frame.proofs.PartedFacts.{PrefixesAtLineStart, clear}
 use Rattle.md_frame.proofs.PlainFacts.{known-around}
