@@ -1,0 +1,442 @@
+-- Behind a line that opens no container: what is the last block of the innermost container.
+use Rattle.std.proofs.Common.{◌≡◌, ℕ, Bool, true, false, cond, ◌&&◌, List, [], ◌∷◌, ◌++◌, drop, length, refl, ap, ap₂, sym}
+use Rattle.std.proofs.Common.{subst}
+use Rattle.std.proofs.Common.{◌∙◌}
+use Rattle.std.specs.Prelude.{◌||◌, ◌==◌, nat_le, nat_lt, reverse, Option, Some, None}
+use Rattle.std.specs.Option.{is_some, option_or}
+use Rattle.md_engine.specs.declared.configuration.ParseOptions.{ParseOptions}
+use Rattle.md_meaning.specs.Ascii.{dollar, hash}
+use Rattle.md_meaning.specs.Definition.{Cut, Defined, cut_definitions, definition_at}
+use Rattle.md_meaning.specs.Html.{HtmlKind, html_ends, html_kind}
+use Rattle.md_meaning.specs.Leaves.{Finished, LeafResult, NoText, Opened, ParagraphContext, Text, allows, break_at}
+use Rattle.md_meaning.specs.Leaves.{closes, code_at, code_goes_on, code_line, ends_at_blank, fence_at, fence_from}
+use Rattle.md_meaning.specs.Leaves.{fence_goes_on, goes_on, heading_at, heading_lines, heading_text, html_at, html_by}
+use Rattle.md_meaning.specs.Leaves.{html_goes_on, html_line, is_fence_marker, is_free, is_head_of, is_rule, least_size}
+use Rattle.md_meaning.specs.Leaves.{may_start, opening, starts, table_at, table_by, table_goes_on, underline_depth}
+use Rattle.md_meaning.specs.Leaves.{underlined, underlined_by, with_line}
+use Rattle.md_meaning.specs.Rest.{Rest, has_small_indent, indent, is_blank, is_parted, line_of, lose, run_len, trim}
+use Rattle.md_meaning.specs.Rest.{trim_start}
+use Rattle.md_meaning.specs.State.{Innermost, Leaf, NoLeaf, OpenCode, OpenFence, OpenHtml, OpenParagraph, OpenTable}
+use Rattle.md_meaning.specs.State.{Opening, ParagraphLine, cut, fence_block, shut_paragraph, texts, then_block}
+use Rattle.md_meaning.specs.State.{then_definitions, then_leaf, then_paragraph}
+use Rattle.md_meaning.specs.Step.{came, fresh_by, fresh_line, leaf_line, leaf_line_by, on_or_fresh, row_or_text}
+use Rattle.md_meaning.specs.Step.{spot_of, text_by, text_line, underline_or_text}
+use Rattle.md_meaning.specs.Table.{delimiter_columns, row_cells}
+use Rattle.md_meaning.specs.Tree.{Block, Blocks, Break, Code, Definition, End, Fence, Heading, Html, Line, Math, More}
+use Rattle.md_meaning.specs.Tree.{Paragraph, Table}
+use Rattle.md_meaning.proofs.DefinitionLemmas.{cut_definitions-none, cut_definitions-some}
+use Rattle.md_meaning.proofs.FindsLemmas.{Finds, first-found, none-found, some-found, unless-found, when-found}
+use Rattle.md_exact.specs.Rows.{Blank, Delimiter, FirstText, Further, FurtherText, Role, Underline, first_or, fresh_role}
+use Rattle.md_exact.specs.Rows.{is_blank_role, role_on}
+use Rattle.md_exact_lists.specs.Last.{HasLine, item_of, last_behind, last_in, last_of}
+
+-- What a line brings.
+
+-- no paragraph, and no item
+abbrev pub IsBuilt : Leaf → Type 0
+IsBuilt NoLeaf = ⊥
+IsBuilt (OpenParagraph lines) = ⊥
+IsBuilt leaf = Unit {0}
+
+abbrev pub Comes : LeafResult → Type 0
+Comes (Opened leaf) = IsBuilt leaf
+Comes (Finished block) = item_of block ≡ None
+
+-- where a test passes, what is open or finished
+opened-when : (x : Bool) (leaf : Leaf) → IsBuilt leaf → Finds (cond x (Some (Opened leaf)) None) Comes
+opened-when x leaf h = when-found Comes x (Some (Opened leaf)) (λ e. some-found Comes (Opened leaf) h)
+
+finished-when : (x : Bool) (b : Block) → item_of b ≡ None → Finds (cond x (Some (Finished b)) None) Comes
+finished-when x b h = when-found Comes x (Some (Finished b)) (λ e. some-found Comes (Finished b) h)
+
+fence-comes : (options : ParseOptions) (columns : ℕ) (bytes : List ℕ) → Finds (fence_from options columns bytes) Comes
+fence-comes options columns [] = none-found Comes
+fence-comes options columns (m ∷ bytes) =
+    let size = run_len m (m ∷ bytes) in
+    let after = drop size (m ∷ bytes) in
+    opened-when (is_fence_marker options m && nat_le (least_size m) size && allows m after)
+    (OpenFence (opening m size columns (trim_start after)) []) tt
+
+html_line-comes : (kind : HtmlKind) (lines : List Line) (r : Rest) → Comes (html_line kind lines r)
+html_line-comes kind lines r = go (html_ends kind r.bytes)
+  where
+    go : (x : Bool) → Comes (cond x (Finished (Html (lines ++ line_of r ∷ []))) (Opened (OpenHtml kind (lines ++ line_of r ∷ []))))
+    go true = refl
+    go false = tt
+
+html-comes : (against : ParagraphContext) (r : Rest) (kind : Option HtmlKind) → Finds (html_by against r kind) Comes
+html-comes against r None = none-found Comes
+html-comes against r (Some kind) =
+    when-found Comes (may_start against kind) (Some (html_line kind [] r))
+    (λ e. some-found Comes (html_line kind [] r) (html_line-comes kind [] r))
+
+code_at-comes : (options : ParseOptions) (against : ParagraphContext) (r : Rest) →
+    Finds (code_at options against r) Comes
+unfolding code_at
+code_at-comes options against r =
+    opened-when (options.constructs.code_indented && is_free against && nat_le 4 (indent r))
+    (OpenCode (code_line r ∷ [])) tt
+
+fence_at-comes : (options : ParseOptions) (r : Rest) → Finds (fence_at options r) Comes
+unfolding fence_at
+fence_at-comes options r =
+    when-found Comes (has_small_indent options r) (fence_from options (indent r) (trim_start r.bytes))
+    (λ e. fence-comes options (indent r) (trim_start r.bytes))
+
+html_at-comes : (options : ParseOptions) (against : ParagraphContext) (r : Rest) →
+    Finds (html_at options against r) Comes
+unfolding html_at
+html_at-comes options against r =
+    when-found Comes (options.constructs.html_flow && has_small_indent options r)
+    (html_by against r (html_kind (trim_start r.bytes))) (λ e. html-comes against r (html_kind (trim_start r.bytes)))
+
+heading_at-comes : (options : ParseOptions) (r : Rest) → Finds (heading_at options r) Comes
+unfolding heading_at
+heading_at-comes options r =
+    let text = trim_start r.bytes in
+    let depth = run_len hash text in
+    finished-when
+    (options.constructs.heading_atx && has_small_indent options r && nat_le 1 depth && nat_le depth 6
+    && is_parted (drop depth text))
+    (Heading depth (heading_lines (heading_text (drop depth text)))) refl
+
+break_at-comes : (options : ParseOptions) (r : Rest) → Finds (break_at options r) Comes
+unfolding break_at
+break_at-comes options r =
+    finished-when
+    (options.constructs.thematic_break && has_small_indent options r && is_rule (trim_start r.bytes)) Break refl
+
+pub starts-comes : (options : ParseOptions) (against : ParagraphContext) (r : Rest) →
+    Finds (starts options against r) Comes
+unfolding starts
+starts-comes options against r =
+    let heading = option_or (heading_at options r) (break_at options r) in
+    let html = option_or (html_at options against r) heading in
+    first-found Comes (code_at options against r) (option_or (fence_at options r) html)
+    (code_at-comes options against r)
+    (first-found Comes (fence_at options r) html (fence_at-comes options r)
+    (first-found Comes (html_at options against r) heading (html_at-comes options against r)
+    (first-found Comes (heading_at options r) (break_at options r) (heading_at-comes options r)
+    (break_at-comes options r))))
+
+fence_block-comes : (o : Opening) (lines : List Line) (closed : Bool) → item_of (fence_block o lines closed) ≡ None
+fence_block-comes o lines closed = go (o.marker == dollar)
+  where
+    go : (x : Bool) → item_of (cond x (Math o.meta lines closed) (Fence o.marker o.info o.meta lines closed)) ≡ None
+    go true = refl
+    go false = refl
+
+fence_on-comes : (options : ParseOptions) (o : Opening) (lines : List Line) (r : Rest) →
+    Comes (fence_goes_on options o lines r)
+unfolding fence_goes_on
+fence_on-comes options o lines r = go (closes options o r)
+  where
+    go : (x : Bool) →
+        Comes
+        (cond x (Finished (fence_block o lines true))
+        (Opened (OpenFence o (lines ++ line_of (lose o.indent r) ∷ []))))
+    go true = fence_block-comes o lines true
+    go false = tt
+
+code_on-comes : (lines : List Line) (r : Rest) → Finds (code_goes_on lines r) Comes
+unfolding code_goes_on
+code_on-comes lines r =
+    opened-when (is_blank r.bytes || nat_le 4 (indent r)) (OpenCode (lines ++ code_line r ∷ [])) tt
+
+html_on-comes : (kind : HtmlKind) (lines : List Line) (r : Rest) → Finds (html_goes_on kind lines r) Comes
+unfolding html_goes_on
+html_on-comes kind lines r =
+    unless-found Comes (ends_at_blank kind && is_blank r.bytes) (Some (html_line kind lines r))
+    (some-found Comes (html_line kind lines r) (html_line-comes kind lines r))
+
+table_on-comes : (options : ParseOptions) (delimiter : List ℕ) (rows : List (List (List ℕ))) (r : Rest) →
+    Finds (table_goes_on options delimiter rows r) Comes
+unfolding table_goes_on
+table_on-comes options delimiter rows r =
+    let come : LeafResult = Opened (OpenTable delimiter (rows ++ row_cells r.bytes ∷ [])) in
+    unless-found Comes (is_blank r.bytes || is_some (starts options NoText r)) (Some come) (some-found Comes come tt)
+
+pub goes_on-comes : (options : ParseOptions) (leaf : Leaf) (r : Rest) → Finds (goes_on options leaf r) Comes
+goes_on-comes options NoLeaf r = none-found Comes
+goes_on-comes options (OpenParagraph lines) r = none-found Comes
+goes_on-comes options (OpenCode lines) r = code_on-comes lines r
+goes_on-comes options (OpenFence o lines) r =
+    some-found Comes (fence_goes_on options o lines r) (fence_on-comes options o lines r)
+goes_on-comes options (OpenHtml kind lines) r = html_on-comes kind lines r
+goes_on-comes options (OpenTable delimiter rows) r = table_on-comes options delimiter rows r
+
+-- Blocks.
+
+pub last-then : (bs : Blocks) (b : Block) → last_of (then_block bs b) ≡ item_of b
+last-then End b = refl
+last-then (More a End) b = refl
+last-then (More a (More next bs)) b = last-then (More next bs) b
+
+-- a leaf that ends leaves a block, which is no item
+definitions-last : (bs : Blocks) (ds : List Defined) → last_of bs ≡ None → last_of (then_definitions bs ds) ≡ None
+definitions-last bs [] e = e
+definitions-last bs (d ∷ ds) e = definitions-last (then_block bs _) ds (last-then bs _)
+
+text-last : (bs : Blocks) (d : List Defined) (remaining : List (List ℕ)) → (last_of (then_definitions bs d) ≡ None) →
+    last_of (then_paragraph (then_definitions bs d) remaining) ≡ None
+text-last bs d [] e = e
+text-last bs d (line ∷ lines) e = last-then (then_definitions bs d) _
+
+cut-last : (options : ParseOptions) (bs : Blocks) (line : List ℕ) (lines : List (List ℕ)) →
+    let c = cut options (line ∷ lines) in last_of (then_paragraph (then_definitions bs c.0) c.1) ≡ None
+cut-last options bs line lines = go options.constructs.definition
+  where
+    Of : List Defined × List (List ℕ) → Type 0
+    Of c = last_of (then_paragraph (then_definitions bs c.0) c.1) ≡ None
+
+    defined : (first : Option Cut) → definition_at (line ∷ lines) ≡ first → Of (cut_definitions (line ∷ lines))
+    defined None e = subst Of (sym (cut_definitions-none (line ∷ lines) e)) (last-then bs (Paragraph (line ∷ lines)))
+    defined (Some first) e =
+        let d = first.defined in
+        let b : Block = Definition d.label d.destination d.title in
+        subst Of (sym (cut_definitions-some (line ∷ lines) first e))
+        (text-last (then_block bs b) (cut_definitions first.rest).0 (cut_definitions first.rest).1
+        (definitions-last (then_block bs b) (cut_definitions first.rest).0 (last-then bs b)))
+
+    go : (x : Bool) → Of (cond x (cut_definitions (line ∷ lines)) ([], line ∷ lines))
+    go true = defined (definition_at (line ∷ lines)) refl
+    go false = last-then bs (Paragraph (line ∷ lines))
+
+pub paragraph-last : (options : ParseOptions) (bs : Blocks) (lines : List ParagraphLine) →
+    HasLine (OpenParagraph lines) → last_of (then_leaf options bs (OpenParagraph lines)) ≡ None
+unfolding shut_paragraph
+paragraph-last options bs [] h = absurd h
+paragraph-last options bs (line ∷ lines) h = cut-last options bs line.text (texts lines)
+
+-- and so does any other
+pub leaf-last : (options : ParseOptions) (bs : Blocks) (leaf : Leaf) → HasLine leaf →
+    last_of (then_leaf options bs leaf) ≡ last_behind leaf bs
+leaf-last options bs NoLeaf h = refl
+leaf-last options bs (OpenParagraph lines) h = paragraph-last options bs lines h
+leaf-last options bs (OpenCode lines) h = last-then bs _
+leaf-last options bs (OpenFence o lines) h = last-then bs _ ∙ fence_block-comes o lines false
+leaf-last options bs (OpenHtml kind lines) h = last-then bs _
+leaf-last options bs (OpenTable delimiter rows) h = last-then bs _
+
+-- What is innermost behind a line.
+
+-- the last block there is no item, and an open paragraph has a line
+pub record Ends (s : Innermost) : Type 0 where
+  pub last : last_in s ≡ None
+  pub text : HasLine s.leaf
+
+pub came-ends : (bs : Blocks) (c : LeafResult) → Comes c → Ends (came bs c)
+came-ends bs (Opened NoLeaf) h = absurd h
+came-ends bs (Opened (OpenParagraph lines)) h = absurd h
+came-ends bs (Opened leaf) h = record { last = refl; text = tt }
+came-ends bs (Finished block) h = record { last = last-then bs block ∙ h; text = tt }
+
+line-ends : (bs : Blocks) (lines : List ParagraphLine) (r : Rest) → Ends (with_line bs lines r)
+line-ends bs [] r = record { last = refl; text = tt }
+line-ends bs (line ∷ lines) r = record { last = refl; text = tt }
+
+fresh-by : (options : ParseOptions) (bs : Blocks) (r : Rest) (c : Option LeafResult) → Finds c Comes →
+    Ends (fresh_by bs r c)
+fresh-by options bs r None h = line-ends bs [] r
+fresh-by options bs r (Some c) h = came-ends bs c (h c refl)
+
+-- of a line behind these blocks
+pub fresh-ends : (options : ParseOptions) (bs : Blocks) (r : Rest) → is_blank r.bytes ≡ false →
+    Ends (fresh_line options bs r)
+unfolding fresh_line
+fresh-ends options bs r e =
+    subst (λ (x : Bool). Ends (cond x (spot_of bs) (fresh_by bs r (starts options NoText r)))) (sym e)
+    (fresh-by options bs r (starts options NoText r) (starts-comes options NoText r))
+
+pub fresh-blank : (options : ParseOptions) (bs : Blocks) (r : Rest) → is_blank r.bytes ≡ true →
+    fresh_line options bs r ≡ spot_of bs
+unfolding fresh_line
+fresh-blank options bs r e = ap (λ (x : Bool). cond x (spot_of bs) (fresh_by bs r (starts options NoText r))) e
+
+-- Where text is open.
+
+underlined-by : (bs : Blocks) (lines : List ParagraphLine) (r : Rest) (depth : ℕ) (c : List Defined × List (List ℕ)) →
+    Ends (underlined_by bs lines r depth (then_definitions bs c.0) c.1)
+underlined-by bs lines r depth (ds, []) = line-ends bs lines r
+underlined-by bs lines r depth (ds, line ∷ remaining) =
+    record { last = last-then (then_definitions bs ds) _; text = tt }
+
+table-ends : (options : ParseOptions) (bs : Blocks) (lines : List ParagraphLine) (r : Rest) →
+    Finds (table_at options bs lines r) Ends
+unfolding table_at
+table-ends options bs lines r =
+    when-found Ends (options.constructs.gfm_table && has_small_indent options r)
+    (table_by options bs (reverse lines) (trim r.bytes) (delimiter_columns (trim r.bytes)))
+    (λ e. by (reverse lines) (delimiter_columns (trim r.bytes)))
+  where
+    by : (before : List ParagraphLine) (columns : Option ℕ) → Finds (table_by options bs before (trim r.bytes) columns) Ends
+    by [] columns = none-found Ends
+    by (k ∷ before) None = none-found Ends
+    by (k ∷ before) (Some columns) =
+        let s : Innermost = record {
+          here = shut_paragraph options bs (texts (reverse before));
+          leaf = OpenTable (trim r.bytes) (row_cells k.text ∷ []);
+        } in
+        when-found Ends (is_head_of options k columns) (Some s)
+        (λ e. some-found Ends s (record { last = refl; text = tt }))
+
+row-ends : (bs : Blocks) (lines : List ParagraphLine) (r : Rest) (o : Option Innermost) → Finds o Ends →
+    Ends (row_or_text bs lines r o)
+row-ends bs lines r None h = line-ends bs lines r
+row-ends bs lines r (Some s) h = h s refl
+
+text-by : (options : ParseOptions) (bs : Blocks) (lines : List ParagraphLine) (r : Rest) (c : Option LeafResult) →
+    Finds c Comes → Ends (text_by options bs lines r c)
+text-by options bs lines r None h = row-ends bs lines r (table_at options bs lines r) (table-ends options bs lines r)
+text-by options bs lines r (Some c) h = came-ends (then_leaf options bs (OpenParagraph lines)) c (h c refl)
+
+depth-ends : (options : ParseOptions) (bs : Blocks) (lines : List ParagraphLine) (r : Rest) (depth : Option ℕ) →
+    Ends (underline_or_text options bs lines r depth)
+unfolding underlined
+depth-ends options bs lines r None =
+    text-by options bs lines r (starts options Text r) (starts-comes options Text r)
+depth-ends options bs lines r (Some depth) = underlined-by bs lines r depth (cut options (texts lines))
+
+text-blank : (options : ParseOptions) (bs : Blocks) (lines : List ParagraphLine) (r : Rest) → is_blank r.bytes ≡ true →
+    text_line options bs lines r ≡ spot_of (then_leaf options bs (OpenParagraph lines))
+unfolding text_line
+text-blank options bs lines r e =
+    ap
+    (λ (x : Bool).
+    cond x (spot_of (then_leaf options bs (OpenParagraph lines)))
+    (underline_or_text options bs lines r (underline_depth options r)))
+    e
+
+text-ends : (options : ParseOptions) (bs : Blocks) (lines : List ParagraphLine) (r : Rest) → is_blank r.bytes ≡ false →
+    Ends (text_line options bs lines r)
+unfolding text_line
+text-ends options bs lines r e =
+    subst
+    (λ (x : Bool).
+    Ends
+    (cond x (spot_of (then_leaf options bs (OpenParagraph lines)))
+    (underline_or_text options bs lines r (underline_depth options r))))
+    (sym e) (depth-ends options bs lines r (underline_depth options r))
+
+-- Any line.
+
+-- one that goes on the leaf that is open
+on-ends : (options : ParseOptions) (s : Innermost) (r : Rest) (o : Option LeafResult) → Finds o Comes →
+    is_some o ≡ true → Ends (on_or_fresh options s r o)
+on-ends options s r None h e = absurd (cc)
+on-ends options s r (Some c) h e = came-ends s.here c (h c refl)
+
+pub further-ends : (options : ParseOptions) (s : Innermost) (r : Rest) → is_some (goes_on options s.leaf r) ≡ true →
+    Ends (leaf_line options s r)
+further-ends options s r e = go s.leaf refl
+  where
+    go : (leaf : Leaf) → s.leaf ≡ leaf → Ends (leaf_line_by options s r leaf)
+    go NoLeaf l = let none : is_some (goes_on options NoLeaf r) ≡ true = ap (λ (x : Leaf). is_some (goes_on options x r)) (sym l) ∙ e in absurd (cc)
+    go (OpenParagraph lines) l = let none : is_some (goes_on options (OpenParagraph lines) r) ≡ true = ap (λ (x : Leaf). is_some (goes_on options x r)) (sym l) ∙ e in absurd (cc)
+    go (OpenCode lines) l =
+        on-ends options s r (goes_on options (OpenCode lines) r) (goes_on-comes options (OpenCode lines) r)
+        (ap (λ (x : Leaf). is_some (goes_on options x r)) (sym l) ∙ e)
+    go (OpenFence o lines) l =
+        on-ends options s r (goes_on options (OpenFence o lines) r) (goes_on-comes options (OpenFence o lines) r)
+        (ap (λ (x : Leaf). is_some (goes_on options x r)) (sym l) ∙ e)
+    go (OpenHtml kind lines) l =
+        on-ends options s r (goes_on options (OpenHtml kind lines) r) (goes_on-comes options (OpenHtml kind lines) r)
+        (ap (λ (x : Leaf). is_some (goes_on options x r)) (sym l) ∙ e)
+    go (OpenTable delimiter rows) l =
+        on-ends options s r (goes_on options (OpenTable delimiter rows) r)
+        (goes_on-comes options (OpenTable delimiter rows) r)
+        (ap (λ (x : Leaf). is_some (goes_on options x r)) (sym l) ∙ e)
+
+-- one that does not: blank, or any other
+record Unmet (options : ParseOptions) (s : Innermost) (r : Rest) (after : Innermost) : Type 0 where
+  blank : is_blank r.bytes ≡ true → after ≡ spot_of (then_leaf options s.here s.leaf)
+  other : is_blank r.bytes ≡ false → Ends after
+
+unmet-closed : (options : ParseOptions) (s : Innermost) (r : Rest) (o : Option LeafResult) → is_some o ≡ false →
+    Unmet options s r (on_or_fresh options s r o)
+unmet-closed options s r (Some c) e = absurd (cc)
+unmet-closed options s r None e = record {
+  blank = λ b. fresh-blank options (then_leaf options s.here s.leaf) r b;
+  other = λ b. fresh-ends options (then_leaf options s.here s.leaf) r b;
+}
+
+unmet-line : (options : ParseOptions) (s : Innermost) (r : Rest) (leaf : Leaf) → HasLine leaf →
+    is_some (goes_on options leaf r) ≡ false → s.leaf ≡ leaf → Unmet options s r (leaf_line_by options s r leaf)
+unmet-line options s r NoLeaf h e l = record {
+  blank = λ b. fresh-blank options s.here r b ∙ ap (λ (x : Leaf). spot_of (then_leaf options s.here x)) (sym l);
+  other = λ b. fresh-ends options s.here r b;
+}
+unmet-line options s r (OpenParagraph lines) h e l = record {
+  blank = λ b. text-blank options s.here lines r b ∙ ap (λ (x : Leaf). spot_of (then_leaf options s.here x)) (sym l);
+  other = λ b. text-ends options s.here lines r b;
+}
+unmet-line options s r (OpenCode lines) h e l = unmet-closed options s r (goes_on options (OpenCode lines) r) e
+unmet-line options s r (OpenFence o lines) h e l = unmet-closed options s r (goes_on options (OpenFence o lines) r) e
+unmet-line options s r (OpenHtml kind lines) h e l = unmet-closed options s r (goes_on options (OpenHtml kind lines) r) e
+unmet-line options s r (OpenTable delimiter rows) h e l =
+    unmet-closed options s r (goes_on options (OpenTable delimiter rows) r) e
+
+-- What a line is.
+
+first-filled : (o : Option LeafResult) (role : Role) → is_blank_role role ≡ false → is_blank_role (first_or role o) ≡ false
+first-filled None role e = e
+first-filled (Some c) role e = refl
+
+fresh-filled : (options : ParseOptions) (leaf : Leaf) (r : Rest) → is_blank_role (fresh_role options leaf r) ≡ false
+fresh-filled options (OpenParagraph lines) r =
+    go (is_some (underline_depth options r)) (nat_lt 0 (length (cut options (texts lines)).1))
+    (is_some (table_at options End lines r))
+  where
+    row : (z : Bool) → is_blank_role (cond z Delimiter FurtherText) ≡ false
+    row true = refl
+    row false = refl
+
+    go : (x y z : Bool) →
+        is_blank_role
+        (cond x (cond y Underline FurtherText) (first_or (cond z Delimiter FurtherText) (starts options Text r)))
+        ≡ false
+    go true true z = refl
+    go true false z = refl
+    go false y z = first-filled (starts options Text r) (cond z Delimiter FurtherText) (row z)
+fresh-filled options NoLeaf r = first-filled (starts options NoText r) FirstText refl
+fresh-filled options (OpenCode lines) r = first-filled (starts options NoText r) FirstText refl
+fresh-filled options (OpenFence o lines) r = first-filled (starts options NoText r) FirstText refl
+fresh-filled options (OpenHtml kind lines) r = first-filled (starts options NoText r) FirstText refl
+fresh-filled options (OpenTable delimiter rows) r = first-filled (starts options NoText r) FirstText refl
+
+-- what is innermost behind a line that meets this: a blank line leaves the last block as it is
+pub record Met (options : ParseOptions) (s : Innermost) (r : Rest) : Type 0 where
+  pub last : last_in (leaf_line options s r)
+      ≡ cond (is_blank_role (role_on options s.leaf r)) (last_in s) None
+  pub text : HasLine (leaf_line options s r).leaf
+
+pub meets : (options : ParseOptions) (s : Innermost) (r : Rest) → HasLine s.leaf → Met options s r
+meets options s r h = go (is_some (goes_on options s.leaf r)) refl (is_blank r.bytes) refl
+  where
+    role : Bool → Bool → Role
+    role x y = cond x (Further s.leaf) (cond y Blank (fresh_role options s.leaf r))
+
+    by : (x y : Bool) → is_some (goes_on options s.leaf r) ≡ x → is_blank r.bytes ≡ y →
+        role_on options s.leaf r ≡ role x y
+    by x y e b = ap₂ role e b
+
+    ends : (x y : Bool) → is_some (goes_on options s.leaf r) ≡ x → is_blank r.bytes ≡ y →
+        is_blank_role (role x y) ≡ false → Ends (leaf_line options s r) → Met options s r
+    ends x y e b filled is = record {
+      last = is.last ∙ sym (ap (λ (z : Bool). cond z (last_in s) None) (ap is_blank_role (by x y e b) ∙ filled));
+      text = is.text;
+    }
+
+    go : (x : Bool) → is_some (goes_on options s.leaf r) ≡ x → (y : Bool) → is_blank r.bytes ≡ y → Met options s r
+    go true e y b = ends true y e b refl (further-ends options s r e)
+    go false e true b =
+        let is : leaf_line options s r ≡ spot_of (then_leaf options s.here s.leaf) =
+        (unmet-line options s r s.leaf h e refl).blank b in
+        record {
+          last =
+              ap last_in is ∙ leaf-last options s.here s.leaf h
+              ∙ sym (ap (λ (z : Bool). cond z (last_in s) None) (ap is_blank_role (by false true e b)));
+          text = subst (λ (t : Innermost). HasLine t.leaf) (sym is) tt;
+        }
+    go false e false b =
+        ends false false e b (fresh-filled options s.leaf r) ((unmet-line options s r s.leaf h e refl).other b)

@@ -1,0 +1,2 @@
+pub mod LeafLast
+pub mod StepLast
