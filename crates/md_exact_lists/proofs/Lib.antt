@@ -1,2 +1,3 @@
 pub mod LeafLast
 pub mod StepLast
+pub mod ListWalk
