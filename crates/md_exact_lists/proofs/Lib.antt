@@ -1,3 +1,4 @@
 pub mod LeafLast
 pub mod StepLast
 pub mod ListWalk
+pub mod RowLast
