@@ -2,3 +2,4 @@ pub mod LeafLast
 pub mod StepLast
 pub mod ListWalk
 pub mod RowLast
+pub mod GroupEvents
