@@ -102,7 +102,7 @@ ends-without depth (c ∷ cs) p below =
 
 -- The ending behind the lines of a leaf.
 
-abbrev tail_name : Row → Name
+abbrev pub tail_name : Row → Name
 tail_name row =
     cond (is_blank_role row.role || is_end row.line.bytes) n.BlankLineEnding n.LineEnding
 

@@ -3,3 +3,4 @@ pub mod StepLast
 pub mod ListWalk
 pub mod RowLast
 pub mod GroupEvents
+pub mod ExactListed

@@ -234,7 +234,7 @@ before-goes next r role e = go next e
 
 -- Rows.
 
-abbrev on_of : ParseOptions → Path → TextLine → List Taken
+abbrev pub on_of : ParseOptions → Path → TextLine → List Taken
 on_of options p line = gone_on options p (whole line)
 
 abbrev all_of : ParseOptions → Path → TextLine → Bool
