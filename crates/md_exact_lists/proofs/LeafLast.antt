@@ -26,8 +26,8 @@ use Rattle.md_meaning.specs.Tree.{Block, Blocks, Break, Code, Definition, End, F
 use Rattle.md_meaning.specs.Tree.{Paragraph, Table}
 use Rattle.md_meaning.proofs.DefinitionLemmas.{cut_definitions-none, cut_definitions-some}
 use Rattle.md_meaning.proofs.FindsLemmas.{Finds, first-found, none-found, some-found, unless-found, when-found}
-use Rattle.md_exact.specs.Rows.{Blank, Delimiter, FirstText, Further, FurtherText, Role, Underline, first_or, fresh_role}
-use Rattle.md_exact.specs.Rows.{is_blank_role, role_on}
+use Rattle.md_exact.specs.Rows.{BehindCode, Blank, Delimiter, First, FirstText, Further, FurtherText, Role, Underline}
+use Rattle.md_exact.specs.Rows.{first_or, fresh_role, is_blank_role, role_on}
 use Rattle.md_exact_lists.specs.Last.{HasLine, item_of, last_behind, last_in, last_of}
 
 -- What a line brings.
@@ -378,37 +378,72 @@ unmet-line options s r (OpenTable delimiter rows) h e l =
 
 -- What a line is.
 
-first-filled : (o : Option LeafResult) (role : Role) → is_blank_role role ≡ false → is_blank_role (first_or role o) ≡ false
-first-filled None role e = e
-first-filled (Some c) role e = refl
+first-cases : (P : Role → Type 0) → ((c : LeafResult) → P (First c)) → (o : Option LeafResult) (role : Role) → P role →
+    P (first_or role o)
+first-cases P first None role h = h
+first-cases P first (Some c) role h = first c
 
-fresh-filled : (options : ParseOptions) (leaf : Leaf) (r : Rest) → is_blank_role (fresh_role options leaf r) ≡ false
-fresh-filled options (OpenParagraph lines) r =
+-- one that goes on no leaf and is not blank
+fresh-cases : (P : Role → Type 0) → ((c : LeafResult) → P (First c)) → P FirstText → P FurtherText → P Underline →
+    P Delimiter → (options : ParseOptions) (leaf : Leaf) (r : Rest) → P (fresh_role options leaf r)
+fresh-cases P first text further under row options (OpenParagraph lines) r =
     go (is_some (underline_depth options r)) (nat_lt 0 (length (cut options (texts lines)).1))
     (is_some (table_at options End lines r))
   where
-    row : (z : Bool) → is_blank_role (cond z Delimiter FurtherText) ≡ false
-    row true = refl
-    row false = refl
+    last : (z : Bool) → P (cond z Delimiter FurtherText)
+    last true = row
+    last false = further
 
     go : (x y z : Bool) →
-        is_blank_role
+        P
         (cond x (cond y Underline FurtherText) (first_or (cond z Delimiter FurtherText) (starts options Text r)))
-        ≡ false
-    go true true z = refl
-    go true false z = refl
-    go false y z = first-filled (starts options Text r) (cond z Delimiter FurtherText) (row z)
-fresh-filled options NoLeaf r = first-filled (starts options NoText r) FirstText refl
-fresh-filled options (OpenCode lines) r = first-filled (starts options NoText r) FirstText refl
-fresh-filled options (OpenFence o lines) r = first-filled (starts options NoText r) FirstText refl
-fresh-filled options (OpenHtml kind lines) r = first-filled (starts options NoText r) FirstText refl
-fresh-filled options (OpenTable delimiter rows) r = first-filled (starts options NoText r) FirstText refl
+    go true true z = under
+    go true false z = further
+    go false y z = first-cases P first (starts options Text r) (cond z Delimiter FurtherText) (last z)
+fresh-cases P first text further under row options NoLeaf r =
+    first-cases P first (starts options NoText r) FirstText text
+fresh-cases P first text further under row options (OpenCode lines) r =
+    first-cases P first (starts options NoText r) FirstText text
+fresh-cases P first text further under row options (OpenFence o lines) r =
+    first-cases P first (starts options NoText r) FirstText text
+fresh-cases P first text further under row options (OpenHtml kind lines) r =
+    first-cases P first (starts options NoText r) FirstText text
+fresh-cases P first text further under row options (OpenTable delimiter rows) r =
+    first-cases P first (starts options NoText r) FirstText text
+
+-- what is open behind a line that is this: no leaf behind a blank one, and code behind one of code
+abbrev pub IsCode : Leaf → Type 0
+IsCode (OpenCode lines) = Unit {0}
+IsCode leaf = ⊥
+
+abbrev pub Leaves : Role → Leaf → Type 0
+Leaves Blank leaf = leaf ≡ NoLeaf
+Leaves BehindCode leaf = leaf ≡ NoLeaf
+Leaves (Further (OpenCode lines)) leaf = IsCode leaf
+Leaves role leaf = Unit {0}
+
+further-leaves : (options : ParseOptions) (s : Innermost) (r : Rest) (leaf : Leaf) →
+    is_some (goes_on options leaf r) ≡ true → Leaves (Further leaf) (leaf_line_by options s r leaf).leaf
+unfolding code_goes_on
+further-leaves options s r (OpenCode lines) e = go (is_blank r.bytes || nat_le 4 (indent r)) e
+  where
+    go : (x : Bool) →
+        is_some (cond x (Some (Opened (OpenCode (lines ++ code_line r ∷ [])))) None) ≡ true →
+        IsCode (on_or_fresh options s r (cond x (Some (Opened (OpenCode (lines ++ code_line r ∷ [])))) None)).leaf
+    go true e = tt
+    go false e = absurd (cc)
+further-leaves options s r NoLeaf e = tt
+further-leaves options s r (OpenParagraph lines) e = tt
+further-leaves options s r (OpenFence o lines) e = tt
+further-leaves options s r (OpenHtml kind lines) e = tt
+further-leaves options s r (OpenTable delimiter rows) e = tt
 
 -- what is innermost behind a line that meets this: a blank line leaves the last block as it is
 pub record Met (options : ParseOptions) (s : Innermost) (r : Rest) : Type 0 where
   pub last : last_in (leaf_line options s r)
       ≡ cond (is_blank_role (role_on options s.leaf r)) (last_in s) None
   pub text : HasLine (leaf_line options s r).leaf
+  pub leaves : Leaves (role_on options s.leaf r) (leaf_line options s r).leaf
 
 pub meets : (options : ParseOptions) (s : Innermost) (r : Rest) → HasLine s.leaf → Met options s r
 meets options s r h = go (is_some (goes_on options s.leaf r)) refl (is_blank r.bytes) refl
@@ -421,14 +456,17 @@ meets options s r h = go (is_some (goes_on options s.leaf r)) refl (is_blank r.b
     by x y e b = ap₂ role e b
 
     ends : (x y : Bool) → is_some (goes_on options s.leaf r) ≡ x → is_blank r.bytes ≡ y →
-        is_blank_role (role x y) ≡ false → Ends (leaf_line options s r) → Met options s r
-    ends x y e b filled is = record {
+        is_blank_role (role x y) ≡ false → Leaves (role x y) (leaf_line options s r).leaf →
+        Ends (leaf_line options s r) → Met options s r
+    ends x y e b filled leaves is = record {
       last = is.last ∙ sym (ap (λ (z : Bool). cond z (last_in s) None) (ap is_blank_role (by x y e b) ∙ filled));
       text = is.text;
+      leaves = subst (λ (a : Role). Leaves a (leaf_line options s r).leaf) (sym (by x y e b)) leaves;
     }
 
     go : (x : Bool) → is_some (goes_on options s.leaf r) ≡ x → (y : Bool) → is_blank r.bytes ≡ y → Met options s r
-    go true e y b = ends true y e b refl (further-ends options s r e)
+    go true e y b =
+        ends true y e b refl (further-leaves options s r s.leaf e) (further-ends options s r e)
     go false e true b =
         let is : leaf_line options s r ≡ spot_of (then_leaf options s.here s.leaf) =
         (unmet-line options s r s.leaf h e refl).blank b in
@@ -437,6 +475,12 @@ meets options s r h = go (is_some (goes_on options s.leaf r)) refl (is_blank r.b
               ap last_in is ∙ leaf-last options s.here s.leaf h
               ∙ sym (ap (λ (z : Bool). cond z (last_in s) None) (ap is_blank_role (by false true e b)));
           text = subst (λ (t : Innermost). HasLine t.leaf) (sym is) tt;
+          leaves =
+              subst (λ (a : Role). Leaves a (leaf_line options s r).leaf) (sym (by false true e b))
+              (ap (λ (t : Innermost). t.leaf) is);
         }
     go false e false b =
-        ends false false e b (fresh-filled options s.leaf r) ((unmet-line options s r s.leaf h e refl).other b)
+        ends false false e b
+        (fresh-cases (λ (a : Role). is_blank_role a ≡ false) (λ c. refl) refl refl refl refl options s.leaf r)
+        (fresh-cases (λ (a : Role). Leaves a (leaf_line options s r).leaf) (λ c. tt) tt tt tt tt options s.leaf r)
+        ((unmet-line options s r s.leaf h e refl).other b)

@@ -318,7 +318,8 @@ pub record Begins (options : ParseOptions) (p : Path) (line : TextLine) (row : R
       ≡ further_prefixes line (whole line) (on_of options p line)
       ++ begins line (step options p (whole line)) (length (on_of options p line))
       (behind_all (whole line) (on_of options p line)) (t ∷ ts)
-  pub opens : Opens p (on_of options p line) (t ∷ ts) (step options p (whole line))
+  pub opens : Opens p (on_of options p line) (t ∷ ts) (rest_of (whole line) (on_of options p line) (t ∷ ts))
+      (step options p (whole line))
   pub first : blocks.goes_on row.role ≡ false
 
 pub begins-facts : (options : ParseOptions) (p : Path) (line : TextLine) (below : List Row) → HasLine (spot p).leaf →

@@ -91,13 +91,19 @@ opened-first options interrupting r = go (length r.bytes) refl
     go (suc n) e = some n (opens options interrupting r) (opens-leaves options interrupting r) e
 
 -- what is open in the innermost container that went on: these containers, with no block in front of any of them
-record Inside (p : Path) (ts : List Taken) : Type 0 where
+record Inside (r : Rest) (p : Path) (ts : List Taken) : Type 0 where
   held : containers p ≡ held_in ts
+  blank : is_blank (behind_all r ts).bytes ≡ true → (spot p).leaf ≡ NoLeaf
   ends : Ends (spot p)
   before : (depth : ℕ) → blocks_before depth p ≡ End
 
-fresh-inside : (options : ParseOptions) (r : Rest) → Inside (At (fresh_line options End r)) []
-fresh-inside options r = record { held = refl; ends = go (is_blank r.bytes) refl; before = λ depth. refl }
+fresh-inside : (options : ParseOptions) (r : Rest) → Inside r (At (fresh_line options End r)) []
+fresh-inside options r = record {
+  held = refl;
+  blank = λ e. ap (λ (s : Innermost). s.leaf) (fresh-blank options End r e);
+  ends = go (is_blank r.bytes) refl;
+  before = λ depth. refl;
+}
   where
     go : (x : Bool) → is_blank r.bytes ≡ x → Ends (fresh_line options End r)
     go true e = subst Ends (sym (fresh-blank options End r e)) (record { last = refl; text = tt })
@@ -109,12 +115,12 @@ before-within c p h zero = refl
 before-within c p h (suc depth) = h depth
 
 opened-inside : (options : ParseOptions) (n : ℕ) (r : Rest) →
-    Inside (step.opened options n r) (opened options false n r)
+    Inside r (step.opened options n r) (opened options false n r)
 opened-inside options zero r = fresh-inside options r
 opened-inside options (suc n) r = go (opened-inside options n) (opens options false r)
   where
-    go : ((s : Rest) → Inside (step.opened options n s) (opened options false n s)) → (o : Option Taken) →
-        Inside
+    go : ((s : Rest) → Inside s (step.opened options n s) (opened options false n s)) → (o : Option Taken) →
+        Inside r
         (elim o [ Some t ↦ Within End t.container (step.opened options n t.rest) | None ↦ At (fresh_line options End r) ])
         (elim o [ Some t ↦ t ∷ opened options false n t.rest | None ↦ [] ])
     go below None = fresh-inside options r
@@ -122,6 +128,7 @@ opened-inside options (suc n) r = go (opened-inside options n) (opens options fa
         let inside = below t.rest in
         record {
           held = ap (λ (cs : List Container). t.container ∷ cs) inside.held;
+          blank = inside.blank;
           ends = inside.ends;
           before = before-within t.container (step.opened options n t.rest) inside.before;
         }
@@ -148,8 +155,9 @@ abbrev pub lazy_of : ParseOptions → Path → Bool → Rest → Bool
 lazy_of options p all rest = not all && is_some (with_lazy options (spot p).leaf rest)
 
 -- containers open
-pub record Opens (p : Path) (on new : List Taken) (after : Path) : Type 0 where
+pub record Opens (p : Path) (on new : List Taken) (rest : Rest) (after : Path) : Type 0 where
   pub held : containers after ≡ held_in on ++ held_in new
+  pub blank : is_blank rest.bytes ≡ true → (spot after).leaf ≡ NoLeaf
   pub ends : Ends (spot after)
   pub before : last_of (blocks_before (length on) after) ≡ last_at (length on) p
   pub inside : (depth : ℕ) → suc (length on) ≤ depth → blocks_before depth after ≡ End
@@ -169,7 +177,7 @@ pub record Stays (p : Path) (on : List Taken) (after : Path) : Type 0 where
 
 pub record Facts (options : ParseOptions) (p : Path) (all : Bool) (r : Rest) (on new : List Taken) (after : Path) : Type 0
   where
-  pub opens : (t : Taken) (ts : List Taken) → new ≡ t ∷ ts → Opens p on (t ∷ ts) after
+  pub opens : (t : Taken) (ts : List Taken) → new ≡ t ∷ ts → Opens p on (t ∷ ts) (rest_of r on (t ∷ ts)) after
   pub keeps : new ≡ [] → lazy_of options p all (rest_of r on new) ≡ false →
       Keeps options p all on (rest_of r on new) after
   pub stays : new ≡ [] → lazy_of options p all (rest_of r on new) ≡ true → Stays p on after
@@ -188,8 +196,9 @@ enter-facts : (options : ParseOptions) (p : Path) (all : Bool) (r : Rest) (bs : 
 enter-facts options p all r bs t e =
     let inside = opened-inside options (length t.rest.bytes) t.rest in
     record {
-      opens = λ u us same. subst (λ (ts : List Taken). Opens p [] ts (entered options bs t)) same (record {
+      opens = λ u us same. subst (λ (ts : List Taken). Opens p [] ts (rest_of r [] ts) (entered options bs t)) same (record {
         held = ap (λ (cs : List Container). t.container ∷ cs) inside.held;
+        blank = inside.blank;
         ends = inside.ends;
         before = e;
         inside = deeper bs t.container (step.opened options (length t.rest.bytes) t.rest) inside.before;
@@ -294,6 +303,7 @@ within-facts options before c p r t all on new after facts = record {
       let is = facts.opens u us e in
       record {
         held = ap (λ (cs : List Container). t.container ∷ cs) is.held;
+        blank = is.blank;
         ends = is.ends;
         before = is.before;
         inside = further before t.container after (length on) is.inside;
