@@ -3,4 +3,5 @@ pub mod StepLast
 pub mod ListWalk
 pub mod RowLast
 pub mod GroupEvents
+pub mod LineWalk
 pub mod ExactListed

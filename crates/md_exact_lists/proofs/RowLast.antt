@@ -13,7 +13,7 @@ use Rattle.md_meaning.specs.Leaves.{LazyText, LeafResult, NoText, goes_on, start
 use Rattle.md_meaning.specs.Rest.{Rest, is_blank}
 use Rattle.md_meaning.specs.State.{At, Container, InFootnote, InItem, InQuote, Innermost, Leaf, NoLeaf, OpenCode}
 use Rattle.md_meaning.specs.State.{OpenFence, OpenHtml, OpenParagraph, OpenTable, Path, Within, spot}
-use Rattle.md_meaning.specs.Step.{step, with_lazy}
+use Rattle.md_meaning.specs.Step.{leaf_line, step, with_lazy}
 use Rattle.md_meaning.specs.Tree.{Block, Blocks, End}
 use Rattle.md_meaning.proofs.FindsLemmas.{Finds, none-found, some-found, when-found}
 use Rattle.md_exact.specs.Blocks as blocks
@@ -25,7 +25,7 @@ use Rattle.md_exact.specs.Rows.{Underline, ends_from, first_or, is_blank_role, n
 use Rattle.md_exact.specs.Rows.{role_on, row_of}
 use Rattle.md_exact_lists.specs.Last.{HasLine, last_at, last_behind, last_in, last_of, marker_in}
 use Rattle.md_exact_lists.specs.Unlisted.{pushed}
-use Rattle.md_exact_lists.proofs.LeafLast.{Ends, Met, meets}
+use Rattle.md_exact_lists.proofs.LeafLast.{Ends, IsCode, Leaves, Met, meets}
 use Rattle.md_exact_lists.proofs.ListWalk.{markers-append, markers_from}
 use Rattle.md_exact_lists.proofs.StepLast.{Facts, Keeps, Opens, Stays, held_in, lazy_of, new_of, rest_of, step-facts}
 
@@ -232,6 +232,155 @@ before-goes next r role e = go next e
     go FurtherText e = code role (ap blocks.goes_on (sym (code-before FurtherText r role tt)) ∙ e)
     go Underline e = code role (ap blocks.goes_on (sym (code-before Underline r role tt)) ∙ e)
 
+-- a leaf that is open may go on in a line that is this
+abbrev IsFurther : Role → Type 0
+IsFurther (Further leaf) = Unit {0}
+IsFurther role = ⊥
+
+abbrev pub Follows : Leaf → Role → Type 0
+Follows NoLeaf role = ⊥
+Follows (OpenCode lines) role = IsFurther role
+Follows leaf role = Unit {0}
+
+pub follows-last : (leaf : Leaf) (bs : Blocks) (role : Role) → Follows leaf role → last_behind leaf bs ≡ None
+follows-last NoLeaf bs role h = absurd h
+follows-last (OpenParagraph lines) bs role h = refl
+follows-last (OpenCode lines) bs role h = refl
+follows-last (OpenFence o lines) bs role h = refl
+follows-last (OpenHtml kind lines) bs role h = refl
+follows-last (OpenTable delimiter rows) bs role h = refl
+
+role-follows : (options : ParseOptions) (leaf : Leaf) (r : Rest) → blocks.goes_on (role_on options leaf r) ≡ true →
+    Follows leaf (role_on options leaf r)
+role-follows options NoLeaf r e = role-open options NoLeaf r e
+role-follows options (OpenParagraph lines) r e = tt
+role-follows options (OpenCode lines) r e =
+    go (is_some (goes_on options (OpenCode lines) r)) (is_blank r.bytes) e
+  where
+    go : (x y : Bool) →
+        blocks.goes_on
+        (cond x (Further (OpenCode lines)) (cond y Blank (first_or FirstText (starts options NoText r))))
+        ≡ true →
+        IsFurther (cond x (Further (OpenCode lines)) (cond y Blank (first_or FirstText (starts options NoText r))))
+    go true y e = tt
+    go false true e = absurd (cc)
+    go false false e = let none = first-goes (starts options NoText r) in absurd (cc)
+role-follows options (OpenFence o lines) r e = tt
+role-follows options (OpenHtml kind lines) r e = tt
+role-follows options (OpenTable delimiter rows) r e = tt
+
+lazy-follows : (options : ParseOptions) (leaf : Leaf) (r : Rest) (role : Role) →
+    is_some (with_lazy options leaf r) ≡ true → Follows leaf role
+lazy-follows options NoLeaf r role e = absurd (cc)
+lazy-follows options (OpenParagraph lines) r role e = tt
+lazy-follows options (OpenCode lines) r role e = absurd (cc)
+lazy-follows options (OpenFence o lines) r role e = tt
+lazy-follows options (OpenHtml kind lines) r role e = tt
+lazy-follows options (OpenTable delimiter rows) r role e = tt
+
+-- it does so whatever the next line is
+before-follows : (next : Role) (r : Rest) (leaf : Leaf) (role : Role) → Follows leaf role →
+    blocks.goes_on (role_before next r role) ≡ true → Follows leaf (role_before next r role)
+before-follows next r NoLeaf role h e = h
+before-follows next r (OpenParagraph lines) role h e = tt
+before-follows next r (OpenFence o lines) role h e = tt
+before-follows next r (OpenHtml kind lines) role h e = tt
+before-follows next r (OpenTable delimiter rows) role h e = tt
+before-follows next r (OpenCode lines) role h e = go next e
+  where
+    code : (role : Role) → IsFurther role → blocks.goes_on (behind_code r role) ≡ true → IsFurther (behind_code r role)
+    code (Further (OpenCode ks)) h e = by (is_blank r.bytes) e
+      where
+        by : (x : Bool) → blocks.goes_on (cond x BehindCode (Further (OpenCode ks))) ≡ true →
+            IsFurther (cond x BehindCode (Further (OpenCode ks)))
+        by true e = absurd (cc)
+        by false e = tt
+    code (Further _) h e = tt
+    code _ h e = absurd h
+
+    go : (next : Role) → blocks.goes_on (role_before next r role) ≡ true → IsFurther (role_before next r role)
+    go Delimiter e = absurd (cc)
+    go (Further leaf) e = h
+    go Blank e =
+        subst IsFurther (sym (code-before Blank r role tt))
+        (code role h (ap blocks.goes_on (sym (code-before Blank r role tt)) ∙ e))
+    go (First c) e =
+        subst IsFurther (sym (code-before (First c) r role tt))
+        (code role h (ap blocks.goes_on (sym (code-before (First c) r role tt)) ∙ e))
+    go FirstText e =
+        subst IsFurther (sym (code-before FirstText r role tt))
+        (code role h (ap blocks.goes_on (sym (code-before FirstText r role tt)) ∙ e))
+    go Head e =
+        subst IsFurther (sym (code-before Head r role tt))
+        (code role h (ap blocks.goes_on (sym (code-before Head r role tt)) ∙ e))
+    go BehindCode e =
+        subst IsFurther (sym (code-before BehindCode r role tt))
+        (code role h (ap blocks.goes_on (sym (code-before BehindCode r role tt)) ∙ e))
+    go FurtherText e =
+        subst IsFurther (sym (code-before FurtherText r role tt))
+        (code role h (ap blocks.goes_on (sym (code-before FurtherText r role tt)) ∙ e))
+    go Underline e =
+        subst IsFurther (sym (code-before Underline r role tt))
+        (code role h (ap blocks.goes_on (sym (code-before Underline r role tt)) ∙ e))
+
+-- a line that is not blank
+before-filled : (next : Role) (r : Rest) (role : Role) → is_blank_role role ≡ false →
+    is_blank_role (behind_code r role) ≡ false → is_blank_role (role_before next r role) ≡ false
+before-filled Delimiter r role e f = refl
+before-filled (Further leaf) r role e f = e
+before-filled Blank r role e f = ap is_blank_role (code-before Blank r role tt) ∙ f
+before-filled (First c) r role e f = ap is_blank_role (code-before (First c) r role tt) ∙ f
+before-filled FirstText r role e f = ap is_blank_role (code-before FirstText r role tt) ∙ f
+before-filled Head r role e f = ap is_blank_role (code-before Head r role tt) ∙ f
+before-filled BehindCode r role e f = ap is_blank_role (code-before BehindCode r role tt) ∙ f
+before-filled FurtherText r role e f = ap is_blank_role (code-before FurtherText r role tt) ∙ f
+before-filled Underline r role e f = ap is_blank_role (code-before Underline r role tt) ∙ f
+
+-- A line where nothing goes on is blank or is text, or a leaf begins there.
+first-blank : (next : Role) (r : Rest) (x : Bool) (o : Option LeafResult) →
+    is_blank_role (role_before next r (cond x Blank (first_or FirstText o))) ≡ true → x ≡ true
+first-blank next r true o e = refl
+first-blank next r false None e = let filled = before-filled next r FirstText refl refl in absurd (cc)
+first-blank next r false (Some c) e = let filled = before-filled next r (First c) refl refl in absurd (cc)
+
+-- and none goes on a blank line
+blank-follows : (next : Role) (r : Rest) (role : Role) (leaf : Leaf) → Leaves role leaf →
+    is_blank_role (role_before next r role) ≡ true → blocks.goes_on next ≡ true → Follows leaf next → ⊥
+blank-follows next r role leaf left e goes h = go next e goes h
+  where
+    none : (next : Role) → leaf ≡ NoLeaf → Follows leaf next → ⊥
+    none next l h = subst (λ (x : Leaf). Follows x next) l h
+
+    blank : (role : Role) → Leaves role leaf → is_blank_role role ≡ true → leaf ≡ NoLeaf
+    blank Blank l e = l
+    blank BehindCode l e = l
+    blank _ l e = absurd (cc)
+
+    code-follows : (leaf : Leaf) (next : Role) → IsCode leaf → (IsFurther next → ⊥) → Follows leaf next → ⊥
+    code-follows (OpenCode lines) next l f h = f h
+    code-follows _ next l f h = absurd l
+
+    code : (next role : Role) → Leaves role leaf → is_blank_role (behind_code r role) ≡ true → (IsFurther next → ⊥) →
+        Follows leaf next → ⊥
+    code next (Further (OpenCode lines)) l e f h = code-follows leaf next l f h
+    code next Blank l e f h = none next l h
+    code next BehindCode l e f h = none next l h
+    code next _ l e f h = absurd (cc)
+
+    go : (next : Role) → is_blank_role (role_before next r role) ≡ true → blocks.goes_on next ≡ true →
+        Follows leaf next → ⊥
+    go Delimiter e goes h = absurd (cc)
+    go (Further k) e goes h = none (Further k) (blank role left e) h
+    go FurtherText e goes h =
+        code FurtherText role left (ap is_blank_role (sym (code-before FurtherText r role tt)) ∙ e) (λ f. f) h
+    go Underline e goes h =
+        code Underline role left (ap is_blank_role (sym (code-before Underline r role tt)) ∙ e) (λ f. f) h
+    go Blank e goes h = absurd (cc)
+    go (First c) e goes h = absurd (cc)
+    go FirstText e goes h = absurd (cc)
+    go Head e goes h = absurd (cc)
+    go BehindCode e goes h = absurd (cc)
+
 -- Rows.
 
 abbrev pub on_of : ParseOptions → Path → TextLine → List Taken
@@ -321,17 +470,19 @@ pub record Begins (options : ParseOptions) (p : Path) (line : TextLine) (row : R
   pub opens : Opens p (on_of options p line) (t ∷ ts) (rest_of (whole line) (on_of options p line) (t ∷ ts))
       (step options p (whole line))
   pub first : blocks.goes_on row.role ≡ false
+  pub blank : is_blank_role row.role ≡ true → (spot (step options p (whole line))).leaf ≡ NoLeaf
 
 pub begins-facts : (options : ParseOptions) (p : Path) (line : TextLine) (below : List Row) → HasLine (spot p).leaf →
     (t : Taken) (ts : List Taken) → new_on options p line ≡ t ∷ ts →
     Begins options p line (row_of options p line below) t ts
-begins-facts options p line below h t ts e =
-    subst (λ (row : Row). Begins options p line row t ts) (sym (begins-row options p line below t ts e)) (record {
+begins-facts options p line below h t ts is_new =
+    subst (λ (row : Row). Begins options p line row t ts) (sym (begins-row options p line below t ts is_new)) (record {
       stays = refl;
       markers = sym (gone-markers options p (whole line) []);
       front = refl;
-      opens = (step-facts options p (whole line) h).opens t ts e;
+      opens = (step-facts options p (whole line) h).opens t ts is_new;
       first = first (blocks.goes_on role) refl;
+      blank = blank;
     })
   where
     role : Role
@@ -343,6 +494,18 @@ begins-facts options p line below h t ts e =
 
     rest : Rest
     rest = rest_of (whole line) (on_of options p line) (t ∷ ts)
+
+    none : (x : Bool) →
+        role_on options (cond (x && false) (spot p).leaf NoLeaf) rest
+        ≡ cond (is_blank rest.bytes) Blank (first_or FirstText (starts options NoText rest))
+    none true = refl
+    none false = refl
+
+    blank : is_blank_role role ≡ true → (spot (step options p (whole line))).leaf ≡ NoLeaf
+    blank e =
+        ((step-facts options p (whole line) h).opens t ts is_new).blank
+        (first-blank (next_role below) rest (is_blank rest.bytes) (starts options NoText rest)
+        (ap (λ (a : Role). is_blank_role (role_before (next_role below) rest a)) (sym (none (all_of options p line))) ∙ e))
 
     first : (x : Bool) → blocks.goes_on role ≡ x → x ≡ false
     first true goes =
@@ -362,8 +525,11 @@ pub record Remains (options : ParseOptions) (p : Path) (line : TextLine) (below 
   pub last : blocks.goes_on (next_role below) ≡ false →
       last_in (spot (step options p (whole line))) ≡ cond (is_blank_role row.role) (last_at row.stays p) None
   -- a line that goes on a leaf meets the innermost container
-  pub whole : blocks.goes_on row.role ≡ true → row.stays ≡ length (containers p)
-  pub no_item : blocks.goes_on row.role ≡ true → last_in (spot p) ≡ None
+  pub all_stay : blocks.goes_on row.role ≡ true → row.stays ≡ length (containers p)
+  pub met : blocks.goes_on row.role ≡ true → Follows (spot p).leaf row.role
+  -- no line goes on a blank line
+  pub shut : is_blank_role row.role ≡ true → blocks.goes_on (next_role below) ≡ true →
+      Follows (spot (step options p (whole line))).leaf (next_role below) → ⊥
 
 lazy-facts : (options : ParseOptions) (p : Path) (line : TextLine) (below : List Row) →
     is_some (with_lazy options (spot p).leaf (rest_of (whole line) (on_of options p line) [])) ≡ true →
@@ -371,10 +537,11 @@ lazy-facts : (options : ParseOptions) (p : Path) (line : TextLine) (below : List
     Remains options p line below (row_by options p line below [] true true)
 lazy-facts options p line below lazy is =
     let on : List Taken = on_of options p line in
+    let rest : Rest = rest_of (whole line) on [] in
     let cs : List Container = containers p in
     let none : last_in (spot p) ≡ None =
         open-last (spot p).leaf (spot p).here
-        (lazy-open options (spot p).leaf (rest_of (whole line) on []) lazy) in
+        (lazy-open options (spot p).leaf rest lazy) in
     record {
       front = refl;
       markers =
@@ -395,10 +562,13 @@ lazy-facts options p line below lazy is =
       last =
           λ e.
           is.ends.last
-          ∙ before-last (next_role below) (rest_of (whole line) on []) FurtherText (last_at (length cs) p) e
+          ∙ before-last (next_role below) rest FurtherText (last_at (length cs) p) e
           (λ goes. last-whole p ∙ none);
-      whole = λ goes. refl;
-      no_item = λ goes. none;
+      all_stay = λ goes. refl;
+      met = λ goes. lazy-follows options (spot p).leaf rest (role_before (next_role below) rest FurtherText) lazy;
+      shut =
+          λ e goes follows.
+          let filled = before-filled (next_role below) rest FurtherText refl refl in absurd (cc);
     }
 
 kept-facts : (options : ParseOptions) (p : Path) (line : TextLine) (below : List Row) → HasLine (spot p).leaf →
@@ -416,12 +586,16 @@ kept-facts options p line below h is = record {
       ∙ ap₂ (λ (l : Leaf) (x : Option ℕ). cond (is_blank_role (role_on options l rest)) x None) leaf is.last
       ∙ before-last (next_role below) rest base (last_at (length on) p) e
       (λ goes. sym is.last ∙ met-last (role-open options (met_leaf all) rest goes));
-  whole = λ goes. eqb-true (length on) (length (containers p)) (went (before-goes (next_role below) rest base goes));
-  no_item =
+  all_stay = λ goes. eqb-true (length on) (length (containers p)) (went (before-goes (next_role below) rest base goes));
+  met =
       λ goes.
-      open-last (spot p).leaf (spot p).here
+      before-follows (next_role below) rest (spot p).leaf base
       (leaf-open all (went (before-goes (next_role below) rest base goes))
-      (role-open options (met_leaf all) rest (before-goes (next_role below) rest base goes)));
+      (role-follows options (met_leaf all) rest (before-goes (next_role below) rest base goes)))
+      goes;
+  shut =
+      λ e goes follows.
+      blank-follows (next_role below) rest base (spot (step options p (whole line))).leaf leaves e goes follows;
 }
   where
     on : List Taken
@@ -463,9 +637,14 @@ kept-facts options p line below h is = record {
     went : blocks.goes_on base ≡ true → all ≡ true
     went goes = went-by all (role-open options (met_leaf all) rest goes)
 
-    leaf-open : (x : Bool) → x ≡ true → IsOpen (met_leaf x) → IsOpen (spot p).leaf
+    leaf-open : (x : Bool) → x ≡ true → Follows (met_leaf x) base → Follows (spot p).leaf base
     leaf-open true e o = o
     leaf-open false e o = absurd o
+
+    leaves : Leaves base (spot (step options p (whole line))).leaf
+    leaves =
+        subst (λ (s : Innermost). Leaves base s.leaf) (sym is.is)
+        (subst (λ (l : Leaf). Leaves (role_on options l rest) (leaf_line options is.met rest).leaf) leaf met.leaves)
 
 pub remains-facts : (options : ParseOptions) (p : Path) (line : TextLine) (below : List Row) → HasLine (spot p).leaf →
     new_on options p line ≡ [] → Remains options p line below (row_of options p line below)
