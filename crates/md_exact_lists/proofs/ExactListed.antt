@@ -6,25 +6,25 @@ use Rattle.std.proofs.lemmas.List.{take_all}
 use Rattle.md_engine.specs.declared.configuration.ParseOptions.{ParseOptions}
 use Rattle.md_engine.specs.declared.event.Event.{Event}
 use Rattle.md_meaning.specs.Containers.{Taken}
-use Rattle.md_meaning.specs.State.{At, Container, Leaf, NoLeaf, Path, spot}
-use Rattle.md_meaning.specs.Step.{spot_of, step}
+use Rattle.md_meaning.specs.State.{At, Leaf, Path, spot}
+use Rattle.md_meaning.specs.Step.{spot_of}
 use Rattle.md_meaning.specs.Tree.{End}
 use Rattle.md_containers.specs.Listed.{Place, is_item, listed, listed_from, next_item, outside}
 use Rattle.md_exact.specs.Blocks as blocks
 use Rattle.md_exact.specs.Blocks.{grouped, tail}
 use Rattle.md_exact.specs.Places.{TextLine, whole}
 use Rattle.md_exact.specs.Prefixes.{behind_all, containers}
-use Rattle.md_exact.specs.Rows.{BehindCode, Blank, Delimiter, First, FirstText, Further, FurtherText, Head, Role, Row}
-use Rattle.md_exact.specs.Rows.{Underline, is_blank_role, next_role, next_stays, row_of, rows_of}
+use Rattle.md_exact.specs.Rows.{BehindCode, Blank, Role, Row}
+use Rattle.md_exact.specs.Rows.{is_blank_role, next_role, next_stays, row_of, rows_of}
 use Rattle.md_exact_lists.specs.Last.{HasLine, goes_between, last_at, last_in}
 use Rattle.md_exact_lists.specs.Unlisted.{LeavesStand, LinesStand, MarkersStand, NoneIs, without_lists}
 use Rattle.md_exact_lists.proofs.GroupEvents.{all_events, all_unlisted, behind_leaf, first_group, first_leaf}
 use Rattle.md_exact_lists.proofs.GroupEvents.{leaves-first, rest_groups, unlisted_behind}
-use Rattle.md_exact_lists.proofs.LineWalk.{BehindListed, Ending, FrontListed, NextTold, Stands, after, at, begins-listed}
-use Rattle.md_exact_lists.proofs.LineWalk.{begins-told, behind_place, ended-walk, front_place, leaf-stands}
+use Rattle.md_exact_lists.proofs.LineWalk.{BehindListed, FrontListed, NextTold, Stands, after, at, begins-listed}
+use Rattle.md_exact_lists.proofs.LineWalk.{begins-told, behind_place, ended-walk, leaf-stands}
 use Rattle.md_exact_lists.proofs.LineWalk.{remains-listed, remains-told, stays-fewer}
 use Rattle.md_exact_lists.proofs.ListWalk.{markers_from, walk-passes}
-use Rattle.md_exact_lists.proofs.RowLast.{Begins, Follows, Remains, begins-facts, follows-last, new_on, on_of}
+use Rattle.md_exact_lists.proofs.RowLast.{Follows, Remains, begins-facts, follows-last, new_on, on_of}
 use Rattle.md_exact_lists.proofs.RowLast.{remains-facts}
 
 -- Any line.
@@ -170,8 +170,8 @@ line-behind options bytes p line lines h more stands = go (blocks.goes_on (next_
     Of : Bool → Type 0
     Of x =
         let plain : List Event =
-            cond x (unlisted_behind options below)
-            (without_lists (tail (row ∷ [])) ++ all_unlisted options below) in
+        cond x (unlisted_behind options below)
+        (without_lists (tail (row ∷ [])) ++ all_unlisted options below) in
         listed_from bytes (behind_place bytes (after options p line) plain) plain
         ≡ cond x (behind_leaf options below) (tail (row ∷ []) ++ all_events options below)
 
@@ -269,7 +269,7 @@ are-listed options bytes p [] h markers =
     record { front = λ e stands. refl; told = λ e stands m. refl; behind = λ stands. tt }
 are-listed options bytes p (line ∷ lines) h markers =
     let more : AreListed options bytes (after options p line) lines =
-        are-listed options bytes (after options p line) lines (line-text options p line h) markers.1 in
+    are-listed options bytes (after options p line) lines (line-text options p line h) markers.1 in
     record {
       front = λ e stands. line-front options bytes p line lines h markers more stands;
       told = λ e stands. line-told options bytes p line lines h markers more stands;

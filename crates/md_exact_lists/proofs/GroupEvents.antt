@@ -1,7 +1,7 @@
 -- The events of lines from the first on: in front of its leaf, the leaf, and all behind it, with lists and without.
-use Rattle.std.proofs.Common.{◌≡◌, ℕ, zero, suc, Bool, true, false, cond, List, [], ◌∷◌, ◌++◌, length, refl, ap, ap₂, sym}
-use Rattle.std.proofs.Common.{◌∙◌, subst, append_assoc, append-nil, rules, flat_map}
-use Rattle.std.specs.Prelude.{◌||◌, ◌==◌}
+use Rattle.std.proofs.Common.{◌≡◌, ℕ, suc, Bool, true, false, cond, List, [], ◌∷◌, ◌++◌, refl, ap, ap₂, sym}
+use Rattle.std.proofs.Common.{◌∙◌, subst, append_assoc, flat_map}
+use Rattle.std.specs.Prelude.{◌||◌}
 use Rattle.md_engine.specs.declared.configuration.ParseOptions.{ParseOptions}
 use Rattle.md_engine.specs.declared.event.Event.{Event}
 use Rattle.md_engine.specs.declared.event.Name.{Name}
@@ -13,14 +13,14 @@ use Rattle.md_meaning.specs.Rest.{Rest}
 use Rattle.md_meaning.specs.State.{Container, InFootnote, InItem, InQuote, Path}
 use Rattle.md_seam.specs.Events.Blocks.{is_block}
 use Rattle.md_seam.specs.Events.Nested.{enter, exit, pair}
-use Rattle.md_seam.specs.Events.Spelled.{Role, role}
+use Rattle.md_seam.specs.Events.Spelled.{role}
 use Rattle.md_exact.specs.Blocks.{events_by, goes_on, group_events, grouped, onto, tail}
 use Rattle.md_exact.specs.Places.{TextLine, ending, line_end, next_line, place}
 use Rattle.md_exact.specs.Prefixes.{begin, begins, blocks_before, end_in_item, list_name}
-use Rattle.md_exact.specs.Rows.{Role as LineRole, Row, container_name, ends_from, is_blank_role, list_ends}
+use Rattle.md_exact.specs.Rows.{Row, container_name, ends_from, is_blank_role, list_ends}
 use Rattle.md_exact.specs.Rows.{list_goes_on, next_role}
 use Rattle.md_exact_lists.specs.Unlisted.{LeafStands, LeavesStand, NoneIs, is_list, opening_prefix, plain_begin}
-use Rattle.md_exact_lists.specs.Unlisted.{plain_begins, plain_ends, unlisted_group, unlisted_groups, without_lists}
+use Rattle.md_exact_lists.specs.Unlisted.{plain_begins, plain_ends, unlisted_groups, without_lists}
 use Rattle.md_exact_lists.proofs.ListWalk.{opening-none}
 
 -- Without lists.

@@ -22,8 +22,8 @@ use Rattle.md_meaning.specs.State.{then_definitions, then_leaf, then_paragraph}
 use Rattle.md_meaning.specs.Step.{came, fresh_by, fresh_line, leaf_line, leaf_line_by, on_or_fresh, row_or_text}
 use Rattle.md_meaning.specs.Step.{spot_of, text_by, text_line, underline_or_text}
 use Rattle.md_meaning.specs.Table.{delimiter_columns, row_cells}
-use Rattle.md_meaning.specs.Tree.{Block, Blocks, Break, Code, Definition, End, Fence, Heading, Html, Line, Math, More}
-use Rattle.md_meaning.specs.Tree.{Paragraph, Table}
+use Rattle.md_meaning.specs.Tree.{Block, Blocks, Break, Definition, End, Fence, Heading, Html, Line, Math, More}
+use Rattle.md_meaning.specs.Tree.{Paragraph}
 use Rattle.md_meaning.proofs.DefinitionLemmas.{cut_definitions-none, cut_definitions-some}
 use Rattle.md_meaning.proofs.FindsLemmas.{Finds, first-found, none-found, some-found, unless-found, when-found}
 use Rattle.md_exact.specs.Rows.{BehindCode, Blank, Delimiter, First, FirstText, Further, FurtherText, Role, Underline}

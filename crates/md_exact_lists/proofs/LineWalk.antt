@@ -2,9 +2,9 @@
 --
 -- It knows, in front of each line, the markers of the items that are open, and whether a list goes
 -- on: whether the next block is an item with the marker of the block that is last there.
-use Rattle.std.proofs.Common.{◌≡◌, ℕ, zero, suc, ◌+◌, ◌≤◌, ◌<◌, Bool, true, false, cond, ◌&&◌, List, [], ◌∷◌, ◌++◌, length}
+use Rattle.std.proofs.Common.{◌≡◌, ℕ, suc, ◌≤◌, ◌<◌, Bool, true, false, cond, ◌&&◌, List, [], ◌∷◌, ◌++◌, length}
 use Rattle.std.proofs.Common.{take, drop, refl, ap, ap₂, sym, ◌∙◌, subst, arith, rules, append_assoc, append-nil}
-use Rattle.std.specs.Prelude.{◌-◌, ◌==◌, nat_lt, if◌then◌else◌, Option, Some, None}
+use Rattle.std.specs.Prelude.{◌-◌, ◌==◌, nat_lt, if◌then◌else◌, Option, None}
 use Rattle.std.proofs.Math.Seq.{drop-append_seam}
 use Rattle.std.proofs.lemmas.Bool.{eqb-true, false_from_ne_true}
 use Rattle.std.proofs.lemmas.List.{length-append, length-drop, length-map, take-append-drop, take_all}
@@ -19,25 +19,22 @@ use Rattle.md_meaning.specs.Step.{step}
 use Rattle.md_seam.specs.Events.Blocks.{is_block}
 use Rattle.md_containers.specs.Listed.{Place, goes_on, is_item, listed_from, next_item}
 use Rattle.md_exact.specs.Blocks as blocks
-use Rattle.md_exact.specs.Leaves.{content_line, joined, onto_next}
+use Rattle.md_exact.specs.Leaves.{content_line, joined}
 use Rattle.md_exact.specs.Places.{TextLine, ending, line_end, place, piece, white, whole}
-use Rattle.md_exact.specs.Prefixes.{begins, behind_all, blocks_before, containers, further_prefixes, gone_on}
+use Rattle.md_exact.specs.Prefixes.{begins, behind_all, blocks_before, containers, further_prefixes}
 use Rattle.md_exact.specs.Rows.{BehindCode, Blank, Role, Row, begin_with_item, ends_from, is_blank_role, list_goes_on}
-use Rattle.md_exact.specs.Rows.{next_role, next_stays, row_of, rows_of}
-use Rattle.md_exact_lists.specs.Last.{HasLine, goes_between, last_at, last_in, last_of, marker_in}
-use Rattle.md_exact_lists.specs.Unlisted.{IsLeaf, LeafStands, LeavesStand, LinesStand, MarkersStand, NoneIs}
+use Rattle.md_exact.specs.Rows.{next_role, next_stays, rows_of}
+use Rattle.md_exact_lists.specs.Last.{goes_between, last_at, last_in, last_of, marker_in}
+use Rattle.md_exact_lists.specs.Unlisted.{IsLeaf, MarkersStand, NoneIs}
 use Rattle.md_exact_lists.specs.Unlisted.{plain_begins, plain_ends, without_lists}
 use Rattle.md_exact_lists.proofs.GroupEvents.{all-first, all_events, all_unlisted, begins-without, behind-last}
-use Rattle.md_exact_lists.proofs.GroupEvents.{behind_leaf, ending-none, ends-without, first_group, first_leaf, leaves-first}
-use Rattle.md_exact_lists.proofs.GroupEvents.{rest_groups}
+use Rattle.md_exact_lists.proofs.GroupEvents.{behind_leaf, ending-none, ends-without, first_leaf}
 use Rattle.md_exact_lists.proofs.GroupEvents.{tail_name, unlisted-all, unlisted-last, unlisted_behind, without-append}
 use Rattle.md_exact_lists.proofs.GroupEvents.{without-none}
-use Rattle.md_exact_lists.proofs.LeafLast.{Ends}
 use Rattle.md_exact_lists.proofs.ListWalk.{begins-next, begins-walk, ends-next, ends-walk, further-none, markers-append}
 use Rattle.md_exact_lists.proofs.ListWalk.{markers_from, next-passes, none-append, none-between, none-items, none-piece}
 use Rattle.md_exact_lists.proofs.ListWalk.{walk-passes}
-use Rattle.md_exact_lists.proofs.RowLast.{Begins, Remains, begins-facts, gone-fewer, last-drop, last-whole, new_on, on_of}
-use Rattle.md_exact_lists.proofs.RowLast.{remains-facts}
+use Rattle.md_exact_lists.proofs.RowLast.{Begins, Remains, gone-fewer, last-drop, last-whole, on_of}
 use Rattle.md_exact_lists.proofs.StepLast.{held_in}
 
 -- Numbers.
@@ -222,8 +219,8 @@ leaf-stands options bytes role row further alone leaf = go (is_blank_role role) 
     go : (x : Bool) → is_blank_role role ≡ x → Stands bytes role (blocks.events_by options role (row ∷ further))
     go true e =
         let none : NoneIs is_block (blocks.events_by options role (row ∷ further)) =
-            subst (λ (rows : List Row). NoneIs is_block (blocks.events_by options role (row ∷ rows))) (sym (alone e))
-            (spaces role e) in
+        subst (λ (rows : List Row). NoneIs is_block (blocks.events_by options role (row ∷ rows))) (sym (alone e))
+        (spaces role e) in
         record {
           items = none-items (blocks.events_by options role (row ∷ further)) none;
           blank = λ f. none;
@@ -496,7 +493,7 @@ ended-told options bytes after line below row is told m =
         ∙ ap (goes_on m) (sym (next-passes bytes end more (ending-none row)))
     go (c ∷ left) e =
         let some : length cs - size ≡ suc (length left) =
-            sym (length-drop size cs) ∙ ap (λ (l : List Container). length l) e in
+        sym (length-drop size cs) ∙ ap (λ (l : List Container). length l) e in
         ended-not options (length cs) m below (omega (arith, some))
         ∙ ap (goes_on m) (sym (ends-next bytes c left p (end ++ more)))
 

@@ -1,10 +1,9 @@
 -- The walk that puts lists around items, over the events of containers that open and end.
 use Rattle.std.proofs.Common.{◌≡◌, ℕ, suc, ◌≤◌, Bool, true, false, cond, ◌&&◌, List, [], ◌∷◌, ◌++◌, length, refl, ap, ap₂, sym}
-use Rattle.std.proofs.Common.{◌∙◌, subst, arith, append_assoc}
-use Rattle.std.specs.Prelude.{◌||◌, ◌==◌, get_or, Option, Some, None}
+use Rattle.std.proofs.Common.{◌∙◌, arith, append_assoc}
+use Rattle.std.specs.Prelude.{◌||◌, get_or, Option, Some, None}
 use Rattle.md_engine.specs.declared.event.Event.{Event}
 use Rattle.md_engine.specs.declared.event.Kind.{Kind}
-use Rattle.md_engine.specs.declared.event.Kind.TheVariants.{Enter, Exit}
 use Rattle.md_engine.specs.declared.event.Name.{Name}
 use Rattle.md_engine.specs.declared.event.Name.TheVariants as n
 use Rattle.md_engine.specs.declared.event.Point.{Point}
@@ -15,18 +14,18 @@ use Rattle.md_meaning.specs.Alert.{marker_of}
 use Rattle.md_meaning.specs.Containers.{Taken}
 use Rattle.md_meaning.specs.Rest.{Rest, behind_indent, lose}
 use Rattle.md_meaning.specs.State.{Container, InFootnote, InItem, InQuote, Path}
-use Rattle.md_meaning.specs.Tree.{Block, Blocks, End, Item, More}
+use Rattle.md_meaning.specs.Tree.{Blocks, End, Item, More}
 use Rattle.md_seam.specs.Events.Blocks.{is_block}
 use Rattle.md_seam.specs.Events.Nested.{enter, exit, is_enter}
-use Rattle.md_seam.specs.Events.Spelled.{ContainerRole, ItemShape, LeafRole, Role, TextRole, role}
-use Rattle.md_containers.specs.Listed.{Place, Stays, Turn, given_by, goes_on, is_item, is_marker, listed_from, marker_ahead}
-use Rattle.md_containers.specs.Listed.{list_begin, list_name, marker_by, next_by, next_item, place_by, turn}
+use Rattle.md_seam.specs.Events.Spelled.{ContainerRole, Role, role}
+use Rattle.md_containers.specs.Listed.{Place, goes_on, is_item, is_marker, listed_from, marker_ahead}
+use Rattle.md_containers.specs.Listed.{list_begin, list_name, marker_by, next_item}
 use Rattle.md_containers.proofs.ListedLemmas.{passes-given}
 use Rattle.md_exact.specs.Places.{TextLine, chunk, is_same, part, past, piece, place, text_part, white}
 use Rattle.md_exact.specs.Prefixes.{alert_part, begin, begins, blocks_before, end_in_item, footnote_prefix, further_prefix}
 use Rattle.md_exact.specs.Prefixes.{further_prefixes, item_prefix, quote_prefix}
 use Rattle.md_exact.specs.Rows.{Row, container_name, ends_from, list_ends, list_goes_on}
-use Rattle.md_exact_lists.specs.Last.{goes_between, item_of, last_of, marker_in}
+use Rattle.md_exact_lists.specs.Last.{goes_between, last_of, marker_in}
 use Rattle.md_exact_lists.specs.Unlisted.{MarkerAt, MarkerStands, MarkersStand, NoneIs, opening_prefix, plain_begin, plain_begins}
 use Rattle.md_exact_lists.specs.Unlisted.{plain_ends, pushed}
 use Rattle.md_exact_lists.proofs.StepLast.{held_in}

@@ -1,31 +1,29 @@
 -- A row, by whether containers open on it: how many stay open, which items are open behind it, and what is last there.
-use Rattle.std.proofs.Common.{◌≡◌, ℕ, zero, suc, ◌+◌, ◌≤◌, Bool, true, false, cond, ◌&&◌, not, List, [], ◌∷◌, ◌++◌}
-use Rattle.std.proofs.Common.{length, map, take, drop, refl, ap, ap₂, sym, ◌∙◌, subst, arith, rules, append-nil}
-use Rattle.std.specs.Prelude.{◌==◌, ◌||◌, Option, Some, None}
+use Rattle.std.proofs.Common.{◌≡◌, ℕ, zero, suc, ◌≤◌, Bool, true, false, cond, ◌&&◌, not, List, [], ◌∷◌, ◌++◌}
+use Rattle.std.proofs.Common.{length, take, drop, refl, ap, ap₂, sym, ◌∙◌, subst, arith, rules}
+use Rattle.std.specs.Prelude.{◌==◌, Option, Some, None}
 use Rattle.std.specs.Option.{is_some}
 use Rattle.std.proofs.lemmas.Bool.{eqb-true}
 use Rattle.std.proofs.lemmas.List.{length-append, length-drop, length-map, take-append-drop, take_all}
 use Rattle.md_engine.specs.declared.configuration.ParseOptions.{ParseOptions}
-use Rattle.md_engine.specs.declared.event.Event.{Event}
 use Rattle.md_meaning.specs.declared.alert.AlertKind.{AlertKind}
 use Rattle.md_meaning.specs.Containers.{Taken, continues, footnote_continues, item_continues, quote_taken}
-use Rattle.md_meaning.specs.Leaves.{LazyText, LeafResult, NoText, goes_on, starts}
+use Rattle.md_meaning.specs.Leaves.{LeafResult, NoText, goes_on, starts}
 use Rattle.md_meaning.specs.Rest.{Rest, is_blank}
 use Rattle.md_meaning.specs.State.{At, Container, InFootnote, InItem, InQuote, Innermost, Leaf, NoLeaf, OpenCode}
 use Rattle.md_meaning.specs.State.{OpenFence, OpenHtml, OpenParagraph, OpenTable, Path, Within, spot}
 use Rattle.md_meaning.specs.Step.{leaf_line, step, with_lazy}
-use Rattle.md_meaning.specs.Tree.{Block, Blocks, End}
-use Rattle.md_meaning.proofs.FindsLemmas.{Finds, none-found, some-found, when-found}
+use Rattle.md_meaning.specs.Tree.{Blocks}
+use Rattle.md_meaning.proofs.FindsLemmas.{Finds, some-found, when-found}
 use Rattle.md_exact.specs.Blocks as blocks
 use Rattle.md_exact.specs.Places.{TextLine, line_end, place, whole}
-use Rattle.md_exact.specs.Prefixes.{begins, behind_all, blocks_before, containers, further_prefixes, gone_on}
-use Rattle.md_exact.specs.Prefixes.{new_containers}
+use Rattle.md_exact.specs.Prefixes.{begins, behind_all, containers, further_prefixes, gone_on}
 use Rattle.md_exact.specs.Rows.{BehindCode, Blank, Delimiter, First, FirstText, Further, FurtherText, Head, Role, Row}
 use Rattle.md_exact.specs.Rows.{Underline, ends_from, first_or, is_blank_role, next_role, next_stays, role_before}
 use Rattle.md_exact.specs.Rows.{role_on, row_of}
-use Rattle.md_exact_lists.specs.Last.{HasLine, last_at, last_behind, last_in, last_of, marker_in}
+use Rattle.md_exact_lists.specs.Last.{HasLine, last_at, last_behind, last_in, marker_in}
 use Rattle.md_exact_lists.specs.Unlisted.{pushed}
-use Rattle.md_exact_lists.proofs.LeafLast.{Ends, IsCode, Leaves, Met, meets}
+use Rattle.md_exact_lists.proofs.LeafLast.{IsCode, Leaves, Met, meets}
 use Rattle.md_exact_lists.proofs.ListWalk.{markers-append, markers_from}
 use Rattle.md_exact_lists.proofs.StepLast.{Facts, Keeps, Opens, Stays, held_in, lazy_of, new_of, rest_of, step-facts}
 
@@ -540,8 +538,8 @@ lazy-facts options p line below lazy is =
     let rest : Rest = rest_of (whole line) on [] in
     let cs : List Container = containers p in
     let none : last_in (spot p) ≡ None =
-        open-last (spot p).leaf (spot p).here
-        (lazy-open options (spot p).leaf rest lazy) in
+    open-last (spot p).leaf (spot p).here
+    (lazy-open options (spot p).leaf rest lazy) in
     record {
       front = refl;
       markers =

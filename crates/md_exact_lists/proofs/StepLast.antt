@@ -1,12 +1,11 @@
 -- Behind a line: the containers that are open, and the last block where the next one may come.
-use Rattle.std.proofs.Common.{◌≡◌, ℕ, zero, suc, ◌+◌, ◌≤◌, Bool, true, false, cond, ◌&&◌, not, List, [], ◌∷◌, ◌++◌}
-use Rattle.std.proofs.Common.{length, map, drop, refl, ap, ap₂, sym, ◌∙◌, subst, arith, rules}
+use Rattle.std.proofs.Common.{◌≡◌, ℕ, zero, suc, ◌≤◌, Bool, true, false, cond, ◌&&◌, not, List, [], ◌∷◌, ◌++◌}
+use Rattle.std.proofs.Common.{length, map, drop, refl, ap, sym, ◌∙◌, subst, arith, rules}
 use Rattle.std.specs.Prelude.{◌==◌, ◌||◌, Option, Some, None}
 use Rattle.std.specs.Option.{is_some}
 use Rattle.md_engine.specs.declared.configuration.ParseOptions.{ParseOptions}
 use Rattle.md_meaning.specs.Containers.{Taken, continues, opens}
-use Rattle.md_meaning.specs.Leaves.{LazyText, NoText, starts}
-use Rattle.md_meaning.specs.Leaves.{with_line}
+use Rattle.md_meaning.specs.Leaves.{LazyText, starts}
 use Rattle.md_meaning.specs.Rest.{Rest, is_blank}
 use Rattle.md_meaning.specs.State.{At, Container, InFootnote, InItem, InQuote, Innermost, Leaf, NoLeaf, OpenCode}
 use Rattle.md_meaning.specs.State.{OpenFence, OpenHtml, OpenParagraph, OpenTable}
@@ -15,11 +14,11 @@ use Rattle.md_meaning.specs.State.{then_block}
 use Rattle.md_meaning.specs.Step.{all_continued, all_continued_by, entered, fresh_line, is_concrete, is_open_text}
 use Rattle.md_meaning.specs.Step.{lazy_by, leaf_line, spot_of, step, stopped, stopped_by, with_lazy}
 use Rattle.md_meaning.specs.Step as step
-use Rattle.md_meaning.specs.Tree.{Block, Blocks, End}
+use Rattle.md_meaning.specs.Tree.{Blocks, End}
 use Rattle.md_meaning.proofs.ContainerLemmas.{opens-leaves}
 use Rattle.md_exact.specs.Prefixes.{behind_all, blocks_before, containers, gone_on, new_containers, opened}
 use Rattle.md_exact_lists.specs.Last.{HasLine, item_of, last_at, last_in, last_of, marker_in}
-use Rattle.md_exact_lists.proofs.LeafLast.{Ends, Met, fresh-blank, fresh-ends, last-then, leaf-last, meets}
+use Rattle.md_exact_lists.proofs.LeafLast.{Ends, fresh-blank, fresh-ends, last-then, leaf-last}
 
 -- the containers of what was taken
 abbrev pub held_in : List Taken → List Container
@@ -177,10 +176,10 @@ pub record Stays (p : Path) (on : List Taken) (after : Path) : Type 0 where
 
 pub record Facts (options : ParseOptions) (p : Path) (all : Bool) (r : Rest) (on new : List Taken) (after : Path) : Type 0
   where
-  pub opens : (t : Taken) (ts : List Taken) → new ≡ t ∷ ts → Opens p on (t ∷ ts) (rest_of r on (t ∷ ts)) after
-  pub keeps : new ≡ [] → lazy_of options p all (rest_of r on new) ≡ false →
-      Keeps options p all on (rest_of r on new) after
-  pub stays : new ≡ [] → lazy_of options p all (rest_of r on new) ≡ true → Stays p on after
+    pub opens : (t : Taken) (ts : List Taken) → new ≡ t ∷ ts → Opens p on (t ∷ ts) (rest_of r on (t ∷ ts)) after
+    pub keeps : new ≡ [] → lazy_of options p all (rest_of r on new) ≡ false →
+        Keeps options p all on (rest_of r on new) after
+    pub stays : new ≡ [] → lazy_of options p all (rest_of r on new) ≡ true → Stays p on after
 
 some-new : (t : Taken) (ts : List Taken) {X : Type 0} → t ∷ ts ≡ [] → X
 some-new t ts e = absurd (cc)

@@ -1,6 +1,6 @@
 -- The item that is last where a block may come: the list behind it goes on there, if that block is an item with its
 -- marker.
-use Rattle.std.specs.Prelude.{ℕ, zero, suc, Bool, false, ◌==◌, List, [], ◌∷◌, Option, Some, None}
+use Rattle.std.specs.Prelude.{ℕ, zero, suc, Bool, false, ◌==◌, [], Option, Some, None}
 use Rattle.md_meaning.specs.State.{At, Container, InFootnote, InItem, InQuote, Innermost, Leaf, NoLeaf, OpenParagraph}
 use Rattle.md_meaning.specs.State.{Path, Within}
 use Rattle.md_meaning.specs.Tree.{Block, Blocks, End, Item, More}

@@ -1,5 +1,5 @@
 -- The exact list of lines without the lists around its items, and what its rows owe so that these lists can be told.
-use Rattle.std.specs.Prelude.{◌≡◌, ℕ, Bool, true, false, ◌==◌, if◌then◌else◌, List, [], ◌∷◌, ◌++◌, length, get_or, map}
+use Rattle.std.specs.Prelude.{◌≡◌, ℕ, Bool, true, false, ◌==◌, if◌then◌else◌, List, [], ◌∷◌, ◌++◌, length, get_or}
 use Rattle.std.specs.Prelude.{Option, Some, None}
 use Rattle.md_engine.specs.declared.configuration.ParseOptions.{ParseOptions}
 use Rattle.md_engine.specs.declared.event.Event.{Event}
@@ -13,11 +13,11 @@ use Rattle.md_meaning.specs.Step.{step}
 use Rattle.md_seam.specs.Events.Nested.{enter, exit}
 use Rattle.md_seam.specs.Events.Spelled.{Role, role}
 use Rattle.md_containers.specs.Listed.{is_item, next_item}
-use Rattle.md_exact.specs.Blocks.{events_by, grouped, tail}
+use Rattle.md_exact.specs.Blocks.{events_by, tail}
 use Rattle.md_exact.specs.Places.{TextLine, is_same, past, place, whole}
 use Rattle.md_exact.specs.Prefixes.{behind_all, containers, footnote_prefix, gone_on, item_prefix, new_containers}
 use Rattle.md_exact.specs.Prefixes.{quote_prefix}
-use Rattle.md_exact.specs.Rows.{Row, container_name, is_blank_role, rows_of}
+use Rattle.md_exact.specs.Rows.{Row, container_name, is_blank_role}
 
 -- Without lists.
 
