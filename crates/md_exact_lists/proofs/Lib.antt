@@ -5,3 +5,4 @@ pub mod RowLast
 pub mod GroupEvents
 pub mod LineWalk
 pub mod ExactListed
+pub mod Markers
