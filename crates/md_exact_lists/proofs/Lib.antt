@@ -6,3 +6,4 @@ pub mod GroupEvents
 pub mod LineWalk
 pub mod ExactListed
 pub mod Markers
+pub mod LeafEvents
