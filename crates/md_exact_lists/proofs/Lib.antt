@@ -7,3 +7,4 @@ pub mod LineWalk
 pub mod ExactListed
 pub mod Markers
 pub mod LeafEvents
+pub mod TextEvents
