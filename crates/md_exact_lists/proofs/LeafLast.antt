@@ -42,82 +42,108 @@ abbrev pub Comes : LeafResult → Type 0
 Comes (Opened leaf) = IsBuilt leaf
 Comes (Finished block) = item_of block ≡ None
 
--- where a test passes, what is open or finished
+-- where a test passes, what is open
 opened-when : (x : Bool) (leaf : Leaf) → IsBuilt leaf → Finds (cond x (Some (Opened leaf)) None) Comes
 opened-when x leaf h = when-found Comes x (Some (Opened leaf)) (λ e. some-found Comes (Opened leaf) h)
 
-finished-when : (x : Bool) (b : Block) → item_of b ≡ None → Finds (cond x (Some (Finished b)) None) Comes
-finished-when x b h = when-found Comes x (Some (Finished b)) (λ e. some-found Comes (Finished b) h)
+-- what begins: code, a fence, HTML, a heading or a break
+abbrev pub Starts : LeafResult → Type 0
+Starts (Opened (OpenCode lines)) = Unit {0}
+Starts (Opened (OpenFence o lines)) = Unit {0}
+Starts (Opened (OpenHtml kind lines)) = Unit {0}
+Starts (Opened leaf) = ⊥
+Starts (Finished Break) = Unit {0}
+Starts (Finished (Heading depth lines)) = Unit {0}
+Starts (Finished (Html lines)) = Unit {0}
+Starts (Finished block) = ⊥
 
-fence-comes : (options : ParseOptions) (columns : ℕ) (bytes : List ℕ) → Finds (fence_from options columns bytes) Comes
-fence-comes options columns [] = none-found Comes
-fence-comes options columns (m ∷ bytes) =
+starts-come : (c : LeafResult) → Starts c → Comes c
+starts-come (Opened (OpenCode lines)) h = tt
+starts-come (Opened (OpenFence o lines)) h = tt
+starts-come (Opened (OpenHtml kind lines)) h = tt
+starts-come (Opened _) h = absurd h
+starts-come (Finished Break) h = refl
+starts-come (Finished (Heading depth lines)) h = refl
+starts-come (Finished (Html lines)) h = refl
+starts-come (Finished _) h = absurd h
+
+-- where a test passes
+when-starts : (x : Bool) (c : LeafResult) → Starts c → Finds (cond x (Some c) None) Starts
+when-starts x c h = when-found Starts x (Some c) (λ e. some-found Starts c h)
+
+fence-starts : (options : ParseOptions) (columns : ℕ) (bytes : List ℕ) → Finds (fence_from options columns bytes) Starts
+fence-starts options columns [] = none-found Starts
+fence-starts options columns (m ∷ bytes) =
     let size = run_len m (m ∷ bytes) in
     let after = drop size (m ∷ bytes) in
-    opened-when (is_fence_marker options m && nat_le (least_size m) size && allows m after)
-    (OpenFence (opening m size columns (trim_start after)) []) tt
+    when-starts (is_fence_marker options m && nat_le (least_size m) size && allows m after)
+    (Opened (OpenFence (opening m size columns (trim_start after)) [])) tt
 
-html_line-comes : (kind : HtmlKind) (lines : List Line) (r : Rest) → Comes (html_line kind lines r)
-html_line-comes kind lines r = go (html_ends kind r.bytes)
+html_line-starts : (kind : HtmlKind) (lines : List Line) (r : Rest) → Starts (html_line kind lines r)
+html_line-starts kind lines r = go (html_ends kind r.bytes)
   where
-    go : (x : Bool) → Comes (cond x (Finished (Html (lines ++ line_of r ∷ []))) (Opened (OpenHtml kind (lines ++ line_of r ∷ []))))
-    go true = refl
+    go : (x : Bool) → Starts (cond x (Finished (Html (lines ++ line_of r ∷ []))) (Opened (OpenHtml kind (lines ++ line_of r ∷ []))))
+    go true = tt
     go false = tt
 
-html-comes : (against : ParagraphContext) (r : Rest) (kind : Option HtmlKind) → Finds (html_by against r kind) Comes
-html-comes against r None = none-found Comes
-html-comes against r (Some kind) =
-    when-found Comes (may_start against kind) (Some (html_line kind [] r))
-    (λ e. some-found Comes (html_line kind [] r) (html_line-comes kind [] r))
+html-starts : (against : ParagraphContext) (r : Rest) (kind : Option HtmlKind) → Finds (html_by against r kind) Starts
+html-starts against r None = none-found Starts
+html-starts against r (Some kind) =
+    when-found Starts (may_start against kind) (Some (html_line kind [] r))
+    (λ e. some-found Starts (html_line kind [] r) (html_line-starts kind [] r))
 
-code_at-comes : (options : ParseOptions) (against : ParagraphContext) (r : Rest) →
-    Finds (code_at options against r) Comes
+code_at-starts : (options : ParseOptions) (against : ParagraphContext) (r : Rest) →
+    Finds (code_at options against r) Starts
 unfolding code_at
-code_at-comes options against r =
-    opened-when (options.constructs.code_indented && is_free against && nat_le 4 (indent r))
-    (OpenCode (code_line r ∷ [])) tt
+code_at-starts options against r =
+    when-starts (options.constructs.code_indented && is_free against && nat_le 4 (indent r))
+    (Opened (OpenCode (code_line r ∷ []))) tt
 
-fence_at-comes : (options : ParseOptions) (r : Rest) → Finds (fence_at options r) Comes
+fence_at-starts : (options : ParseOptions) (r : Rest) → Finds (fence_at options r) Starts
 unfolding fence_at
-fence_at-comes options r =
-    when-found Comes (has_small_indent options r) (fence_from options (indent r) (trim_start r.bytes))
-    (λ e. fence-comes options (indent r) (trim_start r.bytes))
+fence_at-starts options r =
+    when-found Starts (has_small_indent options r) (fence_from options (indent r) (trim_start r.bytes))
+    (λ e. fence-starts options (indent r) (trim_start r.bytes))
 
-html_at-comes : (options : ParseOptions) (against : ParagraphContext) (r : Rest) →
-    Finds (html_at options against r) Comes
+html_at-starts : (options : ParseOptions) (against : ParagraphContext) (r : Rest) →
+    Finds (html_at options against r) Starts
 unfolding html_at
-html_at-comes options against r =
-    when-found Comes (options.constructs.html_flow && has_small_indent options r)
-    (html_by against r (html_kind (trim_start r.bytes))) (λ e. html-comes against r (html_kind (trim_start r.bytes)))
+html_at-starts options against r =
+    when-found Starts (options.constructs.html_flow && has_small_indent options r)
+    (html_by against r (html_kind (trim_start r.bytes))) (λ e. html-starts against r (html_kind (trim_start r.bytes)))
 
-heading_at-comes : (options : ParseOptions) (r : Rest) → Finds (heading_at options r) Comes
+heading_at-starts : (options : ParseOptions) (r : Rest) → Finds (heading_at options r) Starts
 unfolding heading_at
-heading_at-comes options r =
+heading_at-starts options r =
     let text = trim_start r.bytes in
     let depth = run_len hash text in
-    finished-when
+    when-starts
     (options.constructs.heading_atx && has_small_indent options r && nat_le 1 depth && nat_le depth 6
     && is_parted (drop depth text))
-    (Heading depth (heading_lines (heading_text (drop depth text)))) refl
+    (Finished (Heading depth (heading_lines (heading_text (drop depth text))))) tt
 
-break_at-comes : (options : ParseOptions) (r : Rest) → Finds (break_at options r) Comes
+break_at-starts : (options : ParseOptions) (r : Rest) → Finds (break_at options r) Starts
 unfolding break_at
-break_at-comes options r =
-    finished-when
-    (options.constructs.thematic_break && has_small_indent options r && is_rule (trim_start r.bytes)) Break refl
+break_at-starts options r =
+    when-starts
+    (options.constructs.thematic_break && has_small_indent options r && is_rule (trim_start r.bytes)) (Finished Break) tt
+
+pub leaf-starts : (options : ParseOptions) (against : ParagraphContext) (r : Rest) →
+    Finds (starts options against r) Starts
+unfolding starts
+leaf-starts options against r =
+    let heading = option_or (heading_at options r) (break_at options r) in
+    let html = option_or (html_at options against r) heading in
+    first-found Starts (code_at options against r) (option_or (fence_at options r) html)
+    (code_at-starts options against r)
+    (first-found Starts (fence_at options r) html (fence_at-starts options r)
+    (first-found Starts (html_at options against r) heading (html_at-starts options against r)
+    (first-found Starts (heading_at options r) (break_at options r) (heading_at-starts options r)
+    (break_at-starts options r))))
 
 pub starts-comes : (options : ParseOptions) (against : ParagraphContext) (r : Rest) →
     Finds (starts options against r) Comes
-unfolding starts
-starts-comes options against r =
-    let heading = option_or (heading_at options r) (break_at options r) in
-    let html = option_or (html_at options against r) heading in
-    first-found Comes (code_at options against r) (option_or (fence_at options r) html)
-    (code_at-comes options against r)
-    (first-found Comes (fence_at options r) html (fence_at-comes options r)
-    (first-found Comes (html_at options against r) heading (html_at-comes options against r)
-    (first-found Comes (heading_at options r) (break_at options r) (heading_at-comes options r)
-    (break_at-comes options r))))
+starts-comes options against r = λ c e. starts-come c (leaf-starts options against r c e)
 
 fence_block-comes : (o : Opening) (lines : List Line) (closed : Bool) → item_of (fence_block o lines closed) ≡ None
 fence_block-comes o lines closed = go (o.marker == dollar)
@@ -147,7 +173,8 @@ html_on-comes : (kind : HtmlKind) (lines : List Line) (r : Rest) → Finds (html
 unfolding html_goes_on
 html_on-comes kind lines r =
     unless-found Comes (ends_at_blank kind && is_blank r.bytes) (Some (html_line kind lines r))
-    (some-found Comes (html_line kind lines r) (html_line-comes kind lines r))
+    (some-found Comes (html_line kind lines r)
+    (starts-come (html_line kind lines r) (html_line-starts kind lines r)))
 
 table_on-comes : (options : ParseOptions) (delimiter : List ℕ) (rows : List (List (List ℕ))) (r : Rest) →
     Finds (table_goes_on options delimiter rows r) Comes
@@ -378,15 +405,16 @@ unmet-line options s r (OpenTable delimiter rows) h e l =
 
 -- What a line is.
 
-first-cases : (P : Role → Type 0) → ((c : LeafResult) → P (First c)) → (o : Option LeafResult) (role : Role) → P role →
-    P (first_or role o)
-first-cases P first None role h = h
-first-cases P first (Some c) role h = first c
+first-cases : (P : Role → Type 0) (o : Option LeafResult) → Finds o (λ (c : LeafResult). P (First c)) → (role : Role) →
+    P role → P (first_or role o)
+first-cases P None first role h = h
+first-cases P (Some c) first role h = first c refl
 
 -- one that goes on no leaf and is not blank
-fresh-cases : (P : Role → Type 0) → ((c : LeafResult) → P (First c)) → P FirstText → P FurtherText → P Underline →
-    P Delimiter → (options : ParseOptions) (leaf : Leaf) (r : Rest) → P (fresh_role options leaf r)
-fresh-cases P first text further under row options (OpenParagraph lines) r =
+pub fresh-cases : (P : Role → Type 0) (options : ParseOptions) (leaf : Leaf) (r : Rest) →
+    ((against : ParagraphContext) → Finds (starts options against r) (λ (c : LeafResult). P (First c))) →
+    P FirstText → P FurtherText → P Underline → P Delimiter → P (fresh_role options leaf r)
+fresh-cases P options (OpenParagraph lines) r first text further under row =
     go (is_some (underline_depth options r)) (nat_lt 0 (length (cut options (texts lines)).1))
     (is_some (table_at options End lines r))
   where
@@ -399,17 +427,17 @@ fresh-cases P first text further under row options (OpenParagraph lines) r =
         (cond x (cond y Underline FurtherText) (first_or (cond z Delimiter FurtherText) (starts options Text r)))
     go true true z = under
     go true false z = further
-    go false y z = first-cases P first (starts options Text r) (cond z Delimiter FurtherText) (last z)
-fresh-cases P first text further under row options NoLeaf r =
-    first-cases P first (starts options NoText r) FirstText text
-fresh-cases P first text further under row options (OpenCode lines) r =
-    first-cases P first (starts options NoText r) FirstText text
-fresh-cases P first text further under row options (OpenFence o lines) r =
-    first-cases P first (starts options NoText r) FirstText text
-fresh-cases P first text further under row options (OpenHtml kind lines) r =
-    first-cases P first (starts options NoText r) FirstText text
-fresh-cases P first text further under row options (OpenTable delimiter rows) r =
-    first-cases P first (starts options NoText r) FirstText text
+    go false y z = first-cases P (starts options Text r) (first Text) (cond z Delimiter FurtherText) (last z)
+fresh-cases P options NoLeaf r first text further under row =
+    first-cases P (starts options NoText r) (first NoText) FirstText text
+fresh-cases P options (OpenCode lines) r first text further under row =
+    first-cases P (starts options NoText r) (first NoText) FirstText text
+fresh-cases P options (OpenFence o lines) r first text further under row =
+    first-cases P (starts options NoText r) (first NoText) FirstText text
+fresh-cases P options (OpenHtml kind lines) r first text further under row =
+    first-cases P (starts options NoText r) (first NoText) FirstText text
+fresh-cases P options (OpenTable delimiter rows) r first text further under row =
+    first-cases P (starts options NoText r) (first NoText) FirstText text
 
 -- what is open behind a line that is this: no leaf behind a blank one, and code behind one of code
 abbrev pub IsCode : Leaf → Type 0
@@ -481,6 +509,7 @@ meets options s r h = go (is_some (goes_on options s.leaf r)) refl (is_blank r.b
         }
     go false e false b =
         ends false false e b
-        (fresh-cases (λ (a : Role). is_blank_role a ≡ false) (λ c. refl) refl refl refl refl options s.leaf r)
-        (fresh-cases (λ (a : Role). Leaves a (leaf_line options s r).leaf) (λ c. tt) tt tt tt tt options s.leaf r)
+        (fresh-cases (λ (a : Role). is_blank_role a ≡ false) options s.leaf r (λ against c e. refl) refl refl refl refl)
+        (fresh-cases (λ (a : Role). Leaves a (leaf_line options s r).leaf) options s.leaf r (λ against c e. tt) tt tt
+        tt tt)
         ((unmet-line options s r s.leaf h e refl).other b)
