@@ -30,7 +30,7 @@ use Rattle.md_exact_lists.proofs.RowLast.{remains-facts}
 -- Any line.
 
 -- by whether containers open on it
-by-new : {X : Type 0} (options : ParseOptions) (p : Path) (line : TextLine) →
+pub by-new : {X : Type 0} (options : ParseOptions) (p : Path) (line : TextLine) →
     ((t : Taken) (ts : List Taken) → new_on options p line ≡ t ∷ ts → X) → (new_on options p line ≡ [] → X) → X
 by-new {X} options p line some none = go (new_on options p line) refl
   where
@@ -38,14 +38,14 @@ by-new {X} options p line some none = go (new_on options p line) refl
     go [] e = none e
     go (t ∷ ts) e = some t ts e
 
-line-text : (options : ParseOptions) (p : Path) (line : TextLine) → HasLine (spot p).leaf →
+pub line-text : (options : ParseOptions) (p : Path) (line : TextLine) → HasLine (spot p).leaf →
     HasLine (spot (after options p line)).leaf
 line-text options p line h =
     by-new options p line (λ t ts e. (begins-facts options p line [] h t ts e).opens.ends.text)
     (λ e. (remains-facts options p line [] h e).text)
 
 -- a line that goes on a leaf meets one that is open
-open-follows : (options : ParseOptions) (p : Path) (lines : List TextLine) → HasLine (spot p).leaf →
+pub open-follows : (options : ParseOptions) (p : Path) (lines : List TextLine) → HasLine (spot p).leaf →
     blocks.goes_on (next_role (rows_of options p lines)) ≡ true →
     Follows (spot p).leaf (next_role (rows_of options p lines))
 open-follows options p [] h goes = absurd (cc)

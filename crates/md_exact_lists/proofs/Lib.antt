@@ -8,3 +8,4 @@ pub mod ExactListed
 pub mod Markers
 pub mod LeafEvents
 pub mod TextEvents
+pub mod LeavesStand

@@ -1,6 +1,6 @@
 -- The events of texts: they hold no item, and the first block in them is a definition, a paragraph or a heading.
-use Rattle.std.proofs.Common.{◌≡◌, ℕ, zero, suc, ◌+◌, ◌-◌, Bool, true, false, cond, ◌&&◌, List, [], ◌∷◌, ◌++◌, length, take}
-use Rattle.std.proofs.Common.{drop, refl, ap, sym, ◌∙◌, subst, arith, rules, append_assoc}
+use Rattle.std.proofs.Common.{◌≡◌, ℕ, zero, suc, ◌+◌, ◌-◌, Bool, true, false, cond, ◌&&◌, not, List, [], ◌∷◌, ◌++◌, length}
+use Rattle.std.proofs.Common.{take, drop, refl, ap, sym, ◌∙◌, subst, arith, rules, append_assoc}
 use Rattle.std.specs.Prelude.{◌==◌, Option, Some, None}
 use Rattle.std.specs.List.{before_first, position_or_len}
 use Rattle.std.specs.Option.{is_some}
@@ -366,3 +366,136 @@ text_events-items remain h (suc size) rows k =
         (way end (end-further first first-further)))
         more
     go more false = h rows k
+
+-- The first block.
+
+-- whatever stands behind these events, the next block in front of them is in them, and no item
+abbrev pub Leads : List ℕ → List Event → Type 0
+Leads bytes es = (rest : List Event) → next_item bytes (es ++ rest) ≡ None
+
+pub leads-append : (bytes : List ℕ) (es fs : List Event) → Leads bytes es → Leads bytes (es ++ fs)
+leads-append bytes es fs h = λ rest. ap (next_item bytes) (append_assoc es fs rest) ∙ h (fs ++ rest)
+
+pub leads-behind : (bytes : List ℕ) (es fs : List Event) → NoneIs is_block es → Leads bytes fs → Leads bytes (es ++ fs)
+leads-behind bytes es fs h k =
+    λ rest. ap (next_item bytes) (append_assoc es fs rest) ∙ next-passes bytes es (fs ++ rest) h ∙ k rest
+
+abbrev Filled : List Event → Type 0
+Filled [] = ⊥
+Filled (e ∷ es) = Unit {0}
+
+spanned-leads : (bytes : List ℕ) (rows ends : List Row) (es : List Event) → Filled es →
+    Leads bytes (spanned n.Paragraph rows ends es)
+spanned-leads bytes rows ends [] h = absurd h
+spanned-leads bytes rows ends (e ∷ es) h = λ rest. refl
+
+-- a line that is not blank, and several lines, have chunks
+filled-unlike : (line : TextLine) (r : Rest) → is_blank r.bytes ≡ false → is_same r (line_end line) ≡ false
+filled-unlike line r h = go r.bytes h
+  where
+    some : (n : ℕ) → (suc n == 0) ≡ false
+    some n = search rules
+
+    go : (bytes : List ℕ) → is_blank bytes ≡ false → ((length bytes == 0) && (r.spaces == 0)) ≡ false
+    go [] e = absurd (cc)
+    go (b ∷ bytes) e = ap (λ (x : Bool). x && (r.spaces == 0)) (some (length bytes))
+
+one-filled : (row end : Row) → is_same row.rest end.rest ≡ false → Filled (chunks Text (row ∷ []) (end ∷ []))
+one-filled row end h =
+    subst (λ (x : Bool). Filled (cond x [] (chunk Text (start (row ∷ [])) (start (end ∷ []))))) (sym h) tt
+
+more-filled : (row next : Row) (rows : List Row) (end : Row) → Filled (chunks Text (row ∷ next ∷ rows) (end ∷ []))
+more-filled row next rows end =
+    subst
+    (λ (x : Bool).
+    Filled
+    (cond x (cond (is_same row.rest end.rest) [] (chunk Text (start (row ∷ next ∷ rows)) (start (end ∷ []))))
+    (chunk Text (start (row ∷ next ∷ rows)) (next_line row.line) ++ next.front
+    ++ chunks Text (next ∷ rows) (end ∷ []))))
+    (sym (some (length rows))) tt
+  where
+    some : (n : ℕ) → (suc n == 0) ≡ false
+    some n = search rules
+
+remaining-leads : (bytes : List ℕ) (unders : List Row) (row : Row) (rows : List Row) →
+    is_blank row.rest.bytes ≡ false → Leads bytes (remaining unders (row ∷ rows))
+remaining-leads bytes (under ∷ unders) row rows h = λ rest. refl
+remaining-leads bytes [] row [] h =
+    let end : Row = record row { rest = line_end row.line } in
+    spanned-leads bytes (row ∷ []) (end ∷ []) (chunks Text (row ∷ []) (end ∷ []))
+    (one-filled row end (filled-unlike row.line row.rest h))
+remaining-leads bytes [] row (next ∷ rows) h =
+    let last = last-one next rows in
+    subst (λ (ends : List Row). Leads bytes (text_span Text n.Paragraph (row ∷ next ∷ rows) ends)) (sym last.is)
+    (spanned-leads bytes (row ∷ next ∷ rows) (last.end ∷ []) (chunks Text (row ∷ next ∷ rows) (last.end ∷ []))
+    (more-filled row next rows last.end))
+
+text_events-leads : (bytes : List ℕ) (unders : List Row) (size : ℕ) (row : Row) (rows : List Row) →
+    is_blank row.rest.bytes ≡ false → Plain rows →
+    Leads bytes (text_events (remaining unders) size (row ∷ rows))
+text_events-leads bytes unders zero row rows h k = remaining-leads bytes unders row rows h
+text_events-leads bytes unders (suc size) row rows h k = go (is_some (definition_at (lines_left first)))
+  where
+    first : List Row
+    first = on_first behind_indent (row ∷ rows)
+
+    end : List Row
+    end = definition_end first
+
+    more : List Event
+    more = text_events (remaining unders) size (drop 1 end)
+
+    way : List Event
+    way = gap (row ∷ rows) first
+
+    go : (x : Bool) →
+        Leads bytes (cond x (way ++ definition first ++ onto_next end ++ more) (remaining unders (row ∷ rows)))
+    go true =
+        leads-append bytes (way ++ definition first ++ onto_next end) more
+        (leads-append bytes (way ++ definition first) (onto_next end)
+        (leads-behind bytes way (definition first) (gap-none (row ∷ rows) first k) (λ rest. refl)))
+    go false = remaining-leads bytes unders row rows h
+
+-- A text that begins with a line that is not blank.
+pub record IsText (bytes : List ℕ) (events : List Event) : Type 0 where
+  pub items : NoItem events
+  pub leads : Leads bytes events
+
+pub text-is : (options : ParseOptions) (bytes : List ℕ) (row : Row) (rows : List Row) →
+    is_underline row.role ≡ false → is_blank row.rest.bytes ≡ false → Plain rows →
+    IsText bytes (text options (row ∷ rows))
+text-is options bytes row rows first filled plain = subst Of (sym lines) (by options.constructs.definition)
+  where
+    size : ℕ
+    size = position_or_len (λ (r : Row). is_underline r.role) rows
+
+    Of : List Row → Type 0
+    Of lines =
+        IsText bytes
+        (text_events (remaining (drop (length lines) (row ∷ rows)))
+        (cond options.constructs.definition (length lines) 0) lines)
+
+    more : 1 + size ≡ suc size
+    more = omega arith
+
+    lines : before_first (λ (r : Row). is_underline r.role) (row ∷ rows) ≡ row ∷ take size rows
+    lines =
+        ap (λ (x : Bool). take (cond (not x) (1 + size) 0) (row ∷ rows)) first
+        ∙ ap (λ (n : ℕ). take n (row ∷ rows)) more
+
+    unders : List Row
+    unders = drop (length (take size rows)) rows
+
+    by : (x : Bool) →
+        IsText bytes
+        (text_events (remaining unders) (cond x (length (row ∷ take size rows)) 0) (row ∷ take size rows))
+    by x =
+        let n : ℕ = cond x (length (row ∷ take size rows)) 0 in
+        record {
+          items =
+              text_events-items (remaining unders)
+              (λ lines h. remaining-items unders lines (drop-plain (length (take size rows)) rows plain) h) n
+              (row ∷ take size rows) (take-plain size rows plain);
+          leads =
+              text_events-leads bytes unders n row (take size rows) filled (take-plain size rows plain);
+        }
