@@ -42,8 +42,8 @@ item-around name p q inside h k = (h, item-append inside (exit name q ∷ []) k 
 pub item-white : (line : TextLine) (r s : Rest) → NoItem (white line r s)
 item-white line r s = none-piece is_item line n.SpaceOrTab r s refl
 
-pub item-chunk : (content : Content) (p q : Point) → NoItem (chunk content p q)
-item-chunk content p q = (refl, (refl, tt))
+pub item-chunk : (c : Content) (p q : Point) → NoItem (chunk c p q)
+item-chunk c p q = (refl, (refl, tt))
 
 item-text : (line : TextLine) (content : Content) (name : Name) (r s : Rest) → is_item (role name) ≡ false →
     NoItem (text_part line content name r s)

@@ -9,3 +9,4 @@ pub mod Markers
 pub mod LeafEvents
 pub mod TextEvents
 pub mod LeavesStand
+pub mod ExactText

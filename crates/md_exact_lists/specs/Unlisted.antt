@@ -1,5 +1,5 @@
 -- The exact list of lines without the lists around its items, and what its rows owe so that these lists can be told.
-use Rattle.std.specs.Prelude.{◌≡◌, ℕ, Bool, true, false, ◌==◌, if◌then◌else◌, List, [], ◌∷◌, ◌++◌, length, get_or}
+use Rattle.std.specs.Prelude.{◌≡◌, ℕ, Bool, true, false, ◌==◌, if◌then◌else◌, List, [], ◌∷◌, ◌++◌, length, get_or, map, take, drop}
 use Rattle.std.specs.Prelude.{Option, Some, None}
 use Rattle.md_engine.specs.declared.configuration.ParseOptions.{ParseOptions}
 use Rattle.md_engine.specs.declared.event.Event.{Event}
@@ -7,17 +7,22 @@ use Rattle.md_engine.specs.declared.event.Name.{Name}
 use Rattle.md_engine.specs.declared.event.Name.TheVariants as n
 use Rattle.md_engine.specs.declared.event.Point.{Point}
 use Rattle.md_meaning.specs.Containers.{Taken}
+use Rattle.md_meaning.specs.Preamble.{without_mark}
 use Rattle.md_meaning.specs.Rest.{Rest, behind_indent}
-use Rattle.md_meaning.specs.State.{Container, InFootnote, InItem, InQuote, Path}
-use Rattle.md_meaning.specs.Step.{step}
+use Rattle.md_meaning.specs.State.{At, Container, InFootnote, InItem, InQuote, Path}
+use Rattle.md_meaning.specs.Step.{spot_of, step}
+use Rattle.md_meaning.specs.Texts.{first_byte}
+use Rattle.md_meaning.specs.Tree.{End}
 use Rattle.md_seam.specs.Events.Nested.{enter, exit}
 use Rattle.md_seam.specs.Events.Spelled.{Role, role}
 use Rattle.md_containers.specs.Listed.{is_item, next_item}
-use Rattle.md_exact.specs.Blocks.{events_by, tail}
+use Rattle.md_exact.specs.Blocks.{events_by, front_line, front_row, front_size, grouped, mark_events, tail}
+use Rattle.md_exact.specs.Blocks.{text_lines}
+use Rattle.md_exact.specs.Leaves.{leaf}
 use Rattle.md_exact.specs.Places.{TextLine, is_same, past, place, whole}
 use Rattle.md_exact.specs.Prefixes.{behind_all, containers, footnote_prefix, gone_on, item_prefix, new_containers}
 use Rattle.md_exact.specs.Prefixes.{quote_prefix}
-use Rattle.md_exact.specs.Rows.{Row, container_name, is_blank_role}
+use Rattle.md_exact.specs.Rows.{Row, container_name, is_blank_role, rows_of}
 
 -- Without lists.
 
@@ -39,6 +44,15 @@ unlisted_group options (row ∷ rows) =
 abbrev pub unlisted_groups : ParseOptions → List (List Row) → List Event
 unlisted_groups options [] = []
 unlisted_groups options (group ∷ groups) = unlisted_group options group ++ unlisted_groups options groups
+
+-- The events of a text without its lists: its mark, its frontmatter, and the lines of its body.
+abbrev pub unlisted : ParseOptions → List ℕ → List Event
+unlisted options source =
+    let size = front_size options source in
+    let front = map front_row (take size (text_lines source)) in
+    mark_events source
+    ++ leaf n.Frontmatter (front_line (first_byte (without_mark source))) front ++ tail front
+    ++ unlisted_groups options (grouped (rows_of options (At (spot_of End)) (drop size (text_lines source))))
 
 -- Containers, without lists.
 
