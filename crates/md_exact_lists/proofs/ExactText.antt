@@ -1,8 +1,8 @@
 -- The exact list of a text is the one without lists, with the lists put around its items.
-use Rattle.std.proofs.Common.{◌≡◌, ℕ, zero, suc, ◌+◌, ◌≤◌, Bool, true, false, cond, not, List, [], ◌∷◌, ◌++◌, length, map}
-use Rattle.std.proofs.Common.{take, drop, refl, ap, sym, ◌∙◌, subst, arith, append_assoc}
-use Rattle.std.specs.Prelude.{◌||◌}
-use Rattle.std.specs.List.{concat, onto_first, prefix_len, take_while}
+use Rattle.std.proofs.Common.{◌≡◌, ℕ, zero, suc, ◌+◌, Bool, true, false, cond, not, List, [], ◌∷◌, ◌++◌, length}
+use Rattle.std.proofs.Common.{map}
+use Rattle.std.proofs.Common.{take, drop, refl, ap, sym, ◌∙◌, append_assoc}
+use Rattle.std.specs.List.{concat, onto_first, prefix_len}
 use Rattle.std.proofs.Math.Seq.{drop-append_seam}
 use Rattle.std.proofs.lemmas.List.{drop-drop}
 use Rattle.md_engine.specs.declared.configuration.ParseOptions.{ParseOptions}
@@ -11,7 +11,6 @@ use Rattle.md_engine.specs.declared.event.Name.TheVariants as n
 use Rattle.md_meaning.specs.Bytes.{is_end}
 use Rattle.md_meaning.specs.Lines.{ends_line, full_lines_of, is_ending, without_ending}
 use Rattle.md_meaning.specs.Preamble.{first_column, has_mark, is_front_fence, without_mark}
-use Rattle.md_meaning.specs.Rest.{Rest}
 use Rattle.md_meaning.specs.Texts.{first_byte}
 use Rattle.md_seam.specs.Events.Nested.{pair}
 use Rattle.md_seam.specs.Events.Places.{first_point}
@@ -19,13 +18,12 @@ use Rattle.md_containers.specs.Listed.{is_item, listed}
 use Rattle.md_exact.specs.Blocks.{exact, front_line, front_row, front_size, mark_events, tail, text_lines}
 use Rattle.md_exact.specs.Leaves.{leaf}
 use Rattle.md_exact.specs.Places.{TextLine, ending, line_at, line_end, lines_from, part, past, piece, white}
-use Rattle.md_exact.specs.Rows.{Row}
-use Rattle.md_exact_lists.specs.Unlisted.{LinesStand, NoneIs, unlisted}
+use Rattle.md_exact_lists.specs.Unlisted.{unlisted}
 use Rattle.md_exact_lists.proofs.ExactListed.{begun, body-listed}
 use Rattle.md_exact_lists.proofs.GroupEvents.{ending-none, tail_name}
 use Rattle.md_exact_lists.proofs.LeafEvents.{NoItem, OfLines, Plain, item-append, item-white, leaf-items}
 use Rattle.md_exact_lists.proofs.LeavesStand.{leaves-stand}
-use Rattle.md_exact_lists.proofs.ListWalk.{none-append, none-items, none-part, none-piece}
+use Rattle.md_exact_lists.proofs.ListWalk.{none-items, none-part, none-piece}
 use Rattle.md_exact_lists.proofs.Markers.{AreIn, IsIn, lines-stand}
 
 -- The lines of a text stand in it.
@@ -128,7 +126,8 @@ rows-plain (line ∷ lines) = (tt, rows-plain lines)
 front-items : (m : ℕ) (lines : List TextLine) → NoItem (leaf n.Frontmatter (front_line m) (map front_row lines))
 front-items m [] = tt
 front-items m (line ∷ lines) =
-    leaf-items n.Frontmatter (front_line m) refl (line-items m) (front_row line) (map front_row lines) (rows-plain lines)
+    leaf-items n.Frontmatter (front_line m) refl (line-items m) (front_row line) (map front_row lines)
+    (rows-plain lines)
 
 tail-items : (lines : List TextLine) → NoItem (tail (map front_row lines))
 tail-items [] = tt

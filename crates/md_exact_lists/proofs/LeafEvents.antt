@@ -1,5 +1,5 @@
 -- The events of leaves other than text: they hold no item.
-use Rattle.std.proofs.Common.{◌≡◌, ℕ, zero, suc, Bool, true, false, cond, List, [], ◌∷◌, ◌++◌, length, take, drop, refl}
+use Rattle.std.proofs.Common.{◌≡◌, ℕ, zero, suc, Bool, true, false, cond, List, [], ◌∷◌, ◌++◌, length, take, refl}
 use Rattle.std.specs.Prelude.{◌==◌}
 use Rattle.md_engine.specs.declared.configuration.ParseOptions.{ParseOptions}
 use Rattle.md_engine.specs.declared.event.Content.{Content}
@@ -16,7 +16,7 @@ use Rattle.md_meaning.specs.State.{Opening}
 use Rattle.md_meaning.specs.Texts.{first_byte}
 use Rattle.md_seam.specs.Events.Blocks.{is_block}
 use Rattle.md_seam.specs.Events.Nested.{around, exit, pair}
-use Rattle.md_seam.specs.Events.Spelled.{Role, role}
+use Rattle.md_seam.specs.Events.Spelled.{role}
 use Rattle.md_containers.specs.Listed.{is_item}
 use Rattle.md_exact.specs.Leaves.{Inner, cell_content, cell_dashes, cell_len, cell_text, cells, content_line, fence}
 use Rattle.md_exact.specs.Leaves.{fence_part, fenced_line, first_end, for_marker, heading_line, info_parts, joined}
@@ -340,7 +340,8 @@ table-items head under body h =
     (item-append (first ++ way) second
     (item-append first way (row-items n.GfmTableRow n.GfmTableCell refl refl cell_text text-cells head.line head.rest)
     (none-items way (next-none head (under ∷ []) (h.0, tt))))
-    (row-items n.GfmTableDelimiterRow n.GfmTableDelimiterCell refl refl cell_dashes dashes-cells under.line under.rest)))
+    (row-items n.GfmTableDelimiterRow n.GfmTableDelimiterCell refl refl cell_dashes dashes-cells under.line
+    under.rest)))
     (none-items (onto_next (under ∷ body)) (next-none under body h.1)))
     (by body h.1))
   where

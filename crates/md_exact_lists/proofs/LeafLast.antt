@@ -1,5 +1,6 @@
 -- Behind a line that opens no container: what is the last block of the innermost container.
-use Rattle.std.proofs.Common.{◌≡◌, ℕ, Bool, true, false, cond, ◌&&◌, List, [], ◌∷◌, ◌++◌, drop, length, refl, ap, ap₂, sym}
+use Rattle.std.proofs.Common.{◌≡◌, ℕ, Bool, true, false, cond, ◌&&◌, List, [], ◌∷◌, ◌++◌, drop, length, refl, ap, ap₂}
+use Rattle.std.proofs.Common.{sym}
 use Rattle.std.proofs.Common.{subst}
 use Rattle.std.proofs.Common.{◌∙◌}
 use Rattle.std.specs.Prelude.{◌||◌, ◌==◌, nat_le, nat_lt, reverse, Option, Some, None}
@@ -82,7 +83,8 @@ fence-starts options columns (m ∷ bytes) =
 html_line-starts : (kind : HtmlKind) (lines : List Line) (r : Rest) → Starts (html_line kind lines r)
 html_line-starts kind lines r = go (html_ends kind r.bytes)
   where
-    go : (x : Bool) → Starts (cond x (Finished (Html (lines ++ line_of r ∷ []))) (Opened (OpenHtml kind (lines ++ line_of r ∷ []))))
+    go : (x : Bool) → Starts (cond x (Finished (Html (lines ++ line_of r ∷ [])))
+        (Opened (OpenHtml kind (lines ++ line_of r ∷ []))))
     go true = tt
     go false = tt
 
@@ -126,7 +128,8 @@ break_at-starts : (options : ParseOptions) (r : Rest) → Finds (break_at option
 unfolding break_at
 break_at-starts options r =
     when-starts
-    (options.constructs.thematic_break && has_small_indent options r && is_rule (trim_start r.bytes)) (Finished Break) tt
+    (options.constructs.thematic_break && has_small_indent options r && is_rule (trim_start r.bytes))
+    (Finished Break) tt
 
 pub leaf-starts : (options : ParseOptions) (against : ParagraphContext) (r : Rest) →
     Finds (starts options against r) Starts
@@ -296,7 +299,8 @@ table-ends options bs lines r =
     (table_by options bs (reverse lines) (trim r.bytes) (delimiter_columns (trim r.bytes)))
     (λ e. by (reverse lines) (delimiter_columns (trim r.bytes)))
   where
-    by : (before : List ParagraphLine) (columns : Option ℕ) → Finds (table_by options bs before (trim r.bytes) columns) Ends
+    by : (before : List ParagraphLine) (columns : Option ℕ) →
+        Finds (table_by options bs before (trim r.bytes) columns) Ends
     by [] columns = none-found Ends
     by (k ∷ before) None = none-found Ends
     by (k ∷ before) (Some columns) =
@@ -357,22 +361,19 @@ pub further-ends : (options : ParseOptions) (s : Innermost) (r : Rest) → is_so
     Ends (leaf_line options s r)
 further-ends options s r e = go s.leaf refl
   where
+    goes : Leaf → Bool
+    goes leaf = is_some (goes_on options leaf r)
+
+    on : (leaf : Leaf) → s.leaf ≡ leaf → Ends (on_or_fresh options s r (goes_on options leaf r))
+    on leaf l = on-ends options s r (goes_on options leaf r) (goes_on-comes options leaf r) (ap goes (sym l) ∙ e)
+
     go : (leaf : Leaf) → s.leaf ≡ leaf → Ends (leaf_line_by options s r leaf)
-    go NoLeaf l = let none : is_some (goes_on options NoLeaf r) ≡ true = ap (λ (x : Leaf). is_some (goes_on options x r)) (sym l) ∙ e in absurd (cc)
-    go (OpenParagraph lines) l = let none : is_some (goes_on options (OpenParagraph lines) r) ≡ true = ap (λ (x : Leaf). is_some (goes_on options x r)) (sym l) ∙ e in absurd (cc)
-    go (OpenCode lines) l =
-        on-ends options s r (goes_on options (OpenCode lines) r) (goes_on-comes options (OpenCode lines) r)
-        (ap (λ (x : Leaf). is_some (goes_on options x r)) (sym l) ∙ e)
-    go (OpenFence o lines) l =
-        on-ends options s r (goes_on options (OpenFence o lines) r) (goes_on-comes options (OpenFence o lines) r)
-        (ap (λ (x : Leaf). is_some (goes_on options x r)) (sym l) ∙ e)
-    go (OpenHtml kind lines) l =
-        on-ends options s r (goes_on options (OpenHtml kind lines) r) (goes_on-comes options (OpenHtml kind lines) r)
-        (ap (λ (x : Leaf). is_some (goes_on options x r)) (sym l) ∙ e)
-    go (OpenTable delimiter rows) l =
-        on-ends options s r (goes_on options (OpenTable delimiter rows) r)
-        (goes_on-comes options (OpenTable delimiter rows) r)
-        (ap (λ (x : Leaf). is_some (goes_on options x r)) (sym l) ∙ e)
+    go NoLeaf l = let none : goes NoLeaf ≡ true = ap goes (sym l) ∙ e in absurd (cc)
+    go (OpenParagraph lines) l = let none : goes (OpenParagraph lines) ≡ true = ap goes (sym l) ∙ e in absurd (cc)
+    go (OpenCode lines) l = on (OpenCode lines) l
+    go (OpenFence o lines) l = on (OpenFence o lines) l
+    go (OpenHtml kind lines) l = on (OpenHtml kind lines) l
+    go (OpenTable delimiter rows) l = on (OpenTable delimiter rows) l
 
 -- one that does not: blank, or any other
 record Unmet (options : ParseOptions) (s : Innermost) (r : Rest) (after : Innermost) : Type 0 where
@@ -399,7 +400,8 @@ unmet-line options s r (OpenParagraph lines) h e l = record {
 }
 unmet-line options s r (OpenCode lines) h e l = unmet-closed options s r (goes_on options (OpenCode lines) r) e
 unmet-line options s r (OpenFence o lines) h e l = unmet-closed options s r (goes_on options (OpenFence o lines) r) e
-unmet-line options s r (OpenHtml kind lines) h e l = unmet-closed options s r (goes_on options (OpenHtml kind lines) r) e
+unmet-line options s r (OpenHtml kind lines) h e l =
+    unmet-closed options s r (goes_on options (OpenHtml kind lines) r) e
 unmet-line options s r (OpenTable delimiter rows) h e l =
     unmet-closed options s r (goes_on options (OpenTable delimiter rows) r) e
 

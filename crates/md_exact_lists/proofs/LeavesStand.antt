@@ -1,44 +1,43 @@
 -- Each leaf of the lines of a body holds no item, and is the next block for what stands in front of it.
-use Rattle.std.proofs.Common.{◌≡◌, ℕ, Bool, true, false, cond, ◌&&◌, List, [], ◌∷◌, ◌++◌, length, refl, ap, sym, ◌∙◌}
+use Rattle.std.proofs.Common.{◌≡◌, ℕ, Bool, true, false, cond, List, [], ◌∷◌, ◌++◌, refl, ap, sym, ◌∙◌}
 use Rattle.std.proofs.Common.{subst, append-nil}
-use Rattle.std.specs.Prelude.{◌==◌, Option, Some, None}
+use Rattle.std.specs.Prelude.{◌==◌, None}
 use Rattle.std.specs.Option.{is_some}
 use Rattle.md_engine.specs.declared.configuration.ParseOptions.{ParseOptions}
 use Rattle.md_engine.specs.declared.event.Event.{Event}
 use Rattle.md_engine.specs.declared.event.Name.TheVariants as n
 use Rattle.md_engine.specs.declared.event.Point.{Point}
 use Rattle.md_meaning.specs.Ascii.{dollar}
-use Rattle.md_meaning.specs.Leaves.{Finished, LeafResult, Opened, ParagraphContext, goes_on, starts}
+use Rattle.md_meaning.specs.Leaves.{Finished, LeafResult, Opened, goes_on}
 use Rattle.md_meaning.specs.Rest.{Rest, behind_indent, is_blank}
-use Rattle.md_meaning.specs.State.{Leaf, NoLeaf, OpenCode, OpenFence, OpenHtml, OpenParagraph, OpenTable, Opening, Path}
+use Rattle.md_meaning.specs.State.{Leaf, OpenCode, OpenFence, OpenHtml, Path}
 use Rattle.md_meaning.specs.State.{spot}
-use Rattle.md_meaning.specs.Step.{with_lazy}
-use Rattle.md_meaning.specs.Tree.{Block, Break, Heading, Html}
-use Rattle.md_meaning.proofs.FindsLemmas.{Finds}
+use Rattle.md_meaning.specs.Tree.{Break, Heading, Html}
 use Rattle.md_seam.specs.Events.Blocks.{is_block}
 use Rattle.md_seam.specs.Events.Nested.{enter, exit}
 use Rattle.md_seam.specs.Events.Spelled.{role}
 use Rattle.md_containers.specs.Listed.{next_item}
 use Rattle.md_exact.specs.Blocks as blocks
 use Rattle.md_exact.specs.Blocks.{grouped, leaf_events}
-use Rattle.md_exact.specs.Leaves.{content_line, fence, fence_part, fenced_line, for_marker, heading_line, info_parts}
+use Rattle.md_exact.specs.Leaves.{content_line, fence_part, fenced_line, for_marker, heading_line, info_parts}
 use Rattle.md_exact.specs.Leaves.{joined, last_end, leaf, onto_next, runs_line, span, start}
-use Rattle.md_exact.specs.Places.{TextLine, piece, white, whole}
+use Rattle.md_exact.specs.Places.{TextLine, white, whole}
 use Rattle.md_exact.specs.Prefixes.{further_prefixes}
 use Rattle.md_exact.specs.Rows.{BehindCode, Blank, Delimiter, First, FirstText, Further, FurtherText, Head, Role, Row}
 use Rattle.md_exact.specs.Rows.{Underline, fresh_role, is_blank_role, next_role, role_before, role_on, row_of, rows_of}
 use Rattle.md_exact.specs.Texts.{is_underline}
 use Rattle.md_exact_lists.specs.Last.{HasLine}
-use Rattle.md_exact_lists.specs.Unlisted.{IsLeaf, LeafStands, LeavesStand, NoneIs}
+use Rattle.md_exact_lists.specs.Unlisted.{IsLeaf, LeavesStand, NoneIs}
 use Rattle.md_exact_lists.proofs.ExactListed.{line-text, by-new, begun, body_rows, open-follows}
 use Rattle.md_exact_lists.proofs.GroupEvents.{first_group, grouped-first, rest_groups}
-use Rattle.md_exact_lists.proofs.LeafEvents.{NoItem, OfLines, Plain, content-items, fence-items, heading-items, leaf-items}
+use Rattle.md_exact_lists.proofs.LeafEvents.{Plain, content-items, fence-items, heading-items}
+use Rattle.md_exact_lists.proofs.LeafEvents.{leaf-items}
 use Rattle.md_exact_lists.proofs.LeafEvents.{runs_line-items, table-items}
 use Rattle.md_exact_lists.proofs.LeafLast.{Starts, fresh-cases, leaf-starts}
 use Rattle.md_exact_lists.proofs.LineWalk.{after}
 use Rattle.md_exact_lists.proofs.ListWalk.{further-none, none-piece}
 use Rattle.md_exact_lists.proofs.RowLast.{begins-facts, on_of, remains-facts}
-use Rattle.md_exact_lists.proofs.TextEvents.{Leads, leads-append, leads-behind, text-is}
+use Rattle.md_exact_lists.proofs.TextEvents.{Leads, leads-behind, text-is}
 
 -- What is known of a line by what it is.
 
@@ -159,8 +158,8 @@ first-is options bytes (Opened (OpenFence o lines)) row rows h k = record {
   next =
       let first : Row = record row { rest = behind_indent row.rest } in
       let inside =
-          fence_part o.marker row.line first.rest (info_parts o.marker row.line) ++ onto_next (row ∷ rows)
-          ++ joined (fenced_line options o) rows in
+      fence_part o.marker row.line first.rest (info_parts o.marker row.line) ++ onto_next (row ∷ rows)
+      ++ joined (fenced_line options o) rows in
       let end = exit (for_marker o.marker n.CodeFenced n.MathFlow) (start (last_end (first ∷ rows))) in
       leads-behind bytes (white row.line row.rest first.rest)
       (span (for_marker o.marker n.CodeFenced n.MathFlow) (first ∷ rows) (last_end (first ∷ rows)) inside)
@@ -215,8 +214,11 @@ group-plain : (options : ParseOptions) (p : Path) (lines : List TextLine) → Ha
     blocks.goes_on (next_role (rows_of options p lines)) ≡ true → Plain (first_group (rows_of options p lines))
 group-plain options p [] h goes = tt
 group-plain options p (line ∷ lines) h goes =
-    (front, go (blocks.goes_on (next_role below)) refl (group-plain options (after options p line) lines (line-text options p line h)))
+    (front, go (blocks.goes_on (next_role below)) refl (group-plain options after_line lines (line-text options p line h)))
   where
+    after_line : Path
+    after_line = after options p line
+
     below : List Row
     below = rows_of options (after options p line) lines
 
@@ -268,12 +270,14 @@ line-leaves : (options : ParseOptions) (bytes : List ℕ) (p : Path) (line : Tex
 line-leaves options bytes p line lines h more = record {
   all =
       λ first.
-      subst (LeavesStand options bytes) (sym (grouped-first row below))
-      ((λ filled.
-      leaf-is options bytes (next_role below) row.role row further refl (row-needs options p line below) first filled
-      (λ goes. some-first below (blocks.goes_on (next_role below)) goes goes)
-      (further-plain options p line lines h)),
-      rest);
+      subst (LeavesStand options bytes) (sym (grouped-first row below)) (
+        (λ filled.
+            leaf-is options bytes (next_role below) row.role row further refl (row-needs options p line below) first
+            filled
+            (λ goes. some-first below (blocks.goes_on (next_role below)) goes goes)
+            (further-plain options p line lines h)),
+        rest,
+      );
   rest = rest;
 }
   where

@@ -3,6 +3,7 @@ pub mod StepLast
 pub mod ListWalk
 pub mod RowLast
 pub mod GroupEvents
+pub mod RowEvents
 pub mod LineWalk
 pub mod ExactListed
 pub mod Markers

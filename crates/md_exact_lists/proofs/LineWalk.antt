@@ -56,7 +56,8 @@ one-of false n m h = h
 pub stays-fewer : (options : ParseOptions) (p : Path) (lines : List TextLine) →
     next_stays (rows_of options p lines) ≤ length (containers p)
 stays-fewer options p [] = omega arith
-stays-fewer options p (line ∷ lines) = one-of _ (length (containers p)) (length (on_of options p line)) (gone-fewer options p (whole line))
+stays-fewer options p (line ∷ lines) = one-of _ (length (containers p)) (length (on_of options p line))
+    (gone-fewer options p (whole line))
 
 -- the list of an item ends where a container around it does
 ended-not : (options : ParseOptions) (deep m : ℕ) (below : List Row) → suc (next_stays below) ≤ deep →
@@ -120,11 +121,13 @@ ended-plain options after line below row is =
     (ap without_lists is.ends
     ∙ ends-without (next_stays below) (drop (next_stays below) (containers after)) (place line (line_end line)) below)
 
-pub ended-walk : (options : ParseOptions) (bytes : List ℕ) (after : Path) (line : TextLine) (below : List Row) (row : Row) →
+pub ended-walk : (options : ParseOptions) (bytes : List ℕ) (after : Path) (line : TextLine) (below : List Row)
+    (row : Row) →
     Ending after line below row → NextTold options bytes below → FrontListed options bytes after below →
     BehindListed options bytes after (row ∷ below)
 ended-walk options bytes after line below row is told front =
-    ap (λ (es : List Event). listed_from bytes (behind_place bytes after es) es) (ended-plain options after line below row is)
+    ap (λ (es : List Event). listed_from bytes (behind_place bytes after es) es)
+    (ended-plain options after line below row is)
     ∙ go cs-left refl ∙ sym listed
   where
     size : ℕ
@@ -156,13 +159,15 @@ ended-walk options bytes after line below row is told front =
         (at (goes_between last (next_item bytes (end ++ more))) (markers_from [] (take size cs))) (end ++ more)
         ≡ end ++ all_events options below
     over last e =
-        ap₂ (λ (x : Option ℕ) (y : Option ℕ). listed_from bytes (at (goes_between x y) (markers_from [] (take size cs))) (end ++ more))
+        ap₂ (λ (x : Option ℕ) (y : Option ℕ). listed_from bytes (at (goes_between x y)
+        (markers_from [] (take size cs))) (end ++ more))
         e (next-passes bytes end more (ending-none row))
         ∙ walk-passes bytes (front_place options bytes after below) end more (none-items end (ending-none row))
         ∙ ap (λ (l : List Event). end ++ l) front
 
     go : (left : List Container) → drop size cs ≡ left →
-        listed_from bytes (behind_place bytes after (plain_ends left p ++ (end ++ more))) (plain_ends left p ++ (end ++ more))
+        listed_from bytes (behind_place bytes after (plain_ends left p ++ (end ++ more)))
+        (plain_ends left p ++ (end ++ more))
         ≡ ends_from size left p below ++ (end ++ all_events options below)
     go [] e =
         let none : length cs - size ≡ 0 = sym (length-drop size cs) ∙ ap (λ (l : List Container). length l) e in
@@ -242,13 +247,15 @@ abbrev prefixes : ParseOptions → Path → TextLine → List Event
 prefixes options p line = further_prefixes line (whole line) (on_of options p line)
 
 -- where containers open
-pub begins-listed : (options : ParseOptions) (bytes : List ℕ) (p : Path) (line : TextLine) (below : List Row) (row : Row)
+pub begins-listed : (options : ParseOptions) (bytes : List ℕ) (p : Path) (line : TextLine) (below : List Row)
+    (row : Row)
     (t : Taken) (ts : List Taken) → Begins options p line row t ts →
     MarkersStand bytes line (behind_all (whole line) (on_of options p line)) (t ∷ ts) →
     Stands bytes row.role (first_leaf options row below) →
     BehindListed options bytes (after options p line) (row ∷ below) → FrontListed options bytes p (row ∷ below)
 begins-listed options bytes p line below row t ts is markers leaf behind =
-    ap (λ (es : List Event). listed_from bytes (at (goes_between (last_at row.stays p) (next_item bytes es)) ms) es) plain
+    ap (λ (es : List Event). listed_from bytes (at (goes_between (last_at row.stays p)
+    (next_item bytes es)) ms) es) plain
     ∙ ap (λ (w : Bool). listed_from bytes (at w ms) (front ++ (opening ++ rest))) within
     ∙ walk-passes bytes (at first ms) front (opening ++ rest) (none-items front further)
     ∙ ap (λ (l : List Event). front ++ l)
@@ -260,8 +267,10 @@ begins-listed options bytes p line below row t ts is markers leaf behind =
     ∙ ap (λ (l : List Event). leaf_events ++ l)
     (ap
     (λ (w : Bool).
-    listed_from bytes (at w (markers_from [] (containers (after options p line)))) (unlisted_behind options (row ∷ below)))
-    (ap (λ (x : Option ℕ). goes_between x (next_item bytes (unlisted_behind options (row ∷ below)))) (sym is.opens.ends.last))
+    listed_from bytes (at w (markers_from [] (containers (after options p line))))
+    (unlisted_behind options (row ∷ below)))
+    (ap (λ (x : Option ℕ). goes_between x (next_item bytes (unlisted_behind options (row ∷ below))))
+    (sym is.opens.ends.last))
     ∙ behind)))
     ∙ sym (append_assoc front lists (leaf_events ++ behind_leaf options (row ∷ below)))
     ∙ ap (λ (l : List Event). l ++ (leaf_events ++ behind_leaf options (row ∷ below))) (sym is.front)
@@ -318,14 +327,16 @@ begins-listed options bytes p line below row t ts is markers leaf behind =
         ∙ ap (markers_from []) (sym is.opens.held)
 
 -- where none opens: a blank line stands between blocks, and a leaf is a block
-pub remains-listed : (options : ParseOptions) (bytes : List ℕ) (p : Path) (line : TextLine) (below : List Row) (row : Row) →
+pub remains-listed : (options : ParseOptions) (bytes : List ℕ) (p : Path) (line : TextLine) (below : List Row)
+    (row : Row) →
     Remains options p line below row → row.held ≡ containers (after options p line) →
     Stands bytes row.role (first_leaf options row below) →
     (is_blank_role row.role ≡ true → blocks.goes_on (next_role below) ≡ false) →
     (blocks.goes_on (next_role below) ≡ true → last_in (spot (after options p line)) ≡ None) →
     BehindListed options bytes (after options p line) (row ∷ below) → FrontListed options bytes p (row ∷ below)
 remains-listed options bytes p line below row is held leaf alone opened behind =
-    ap (λ (es : List Event). listed_from bytes (at (goes_between (last_at row.stays p) (next_item bytes es)) ms) es) plain
+    ap (λ (es : List Event). listed_from bytes (at (goes_between (last_at row.stays p)
+    (next_item bytes es)) ms) es) plain
     ∙ ap₂ (λ (w : Bool) (ns : List ℕ). listed_from bytes (at w ns) (front ++ rest))
     (within (is_blank_role row.role) refl) (sym is.markers ∙ ap (markers_from []) held)
     ∙ walk-passes bytes place_behind front rest (none-items front further)
@@ -497,7 +508,8 @@ ended-told options bytes after line below row is told m =
         ended-not options (length cs) m below (omega (arith, some))
         ∙ ap (goes_on m) (sym (ends-next bytes c left p (end ++ more)))
 
-pub remains-told : (options : ParseOptions) (bytes : List ℕ) (p : Path) (line : TextLine) (below : List Row) (row : Row) →
+pub remains-told : (options : ParseOptions) (bytes : List ℕ) (p : Path) (line : TextLine) (below : List Row)
+    (row : Row) →
     Remains options p line below row → row.held ≡ containers (after options p line) →
     Stands bytes row.role (first_leaf options row below) →
     (is_blank_role row.role ≡ true → Ending (after options p line) line below row) →

@@ -1,5 +1,6 @@
 -- The walk that puts lists around items, over the events of containers that open and end.
-use Rattle.std.proofs.Common.{◌≡◌, ℕ, suc, ◌≤◌, Bool, true, false, cond, ◌&&◌, List, [], ◌∷◌, ◌++◌, length, refl, ap, ap₂, sym}
+use Rattle.std.proofs.Common.{◌≡◌, ℕ, suc, ◌≤◌, Bool, true, false, cond, ◌&&◌, List, [], ◌∷◌, ◌++◌, length, refl, ap}
+use Rattle.std.proofs.Common.{ap₂, sym}
 use Rattle.std.proofs.Common.{◌∙◌, arith, append_assoc}
 use Rattle.std.specs.Prelude.{◌||◌, get_or, Option, Some, None}
 use Rattle.md_engine.specs.declared.event.Event.{Event}
@@ -22,11 +23,13 @@ use Rattle.md_containers.specs.Listed.{Place, goes_on, is_item, is_marker, liste
 use Rattle.md_containers.specs.Listed.{list_begin, list_name, marker_by, next_item}
 use Rattle.md_containers.proofs.ListedLemmas.{passes-given}
 use Rattle.md_exact.specs.Places.{TextLine, chunk, is_same, part, past, piece, place, text_part, white}
-use Rattle.md_exact.specs.Prefixes.{alert_part, begin, begins, blocks_before, end_in_item, footnote_prefix, further_prefix}
+use Rattle.md_exact.specs.Prefixes.{alert_part, begin, begins, blocks_before, end_in_item, footnote_prefix}
+use Rattle.md_exact.specs.Prefixes.{further_prefix}
 use Rattle.md_exact.specs.Prefixes.{further_prefixes, item_prefix, quote_prefix}
 use Rattle.md_exact.specs.Rows.{Row, container_name, ends_from, list_ends, list_goes_on}
 use Rattle.md_exact_lists.specs.Last.{goes_between, last_of, marker_in}
-use Rattle.md_exact_lists.specs.Unlisted.{MarkerAt, MarkerStands, MarkersStand, NoneIs, opening_prefix, plain_begin, plain_begins}
+use Rattle.md_exact_lists.specs.Unlisted.{MarkerAt, MarkerStands, MarkersStand, NoneIs, opening_prefix, plain_begin}
+use Rattle.md_exact_lists.specs.Unlisted.{plain_begins}
 use Rattle.md_exact_lists.specs.Unlisted.{plain_ends, pushed}
 use Rattle.md_exact_lists.proofs.StepLast.{held_in}
 
@@ -170,7 +173,8 @@ quote-none line kind r s =
     none-append is_block (white line r marker)
     (part line n.BlockQuotePrefix marker s (mark ++ white line after column ++ alert_part line kind column s))
     (white-none line r marker)
-    (none-part is_block line n.BlockQuotePrefix marker s (mark ++ white line after column ++ alert_part line kind column s) refl
+    (none-part is_block line n.BlockQuotePrefix marker s (mark ++ white line after column
+    ++ alert_part line kind column s) refl
     (none-append is_block (mark ++ white line after column) (alert_part line kind column s)
     (none-append is_block mark (white line after column)
     (none-piece is_block line n.BlockQuoteMarker marker after refl) (white-none line after column))
@@ -215,7 +219,8 @@ footnote-none line label r s =
     let whole = part line n.GfmFootnoteDefinitionLabel bracket colon inside in
     let mark = piece line n.DefinitionMarker colon after in
     none-append is_block (white line r bracket)
-    (part line n.GfmFootnoteDefinitionPrefix bracket s (whole ++ mark ++ white line after s)) (white-none line r bracket)
+    (part line n.GfmFootnoteDefinitionPrefix bracket s (whole ++ mark ++ white line after s))
+    (white-none line r bracket)
     (none-part is_block line n.GfmFootnoteDefinitionPrefix bracket s (whole ++ mark ++ white line after s) refl
     (none-append is_block (whole ++ mark) (white line after s)
     (none-append is_block whole mark
@@ -353,7 +358,8 @@ pub begins-walk : (bytes : List ℕ) (line : TextLine) (after : Path) (depth : �
 begins-walk bytes line after depth r t ts within ms rest h e deeper =
     let plain : List Event = plain_begin line t.container r t.rest in
     let first : List Event = begin line after depth t.container r t.rest in
-    ap (listed_from bytes (record { within = within; markers = ms })) (append_assoc plain (plain_begins line t.rest ts) rest)
+    ap (listed_from bytes (record { within = within; markers = ms }))
+    (append_assoc plain (plain_begins line t.rest ts) rest)
     ∙ begin-walk bytes line after depth t.container r t.rest within ms (plain_begins line t.rest ts ++ rest) h.0 e
     ∙ ap (λ (l : List Event). first ++ l)
     (inner-walk bytes line after (suc depth) t.rest ts (pushed ms (marker_in t.container)) rest h.1 deeper)

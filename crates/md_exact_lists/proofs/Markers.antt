@@ -1,6 +1,7 @@
 -- The marker of an item that opens stands in the text, a byte behind its digits: what is left of a line is its end.
-use Rattle.std.proofs.Common.{◌≡◌, ℕ, zero, suc, ◌+◌, ◌-◌, Bool, true, false, cond, ◌&&◌, not, List, [], ◌∷◌, ◌++◌, length}
-use Rattle.std.proofs.Common.{take, drop, refl, ap, ap₂, sym, ◌∙◌, subst, arith, append_assoc}
+use Rattle.std.proofs.Common.{◌≡◌, ℕ, zero, suc, ◌+◌, ◌-◌, Bool, true, false, cond, ◌&&◌, not, List, [], ◌∷◌, ◌++◌}
+use Rattle.std.proofs.Common.{length}
+use Rattle.std.proofs.Common.{take, drop, refl, ap, sym, ◌∙◌, arith, append_assoc}
 use Rattle.std.specs.Prelude.{◌==◌, ◌||◌, get_or, nat_eq, nat_le, Option, Some, None}
 use Rattle.std.specs.List.{starts_with, take_while}
 use Rattle.std.specs.Option.{option_or}
@@ -12,15 +13,17 @@ use Rattle.md_meaning.specs.declared.alert.AlertKind.{AlertKind}
 use Rattle.md_meaning.specs.Alert.{alert_at, marker_of}
 use Rattle.md_meaning.specs.Ascii.{caret, dot, left_bracket, right_parenthesis}
 use Rattle.md_meaning.specs.Containers.{Labelled, Marker, Taken, continues, footnote_by, footnote_continues}
-use Rattle.md_meaning.specs.Containers.{footnote_label, is_bullet, is_digit, item_by, item_continues, item_padding, item_with, list_marker}
+use Rattle.md_meaning.specs.Containers.{footnote_label, is_bullet, is_digit, item_by, item_continues, item_padding}
+use Rattle.md_meaning.specs.Containers.{list_marker}
 use Rattle.md_meaning.specs.Containers.{marker_behind, opens, opens_footnote, opens_item, opens_quote, quote_taken}
 use Rattle.md_meaning.specs.Containers.{taken_as, with_kind}
 use Rattle.md_meaning.specs.Ascii.{space, tab}
-use Rattle.md_meaning.specs.Rest.{Rest, behind, behind_indent, has_small_indent, indent, is_blank, lose, tab_columns, without_column}
+use Rattle.md_meaning.specs.Rest.{Rest, behind, behind_indent, has_small_indent, indent, is_blank, lose, tab_columns}
+use Rattle.md_meaning.specs.Rest.{without_column}
 use Rattle.md_meaning.specs.State.{At, Container, InFootnote, InItem, InQuote, Path, Within, spot}
 use Rattle.md_meaning.specs.Step.{is_concrete, is_open_text, step}
 use Rattle.md_meaning.proofs.FindsLemmas.{Finds, first-found, none-found, some-found, when-found}
-use Rattle.md_exact.specs.Places.{TextLine, is_same, past, place, whole}
+use Rattle.md_exact.specs.Places.{TextLine, whole}
 use Rattle.md_exact.specs.Prefixes.{behind_all, containers, gone_on, new_containers, opened}
 use Rattle.md_exact_lists.specs.Unlisted.{LinesStand, MarkerAt, MarkerStands, MarkersStand}
 
@@ -71,7 +74,8 @@ behind-end n r = drop-end n r.bytes
 
 -- behind so many bytes of it, and then so many columns
 behind-lose : (n m : ℕ) (r : Rest) → EndsWith r.bytes (lose m (behind n r)).bytes
-behind-lose n m r = ends-on r.bytes (behind n r).bytes (lose m (behind n r)).bytes (behind-end n r) (lose-end m (behind n r))
+behind-lose n m r = ends-on r.bytes (behind n r).bytes (lose m (behind n r)).bytes (behind-end n r)
+    (lose-end m (behind n r))
 
 -- Containers.
 
@@ -116,7 +120,8 @@ IsQuote c = ⊥
 kind-leaves : (options : ParseOptions) (r : Rest) (o : Option Taken) → Finds o (Leaves r) →
     Finds (with_kind options o) (Leaves r)
 kind-leaves options r None h = none-found (Leaves r)
-kind-leaves options r (Some t) h = some-found (Leaves r) (taken_as t (alert_at options t.rest)) (go (alert_at options t.rest))
+kind-leaves options r (Some t) h = some-found (Leaves r) (taken_as t (alert_at options t.rest))
+    (go (alert_at options t.rest))
   where
     go : (a : Option AlertKind) → Leaves r (taken_as t a)
     go None = h t refl
@@ -369,9 +374,10 @@ opened-at options text line interrupting (suc n) r in_text end =
         let new : List Taken = elim o [ Some t ↦ t ∷ opened options false n t.rest | None ↦ [] ] in
         MarkersStand text line r new
     go below None h = tt
-    go below (Some t) h =
-        (container-at text line r t.container in_text end (h t refl).marked,
-        below t.rest (ends-on line.bytes r.bytes t.rest.bytes end (h t refl).end))
+    go below (Some t) h = (
+      container-at text line r t.container in_text end (h t refl).marked,
+      below t.rest (ends-on line.bytes r.bytes t.rest.bytes end (h t refl).end),
+    )
 
 new-at : (options : ParseOptions) (text : List ℕ) (line : TextLine) (p : Path) (all : Bool) (r : Rest) →
     IsIn text line → EndsWith line.bytes r.bytes → MarkersStand text line r (new_containers options p all r)
@@ -393,7 +399,8 @@ pub lines-stand : (options : ParseOptions) (text : List ℕ) (p : Path) (lines :
     LinesStand options text p lines
 lines-stand options text p [] h = tt
 lines-stand options text p (line ∷ lines) h =
-    let on : List Taken = gone_on options p (whole line) in
-    (new-at options text line p (length on == length (containers p)) (behind_all (whole line) on) h.0
-    (gone-end options p (whole line)),
-    lines-stand options text (step options p (whole line)) lines h.1)
+    let on : List Taken = gone_on options p (whole line) in (
+      new-at options text line p (length on == length (containers p)) (behind_all (whole line) on) h.0
+          (gone-end options p (whole line)),
+      lines-stand options text (step options p (whole line)) lines h.1,
+    )

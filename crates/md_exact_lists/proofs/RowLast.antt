@@ -51,7 +51,8 @@ quote-marker : (options : ParseOptions) (kind : Option AlertKind) (r : Rest) →
 unfolding quote_taken
 quote-marker options kind r = go _ _
   where
-    go : (x : Bool) (s : Rest) → Finds (cond x (Some (record { container = InQuote kind; rest = s })) None) (HasMarker None)
+    go : (x : Bool) (s : Rest) →
+        Finds (cond x (Some (record { container = InQuote kind; rest = s })) None) (HasMarker None)
     go x s =
         when-found (HasMarker None) x (Some (record { container = InQuote kind; rest = s }))
         (λ e. some-found (HasMarker None) (record { container = InQuote kind; rest = s }) refl)
@@ -61,18 +62,20 @@ item-keeps : (digits : List ℕ) (marker width : ℕ) (starts_blank : Bool) (r :
 unfolding item_continues
 item-keeps digits marker width starts_blank r = go _ _
   where
-    go : (x : Bool) (s : Rest) →
-        Finds (cond x (Some (record { container = InItem digits marker width false; rest = s })) None)
-        (HasMarker (Some marker))
+    item : Rest → Taken
+    item s = record { container = InItem digits marker width false; rest = s }
+
+    go : (x : Bool) (s : Rest) → Finds (cond x (Some (item s)) None) (HasMarker (Some marker))
     go x s =
-        when-found (HasMarker (Some marker)) x (Some (record { container = InItem digits marker width false; rest = s }))
-        (λ e. some-found (HasMarker (Some marker)) (record { container = InItem digits marker width false; rest = s }) refl)
+        when-found (HasMarker (Some marker)) x (Some (item s))
+        (λ e. some-found (HasMarker (Some marker)) (item s) refl)
 
 footnote-keeps : (label : List ℕ) (r : Rest) → Finds (footnote_continues label r) (HasMarker None)
 unfolding footnote_continues
 footnote-keeps label r = go _ _
   where
-    go : (x : Bool) (s : Rest) → Finds (cond x (Some (record { container = InFootnote label; rest = s })) None) (HasMarker None)
+    go : (x : Bool) (s : Rest) →
+        Finds (cond x (Some (record { container = InFootnote label; rest = s })) None) (HasMarker None)
     go x s =
         when-found (HasMarker None) x (Some (record { container = InFootnote label; rest = s }))
         (λ e. some-found (HasMarker None) (record { container = InFootnote label; rest = s }) refl)
@@ -200,7 +203,8 @@ pub before-last : (next : Role) (r : Rest) (role : Role) (x : Option ℕ) → bl
     (blocks.goes_on role ≡ true → x ≡ None) →
     cond (is_blank_role role) x None ≡ cond (is_blank_role (role_before next r role)) x None
 before-last next r role x e h =
-    behind-last r role x h ∙ ap (λ (a : Role). cond (is_blank_role a) x None) (sym (code-before next r role (none-back next e)))
+    behind-last r role x h
+    ∙ ap (λ (a : Role). cond (is_blank_role a) x None) (sym (code-before next r role (none-back next e)))
 
 -- a line goes on a leaf by what it meets alone
 before-goes : (next : Role) (r : Rest) (role : Role) → blocks.goes_on (role_before next r role) ≡ true →
@@ -421,7 +425,8 @@ begins-row options p line below t ts e =
     ap (λ (new : List Taken). by new (length new == 0)) e
     ∙ ap (by (t ∷ ts)) (some-size (length ts))
     ∙ ap (row_by options p line below (t ∷ ts) false)
-    (never (all_of options p line) (is_some (with_lazy options (spot p).leaf (rest_of (whole line) (on_of options p line) (t ∷ ts)))))
+    (never (all_of options p line) (is_some (with_lazy options (spot p).leaf (rest_of (whole line)
+    (on_of options p line) (t ∷ ts)))))
   where
     by : List Taken → Bool → Row
     by new none =
@@ -443,7 +448,8 @@ keeps-row : (options : ParseOptions) (p : Path) (line : TextLine) (below : List 
 keeps-row options p line below e =
     ap by e
     ∙ ap (row_by options p line below [] true)
-    (always (all_of options p line) (is_some (with_lazy options (spot p).leaf (rest_of (whole line) (on_of options p line) []))))
+    (always (all_of options p line) (is_some (with_lazy options (spot p).leaf (rest_of (whole line)
+    (on_of options p line) []))))
   where
     by : List Taken → Row
     by new =
@@ -503,7 +509,8 @@ begins-facts options p line below h t ts is_new =
     blank e =
         ((step-facts options p (whole line) h).opens t ts is_new).blank
         (first-blank (next_role below) rest (is_blank rest.bytes) (starts options NoText rest)
-        (ap (λ (a : Role). is_blank_role (role_before (next_role below) rest a)) (sym (none (all_of options p line))) ∙ e))
+        (ap (λ (a : Role). is_blank_role (role_before (next_role below) rest a))
+        (sym (none (all_of options p line))) ∙ e))
 
     first : (x : Bool) → blocks.goes_on role ≡ x → x ≡ false
     first true goes =

@@ -120,7 +120,10 @@ opened-inside options (suc n) r = go (opened-inside options n) (opens options fa
   where
     go : ((s : Rest) → Inside s (step.opened options n s) (opened options false n s)) → (o : Option Taken) →
         Inside r
-        (elim o [ Some t ↦ Within End t.container (step.opened options n t.rest) | None ↦ At (fresh_line options End r) ])
+        (elim o [
+          | Some t ↦ Within End t.container (step.opened options n t.rest)
+          | None ↦ At (fresh_line options End r)
+        ])
         (elim o [ Some t ↦ t ∷ opened options false n t.rest | None ↦ [] ])
     go below None = fresh-inside options r
     go below (Some t) =
@@ -162,7 +165,8 @@ pub record Opens (p : Path) (on new : List Taken) (rest : Rest) (after : Path) :
   pub inside : (depth : ℕ) → suc (length on) ≤ depth → blocks_before depth after ≡ End
 
 -- none opens, and the line is not lazy: behind the containers that go on it meets a leaf
-pub record Keeps (options : ParseOptions) (p : Path) (all : Bool) (on : List Taken) (rest : Rest) (after : Path) : Type 0 where
+pub record Keeps (options : ParseOptions) (p : Path) (all : Bool) (on : List Taken) (rest : Rest)
+    (after : Path) : Type 0 where
   pub met : Innermost
   pub leaf : met.leaf ≡ cond all (spot p).leaf NoLeaf
   pub last : last_in met ≡ last_at (length on) p
@@ -174,7 +178,8 @@ pub record Stays (p : Path) (on : List Taken) (after : Path) : Type 0 where
   pub held : containers after ≡ held_in on ++ drop (length on) (containers p)
   pub ends : Ends (spot after)
 
-pub record Facts (options : ParseOptions) (p : Path) (all : Bool) (r : Rest) (on new : List Taken) (after : Path) : Type 0
+pub record Facts (options : ParseOptions) (p : Path) (all : Bool) (r : Rest) (on new : List Taken)
+    (after : Path) : Type 0
   where
     pub opens : (t : Taken) (ts : List Taken) → new ≡ t ∷ ts → Opens p on (t ∷ ts) (rest_of r on (t ∷ ts)) after
     pub keeps : new ≡ [] → lazy_of options p all (rest_of r on new) ≡ false →
@@ -190,18 +195,20 @@ deeper bs c p h zero le = absurd (omega arith)
 deeper bs c p h (suc depth) le = h depth
 
 -- where a container opens behind these blocks
-enter-facts : (options : ParseOptions) (p : Path) (all : Bool) (r : Rest) (bs : Blocks) (t : Taken) → last_of bs ≡ last_at 0 p →
+enter-facts : (options : ParseOptions) (p : Path) (all : Bool) (r : Rest) (bs : Blocks) (t : Taken) →
+    last_of bs ≡ last_at 0 p →
     Facts options p all r [] (first_new options (Some t)) (entered options bs t)
 enter-facts options p all r bs t e =
     let inside = opened-inside options (length t.rest.bytes) t.rest in
     record {
-      opens = λ u us same. subst (λ (ts : List Taken). Opens p [] ts (rest_of r [] ts) (entered options bs t)) same (record {
-        held = ap (λ (cs : List Container). t.container ∷ cs) inside.held;
-        blank = inside.blank;
-        ends = inside.ends;
-        before = e;
-        inside = deeper bs t.container (step.opened options (length t.rest.bytes) t.rest) inside.before;
-      });
+      opens = λ u us same. subst (λ (ts : List Taken). Opens p [] ts (rest_of r [] ts)
+          (entered options bs t)) same (record {
+            held = ap (λ (cs : List Container). t.container ∷ cs) inside.held;
+            blank = inside.blank;
+            ends = inside.ends;
+            before = e;
+            inside = deeper bs t.container (step.opened options (length t.rest.bytes) t.rest) inside.before;
+          });
       keeps = λ none. some-new t (opened options false (length t.rest.bytes) t.rest) none;
       stays = λ none. some-new t (opened options false (length t.rest.bytes) t.rest) none;
     }
@@ -209,7 +216,8 @@ enter-facts options p all r bs t e =
 -- all containers go on
 all-facts : (options : ParseOptions) (s : Innermost) (r : Rest) → HasLine s.leaf → (o : Option Taken) →
     Facts options (At s) true r [] (first_new options o) (all_continued_by options s r o)
-all-facts options s r h (Some t) = enter-facts options (At s) true r (shut options s) t (leaf-last options s.here s.leaf h)
+all-facts options s r h (Some t) =
+    enter-facts options (At s) true r (shut options s) t (leaf-last options s.here s.leaf h)
 all-facts options s r h None = record {
   opens = λ u us none. some-new u us (sym none);
   keeps = λ none lazy. record { met = s; leaf = refl; last = refl; held = refl; is = refl };
@@ -289,7 +297,8 @@ stopped-facts options before c p r o = by o
 
 -- one goes on
 
-further : (bs : Blocks) (c : Container) (p : Path) (n : ℕ) → ((depth : ℕ) → suc n ≤ depth → blocks_before depth p ≡ End) →
+further : (bs : Blocks) (c : Container) (p : Path) (n : ℕ) → ((depth : ℕ) → suc n ≤ depth →
+    blocks_before depth p ≡ End) →
     (depth : ℕ) → suc (suc n) ≤ depth → blocks_before depth (Within bs c p) ≡ End
 further bs c p n h zero le = absurd (omega arith)
 further bs c p n h (suc depth) le = h depth (omega arith)

@@ -1,5 +1,6 @@
 -- The events of texts: they hold no item, and the first block in them is a definition, a paragraph or a heading.
-use Rattle.std.proofs.Common.{◌≡◌, ℕ, zero, suc, ◌+◌, ◌-◌, Bool, true, false, cond, ◌&&◌, not, List, [], ◌∷◌, ◌++◌, length}
+use Rattle.std.proofs.Common.{◌≡◌, ℕ, zero, suc, ◌+◌, ◌-◌, Bool, true, false, cond, ◌&&◌, not, List, [], ◌∷◌, ◌++◌}
+use Rattle.std.proofs.Common.{length}
 use Rattle.std.proofs.Common.{take, drop, refl, ap, sym, ◌∙◌, subst, arith, rules, append_assoc}
 use Rattle.std.specs.Prelude.{◌==◌, Option, Some, None}
 use Rattle.std.specs.List.{before_first, position_or_len}
@@ -15,13 +16,14 @@ use Rattle.md_meaning.specs.Definition.{Destination, after_gap, definition_at, d
 use Rattle.md_meaning.specs.Enclosed.{Lines, enclosed_lines}
 use Rattle.md_meaning.specs.Rest.{Rest, behind_indent, is_blank}
 use Rattle.md_seam.specs.Events.Blocks.{is_block}
-use Rattle.md_seam.specs.Events.Spelled.{Role, role}
+use Rattle.md_seam.specs.Events.Spelled.{role}
 use Rattle.md_containers.specs.Listed.{is_item, next_item}
 use Rattle.md_exact.specs.Leaves.{first_end, last_end, leaf, onto_next, runs_line, span, start}
-use Rattle.md_exact.specs.Places.{TextLine, chunk, is_same, line_end, next_line, past, piece, white}
+use Rattle.md_exact.specs.Places.{TextLine, chunk, is_same, line_end, next_line, past, white}
 use Rattle.md_exact.specs.Rows.{Row}
 use Rattle.md_exact.specs.Texts.{ahead, back, behind_destination, behind_gap, behind_label, behind_title, chunks}
-use Rattle.md_exact.specs.Texts.{definition, definition_end, destination_part, enclosed_part, gap, has_title, is_underline}
+use Rattle.md_exact.specs.Texts.{definition, definition_end, destination_part, enclosed_part, gap, has_title}
+use Rattle.md_exact.specs.Texts.{is_underline}
 use Rattle.md_exact.specs.Texts.{left, lines_left, mark, next_byte, on_first, remaining, text, text_events, text_span}
 use Rattle.md_exact_lists.specs.Unlisted.{NoneIs}
 use Rattle.md_exact_lists.proofs.LeafEvents.{NoItem, Plain, item-append, item-around, item-chunk, leaf-items, next-none}
