@@ -214,7 +214,8 @@ group-plain : (options : ParseOptions) (p : Path) (lines : List TextLine) → Ha
     blocks.goes_on (next_role (rows_of options p lines)) ≡ true → Plain (first_group (rows_of options p lines))
 group-plain options p [] h goes = tt
 group-plain options p (line ∷ lines) h goes =
-    (front, go (blocks.goes_on (next_role below)) refl (group-plain options after_line lines (line-text options p line h)))
+    (front, go (blocks.goes_on (next_role below)) refl
+    (group-plain options after_line lines (line-text options p line h)))
   where
     after_line : Path
     after_line = after options p line
