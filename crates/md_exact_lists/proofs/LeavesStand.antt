@@ -213,9 +213,11 @@ leaf-is options bytes next Delimiter row rows same needs first filled some plain
 group-plain : (options : ParseOptions) (p : Path) (lines : List TextLine) → HasLine (spot p).leaf →
     blocks.goes_on (next_role (rows_of options p lines)) ≡ true → Plain (first_group (rows_of options p lines))
 group-plain options p [] h goes = tt
-group-plain options p (line ∷ lines) h goes =
-    (front, go (blocks.goes_on (next_role below)) refl
-    (group-plain options after_line lines (line-text options p line h)))
+group-plain options p (line ∷ lines) h goes = (
+  front,
+  go (blocks.goes_on (next_role below)) refl
+      (group-plain options after_line lines (line-text options p line h)),
+)
   where
     after_line : Path
     after_line = after options p line
