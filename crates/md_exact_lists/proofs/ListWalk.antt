@@ -274,11 +274,6 @@ last-item m (More (Item k d x) End) = refl
 last-item m (More _ End) = refl
 last-item m (More b (More next bs)) = last-item m (More next bs)
 
--- the marker of the first of these containers
-abbrev pub first_marker : List Taken → Option ℕ
-first_marker [] = None
-first_marker (t ∷ ts) = marker_in t.container
-
 -- an item that opens is told by its marker
 pub begin-next : (bytes : List ℕ) (line : TextLine) (c : Container) (r s : Rest) (rest : List Event) →
     MarkerStands bytes line c r → next_item bytes (plain_begin line c r s ++ rest) ≡ marker_in c

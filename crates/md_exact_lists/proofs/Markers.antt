@@ -113,10 +113,6 @@ quote-leaves options kind r = go _
           marked = tt;
         }))
 
-abbrev IsQuote : Container → Type 0
-IsQuote (InQuote kind) = Unit {0}
-IsQuote c = ⊥
-
 kind-leaves : (options : ParseOptions) (r : Rest) (o : Option Taken) → Finds o (Leaves r) →
     Finds (with_kind options o) (Leaves r)
 kind-leaves options r None h = none-found (Leaves r)

@@ -69,10 +69,6 @@ left-further : (rows : List Row) (lines : List (List ℕ)) → Further rows → 
 left-further rows [] h = tt
 left-further rows (bytes ∷ more) h = ahead-further rows (length more) (length bytes) h
 
-back-further : (rows ends : List Row) → Further rows → Further (back rows ends)
-back-further rows [] h = tt
-back-further rows (end ∷ ends) h = ahead-further rows (length ends) (length end.rest.bytes + 1) h
-
 label-further : (rows : List Row) → Further rows → Further (behind_label rows)
 label-further rows h = go (label_at (lines_left rows))
   where
@@ -193,10 +189,6 @@ chunks-items c (row ∷ next ∷ rows) (end ∷ ends) h =
 abbrev spanned : Name → List Row → List Row → List Event → List Event
 spanned name rows ends [] = []
 spanned name rows ends (e ∷ es) = span name rows ends (e ∷ es)
-
-text-spanned : (c : Content) (name : Name) (rows ends : List Row) →
-    text_span c name rows ends ≡ spanned name rows ends (chunks c rows ends)
-text-spanned c name rows ends = refl
 
 spanned-items : (name : Name) (rows ends : List Row) (es : List Event) → is_item (role name) ≡ false → NoItem es →
     NoItem (spanned name rows ends es)
