@@ -22,7 +22,7 @@ use Rattle.md_frame.proofs.PartFacts.{NoLinks}
 use Rattle.md_frame.proofs.PieceFacts.{begins-cut, over-front, over-stands}
 use Rattle.md_frame.proofs.PlainFacts.{plain-quiet}
 use Rattle.md_frame.proofs.RestRows.{line-blank}
-use Rattle.md_frame.proofs.Stretch.{Stretch, stretch-as, stretch-none, stretch-pair}
+use Rattle.md_frame.proofs.Stretch.{Stretch, stretch-as, stretch-none, stretch-pair, white-piece}
 
 -- events that the tree does not show, and of which none is of a line's ending or a leaf
 pub quiet-facts : (bytes : List ℕ) (p q : Point) (es : List Event) → Stretch Quiet bytes p q es es → AreOthers es →
@@ -58,7 +58,7 @@ blank-facts bytes line r p q blank at =
         let e = past_text (b ∷ line) p in
         quiet-facts bytes p e (pair n.SpaceOrTab p e)
         (stretch-pair Quiet bytes n.SpaceOrTab p e
-        (record { role_is = tt; no_part = refl; parted = λ a b ys h. h }) (before-text (b ∷ line) p)
+        (white-piece Quiet bytes tt) (before-text (b ∷ line) p)
         (over-stands bytes n.SpaceOrTab p e (b ∷ line)
         (over-front bytes p e (b ∷ line) (drop q.index bytes) text (omega arith) refl)
         (begins-cut n.SpaceOrTab p refl) blank)) refl (λ t outer. refl)

@@ -23,7 +23,7 @@ use Rattle.md_frame.specs.MarkRuns.{Apart, Marks, Run, White, mark_runs}
 use Rattle.md_frame.proofs.BetweenFacts.{between-before, is_low, white-low}
 use Rattle.md_frame.proofs.SpanLemmas.{either}
 use Rattle.md_frame.proofs.PieceFacts.{CutsFirst, Over, Starts, begins-cut, begins-whole, over-front, over-stands, span}
-use Rattle.md_frame.proofs.Stretch.{IsPiece, Stretch, stretch-append, stretch-none, stretch-pair}
+use Rattle.md_frame.proofs.Stretch.{IsPiece, Stretch, stretch-append, stretch-none, stretch-pair, white-piece}
 
 -- what a run is called
 abbrev run_name : Name → Run → Name
@@ -158,7 +158,7 @@ begun-stretch R bytes name Marks m p q ys rest is ok h =
     stretch-pair R bytes name p q is.marks (begun-order bytes Marks m p q ys rest h)
     (begun-marks bytes name m p q ys rest is.marker h)
 begun-stretch R bytes name White m p q ys rest is ok h =
-    stretch-pair R bytes n.SpaceOrTab p q (record { role_is = is.white; no_part = refl; parted = λ a b zs k. k })
+    stretch-pair R bytes n.SpaceOrTab p q (white-piece R bytes is.white)
     (begun-order bytes White m p q ys rest h) (begun-white bytes m p q ys rest h)
 
 -- in front of a byte of a run is a place between characters

@@ -8,12 +8,13 @@ use Rattle.std.proofs.Common.{◌≡◌, ℕ, true, List, [], ◌∷◌, ◌++�
 use Rattle.std.specs.Prelude.{IsTrue, None}
 use Rattle.md_engine.specs.declared.event.Event.{Event}
 use Rattle.md_engine.specs.declared.event.Name.{Name}
+use Rattle.md_engine.specs.declared.event.Name.TheVariants as n
 use Rattle.md_engine.specs.declared.event.Point.{Point}
 use Rattle.md_outline.specs.Between.{is_between}
 use Rattle.md_seam.specs.Events.Nested.{around, exit, pair}
 use Rattle.md_seam.specs.Events.Pieces.{piece_stands}
 use Rattle.md_seam.specs.Events.Places.{at_or_before}
-use Rattle.md_seam.specs.Events.Spelled.{Role, role}
+use Rattle.md_seam.specs.Events.Spelled.{IsQuiet, Role, role}
 use Rattle.md_seam.specs.Events.Tiles.{part_kind}
 use Rattle.md_seam.proofs.InlineLemmas.{same-refl}
 use Rattle.md_seam.proofs.NestedLemmas.{at_or_before-refl, balanced-none}
@@ -126,6 +127,10 @@ pub record IsPiece (R : Role → Type 0) (bytes : List ℕ) (name : Name) : Type
   pub role_is : R (role name)
   pub no_part : part_kind name ≡ None
   pub parted : (p q : Point) → PrefixesAtLineStart bytes (pair name p q)
+
+-- that of whitespace has it, where it may stand
+pub white-piece : (R : Role → Type 0) (bytes : List ℕ) → R IsQuiet → IsPiece R bytes n.SpaceOrTab
+white-piece R bytes quiet = record { role_is = quiet; no_part = refl; parted = λ p q ys h. h }
 
 pub pair-nested : (name : Name) (p q : Point) → IsTrue (at_or_before p q) → Nested_in p q (pair name p q)
 pair-nested name p q order = (

@@ -1,4 +1,4 @@
--- What stands on a line that loses columns of whitespace stands between characters, and parts no text.
+-- Where what stands on a line that loses columns of whitespace begins and ends.
 use Rattle.std.proofs.Common.{◌≡◌, ℕ, zero, suc, Bool, true, false, cond, ◌&&◌, List, [], ◌∷◌, ◌++◌, drop, sym, arith}
 use Rattle.std.proofs.Common.{refl, subst}
 use Rattle.std.specs.Prelude.{◌==◌, nat_lt, not}
@@ -10,7 +10,6 @@ use Rattle.md_engine.specs.declared.event.Name.{Name}
 use Rattle.md_engine.specs.declared.event.Name.TheVariants as n
 use Rattle.md_engine.specs.declared.event.Point.{Point}
 use Rattle.md_meaning.specs.Rest.{Rest, cut_tab, indent, lose}
-use Rattle.md_outline.specs.Between.{is_between}
 use Rattle.md_outline.specs.Roles.{is_told}
 use Rattle.md_seam.specs.Events.Nested.{pair}
 use Rattle.md_seam.specs.Events.Spelled.{role}
@@ -18,10 +17,9 @@ use Rattle.md_seam.proofs.PlacesLemmas.{at-next}
 use Rattle.md_seam.proofs.RestCells.{Cut, RestAt}
 use Rattle.md_frame.specs.RestLine.{rest_line}
 use Rattle.md_frame.specs.LineColumns.{columns_part, lost_line, part_over, past_columns}
-use Rattle.md_frame.proofs.BetweenFacts.{AreBetween, is_low, white-between}
+use Rattle.md_frame.proofs.BetweenFacts.{is_low}
 use Rattle.md_frame.proofs.EachEvent.{Each, each-append}
-use Rattle.md_frame.proofs.IndentRemoved.Places.{FurtherAt, has-left}
-use Rattle.md_frame.proofs.PartedFacts.{PrefixesAtLineStart, clear, low-clear, sits-append}
+use Rattle.md_frame.proofs.PartedFacts.{clear, low-clear}
 use Rattle.md_frame.proofs.PlainFacts.{is_clear}
 
 -- Points.
@@ -56,15 +54,6 @@ pub each-all : (f : Event → Bool) (es : List Event) → Each (λ e. f e ≡ tr
 each-all f [] h = refl
 each-all f (e ∷ es) h = and_from (f e) (list_all f es) h.0 (each-all f es h.1)
 
--- They stand between characters.
-pub lost-between : (bytes : List ℕ) (name : Name) (lost : ℕ) (r : Rest) (p q : Point) → FurtherAt bytes r p q →
-    is_between bytes p.index ≡ true → is_between bytes q.index ≡ true → AreBetween bytes (lost_line name lost r p q)
-lost-between bytes name lost r p q is begin end =
-    let left = has-left bytes lost r p q is in
-    each-all (λ (e : Event). is_between bytes e.point.index) (lost_line name lost r p q)
-    (lost-points (λ x. is_between bytes x.index ≡ true) name lost r p q begin end
-    (white-between bytes p.index (past_columns lost r p).index left.white.blank left.white.index begin))
-
 -- Each begins and ends clear.
 
 pub whole-clear : (bytes : List ℕ) (p : Point) → p.vs ≡ 0 → clear bytes p ≡ true
@@ -91,31 +80,3 @@ points-clear bytes es h = each-all (is_clear bytes) es (points es h)
     points : (es : List Event) → OfPoints (λ x. clear bytes x ≡ true) es → Each (λ e. is_clear bytes e ≡ true) es
     points [] h = tt
     points (e ∷ es) h = (or_right (not (is_told (role e.name))) (clear bytes e.point) h.0, points es h.1)
-
--- No text is parted.
-
-abbrev pub SitsPair : List ℕ → Name → Type 0
-SitsPair bytes name = (p q : Point) → PrefixesAtLineStart bytes (pair name p q)
-
-pub white-sits : (bytes : List ℕ) → SitsPair bytes n.SpaceOrTab
-white-sits bytes p q ys h = h
-
-pub over-sits : (bytes : List ℕ) (name : Name) (text : List ℕ) (p q : Point) → SitsPair bytes name →
-    PrefixesAtLineStart bytes (part_over name text p q)
-over-sits bytes name [] p q sits = λ ys h. h
-over-sits bytes name (b ∷ bs) p q sits = sits p q
-
-pub columns-sits : (bytes : List ℕ) (room : ℕ) (r : Rest) (p : Point) → PrefixesAtLineStart bytes (columns_part room r p)
-columns-sits bytes room r p = go (nat_lt 0 room && nat_lt 0 (indent r))
-  where
-    go : (x : Bool) → PrefixesAtLineStart bytes (cond x (pair n.SpaceOrTab p (past_columns room r p)) [])
-    go true ys h = h
-    go false ys h = h
-
-pub lost-sits : (bytes : List ℕ) (name : Name) (lost : ℕ) (r : Rest) (p q : Point) → SitsPair bytes name →
-    PrefixesAtLineStart bytes (lost_line name lost r p q)
-lost-sits bytes name lost r p q sits =
-    let line = rest_line (lose lost r) in
-    let at = past_columns lost r p in
-    sits-append bytes (columns_part lost r p) (part_over name line at q) (columns-sits bytes lost r p)
-    (over-sits bytes name line at q sits)

@@ -14,7 +14,7 @@ use Rattle.md_seam.proofs.SpelledLemmas.{Quiet}
 use Rattle.md_outline.specs.Between.{is_between}
 use Rattle.md_frame.proofs.PartedFacts.{clear}
 use Rattle.md_frame.proofs.PieceFacts.{span}
-use Rattle.md_frame.proofs.Stretch.{Stretch, stretch-none, stretch-pair}
+use Rattle.md_frame.proofs.Stretch.{Stretch, stretch-none, stretch-pair, white-piece}
 
 -- It stands from a point to a point, and tells nothing.
 pub record LeadFacts (bytes : List ℕ) (p q : Point) (lead : List Event) : Type 0 where
@@ -45,7 +45,7 @@ pub lead-white : (bytes : List ℕ) (p q : Point) → IsTrue (at_or_before p q) 
 lead-white bytes p q order stands behind whole = record {
   stretch =
       stretch-pair Quiet bytes n.SpaceOrTab p q
-      (record { role_is = tt; no_part = refl; parted = λ a b ys h. h }) order stands;
+      (white-piece Quiet bytes tt) order stands;
   word = λ text outer. refl;
   others = refl;
   behind = behind;

@@ -34,22 +34,18 @@ use Rattle.md_seam.proofs.FeedLines.{drop-past, past_text-whole, slice-front}
 use Rattle.md_seam.proofs.GrammarLemmas.{Leads, leads-around, leads-append, leads-pair}
 use Rattle.md_seam.proofs.InlineLemmas.{past-index, past_text-append}
 use Rattle.md_seam.proofs.RestLines.{count-none, count-one}
-use Rattle.md_seam.proofs.SpelledLemmas.{Roles, read-from, read-quiet}
+use Rattle.md_seam.proofs.SpelledLemmas.{read-from, read-quiet}
 use Rattle.md_frame.specs.LineColumns.{part_over}
-use Rattle.md_frame.proofs.BetweenFacts.{AreBetween, between-append, between-behind, between-pair, is_low, low-at}
-use Rattle.md_frame.proofs.BetweenFacts.{around-between}
+use Rattle.md_frame.proofs.BetweenFacts.{between-behind, is_low, low-at}
 use Rattle.md_frame.proofs.WhiteQuiet.{white-quiet}
-use Rattle.md_frame.proofs.IndentRemoved.Placed.{Placed, in-line, over-onward, over-placed, placed-append}
-use Rattle.md_frame.proofs.IndentRemoved.Placed.{placed-around, placed-pair}
+use Rattle.md_frame.proofs.IndentRemoved.Placed.{in-line, over-onward, over-stretch}
 use Rattle.md_frame.proofs.IndentRemoved.Reads.{empty-joined, leaf-told, on-last}
 use Rattle.md_frame.proofs.IndentRemoved.Shown.{whole-clear}
-use Rattle.md_frame.proofs.PartFacts.{NoLinks, NoParts}
-use Rattle.md_frame.proofs.PartedFacts.{PrefixesAtLineStart}
 use Rattle.md_frame.proofs.PieceFacts.{begins-cut, begins-whole, over-front, over-stands}
 use Rattle.md_frame.proofs.PlainFacts.{AreKnown, known-append, known-around, known-none, plain-quiet}
 use Rattle.md_frame.proofs.LeafLines.Inside.{InsideFacts}
 use Rattle.md_frame.proofs.PartsFacts.{ReadsLeaf, PartsFacts}
-use Rattle.md_frame.proofs.Stretch.{stretch-same}
+use Rattle.md_frame.proofs.Stretch.{Stretch, stretch-append, stretch-around, stretch-pair, white-piece}
 
 -- A line, where it stands: it begins at a byte, and ends behind its bytes.
 pub record HasText (bytes line : List ℕ) (p q : Point) : Type 0 where
@@ -90,10 +86,11 @@ told-text bytes line rest p q whole stands end =
 
 -- A line that is not empty.
 
-chunk-placed : (bytes : List ℕ) (b : ℕ) (line : List ℕ) (p q : Point) → HasText bytes (b ∷ line) p q →
-    Placed bytes p q (pair n.FrontmatterChunk p q)
-chunk-placed bytes b line p q is =
-    over-placed bytes n.FrontmatterChunk (b ∷ line) (drop q.index bytes) p q is.stands is.end
+chunk-stretch : (bytes : List ℕ) (b : ℕ) (line : List ℕ) (p q : Point) → HasText bytes (b ∷ line) p q →
+    Stretch IsPart bytes p q (pair n.FrontmatterChunk p q) (pair n.FrontmatterChunk p q)
+chunk-stretch bytes b line p q is =
+    over-stretch IsPart bytes n.FrontmatterChunk (b ∷ line) (drop q.index bytes) p q
+    (record { role_is = tt; no_part = refl; parted = λ x y ys h. h }) is.stands is.end
     (begins-whole n.FrontmatterChunk p is.whole) (in-line (b ∷ line) is.no_ending)
 
 chunk-reads : (bytes : List ℕ) (b : ℕ) (line markers : List ℕ) (lines : List Line) (p q : Point) →
@@ -117,15 +114,12 @@ pub chunk-inside : (bytes : List ℕ) (b : ℕ) (line markers : List ℕ) (lines
     (front_leaf markers (lines ++ text_line (b ∷ line) ∷ []) false) (AtLine OfFrontmatter) (AtEnding OfFrontmatter)
     (pair n.FrontmatterChunk p q) (pair n.FrontmatterChunk p q)
 chunk-inside bytes b line markers lines p q is =
-    let placed = chunk-placed bytes b line p q is in
     let es = pair n.FrontmatterChunk p q in
     let begin = whole-clear bytes p is.whole in
     let end = whole-clear bytes q (end-whole bytes (b ∷ line) p q is) in
     record {
       parts = record {
-        stretch =
-            stretch-same IsPart bytes p q es (tt, (tt, tt)) placed.nested placed.tiled placed.stood (refl, (refl, tt))
-            (refl, (refl, tt)) (between-pair bytes n.FrontmatterChunk p q) (λ ys h. h);
+        stretch = chunk-stretch bytes b line p q is;
         unread_word = leads-pair unread_text in_line n.FrontmatterChunk p q refl;
         word = leads-pair plain_text in_line n.FrontmatterChunk p q refl;
         unread_stays = stays-others es refl;
@@ -239,20 +233,21 @@ fence_inside line p q =
 abbrev pub fence_over : List ℕ → Point → Point → List Event
 fence_over line p q = around n.FrontmatterFence p q (fence_inside line p q)
 
-fence-placed : (bytes line : List ℕ) (m : ℕ) (p q : Point) → HasFence bytes line m p q →
-    Placed bytes p q (fence_over line p q)
-fence-placed bytes line m p q h =
+fence-stretch : (bytes line : List ℕ) (m : ℕ) (p q : Point) → HasFence bytes line m p q →
+    Stretch IsPart bytes p q (fence_over line p q) (fence_over line p q)
+fence-stretch bytes line m p q h =
     let marks = has-marks bytes line m p q h in
     let end = marks_end line p in
     let some : 0 < length (take 3 line) = let e = ap length h.markers in omega (arith, e) in
-    placed-around bytes n.FrontmatterFence p q (fence_inside line p q) refl
-    (placed-append bytes p end q (pair n.FrontmatterSequence p end) (part_over n.SpaceOrTab (drop 3 line) end q)
-    (placed-pair bytes n.FrontmatterSequence p end (over-onward (take 3 line) p end some refl)
+    stretch-around n.FrontmatterFence (record { role_is = tt; no_part = refl; still = tt }) refl refl
+    (stretch-append
+    (stretch-pair IsPart bytes n.FrontmatterSequence p end
+    (record { role_is = tt; no_part = refl; parted = λ x y ys k. k }) (over-onward (take 3 line) p end some refl)
     (over-stands bytes n.FrontmatterSequence p end (take 3 line)
     (over-front bytes p end (take 3 line) (drop 3 line ++ drop q.index bytes) marks.stands some refl)
     (begins-whole n.FrontmatterSequence p h.is.whole) marks.over))
-    (over-placed bytes n.SpaceOrTab (drop 3 line) (drop q.index bytes) end q marks.left marks.ends
-    (begins-cut n.SpaceOrTab end refl) h.blank))
+    (over-stretch IsPart bytes n.SpaceOrTab (drop 3 line) (drop q.index bytes) end q (white-piece IsPart bytes tt)
+    marks.left marks.ends (begins-cut n.SpaceOrTab end refl) h.blank) (λ first last. marks.low))
 
 -- whitespace behind the markers, or none
 white-leads : (text : Expression) (line : List ℕ) (p q : Point) →
@@ -304,36 +299,6 @@ fence-others line p q =
 pub fence-fills : (line : List ℕ) (p q : Point) → Filling (fence_over line p q)
 fence-fills line p q = fence-by Filling line p q (λ from ys. refl) (λ from ys. refl)
 
-fence-parts : (line : List ℕ) (p q : Point) → Roles IsPart (fence_over line p q)
-fence-parts line p q =
-    fence-by (Roles IsPart) line p q (tt, (tt, (tt, (tt, tt)))) (tt, (tt, (tt, (tt, (tt, (tt, tt))))))
-
-fence-no_parts : (line : List ℕ) (p q : Point) → NoParts (fence_over line p q)
-fence-no_parts line p q =
-    fence-by NoParts line p q (refl, (refl, (refl, (refl, tt)))) (refl, (refl, (refl, (refl, (refl, (refl, tt))))))
-
-fence-no_links : (line : List ℕ) (p q : Point) → NoLinks (fence_over line p q)
-fence-no_links line p q =
-    fence-by NoLinks line p q (refl, (refl, (refl, (refl, tt)))) (refl, (refl, (refl, (refl, (refl, (refl, tt))))))
-
-fence-sits : (bytes line : List ℕ) (p q : Point) → PrefixesAtLineStart bytes (fence_over line p q)
-fence-sits bytes line p q = fence-by (PrefixesAtLineStart bytes) line p q (λ ys h. h) (λ ys h. h)
-
-white-between : (bytes line : List ℕ) (p q : Point) → is_between bytes p.index ≡ true →
-    is_between bytes q.index ≡ true → AreBetween bytes (part_over n.SpaceOrTab line p q)
-white-between bytes [] p q first last = refl
-white-between bytes (b ∷ bs) p q first last = between-pair bytes n.SpaceOrTab p q first last
-
-fence-between : (bytes line : List ℕ) (m : ℕ) (p q : Point) → HasFence bytes line m p q →
-    is_between bytes p.index ≡ true → is_between bytes q.index ≡ true → AreBetween bytes (fence_over line p q)
-fence-between bytes line m p q h first last =
-    let marks = has-marks bytes line m p q h in
-    let end = marks_end line p in
-    around-between bytes n.FrontmatterFence p q (fence_inside line p q) first last
-    (between-append bytes (pair n.FrontmatterSequence p end) (part_over n.SpaceOrTab (drop 3 line) end q)
-    (between-pair bytes n.FrontmatterSequence p end first marks.low)
-    (white-between bytes (drop 3 line) end q marks.low last))
-
 fence-known : (bytes line : List ℕ) (m : ℕ) (p q : Point) → HasFence bytes line m p q →
     AreKnown bytes (fence_over line p q)
 fence-known bytes line m p q h =
@@ -373,13 +338,9 @@ fence-facts : (bytes line : List ℕ) (m : ℕ) (p q : Point) (x : Expression) (
     HasFence bytes line m p q → ReadsLeaf bytes from to (fence_over line p q) →
     PartsFacts bytes p q x (behind n.FrontmatterFence x) from to (fence_over line p q) (fence_over line p q)
 fence-facts bytes line m p q x from to h reads =
-    let placed = fence-placed bytes line m p q h in
     let es = fence_over line p q in
     record {
-      stretch =
-          stretch-same IsPart bytes p q es (fence-parts line p q) placed.nested placed.tiled placed.stood
-          (fence-no_parts line p q) (fence-no_links line p q) (fence-between bytes line m p q h)
-          (fence-sits bytes line p q);
+      stretch = fence-stretch bytes line m p q h;
       unread_word = fence-word unread_text x line p q;
       word = fence-word plain_text x line p q;
       unread_stays = stays-others es (fence-others line p q);

@@ -15,20 +15,19 @@ use Rattle.md_code.proofs.CodeLines.{blank-line}
 use Rattle.md_seam.specs.Events.Grammar.{blocks}
 use Rattle.md_seam.specs.Events.Nested.{pair}
 use Rattle.md_seam.proofs.GrammarLemmas as grammar
-use Rattle.md_seam.proofs.SpelledLemmas.{Quiet, Roles}
+use Rattle.md_seam.proofs.SpelledLemmas.{Quiet}
 use Rattle.md_frame.specs.RestLine.{rest_line}
 use Rattle.md_literal_rooms.specs.Leaf.CodeIndented.{code_parts}
 use Rattle.md_frame.specs.LineColumns.{lost_line, part_over, past_columns}
 use Rattle.md_literal_rooms.proofs.CodeIndented.Parts.{code-inside}
 use Rattle.md_frame.proofs.LeafFacts.{LeafFacts}
 use Rattle.md_literal_rooms.proofs.IndentRemoved.Names.{AreInside, lost-inside}
-use Rattle.md_literal_rooms.proofs.IndentRemoved.Parts.{inside-blocks, inside-no_parts, inside-others, inside-unlinked}
-use Rattle.md_frame.proofs.IndentRemoved.Placed.{Placed, lost-placed}
+use Rattle.md_literal_rooms.proofs.IndentRemoved.Parts.{inside-blocks, inside-others}
+use Rattle.md_frame.proofs.IndentRemoved.Placed.{lost-stretch}
 use Rattle.md_frame.proofs.IndentRemoved.Places.{FurtherAt}
-use Rattle.md_frame.proofs.IndentRemoved.Shown.{lost-between, lost-sits, white-sits}
 use Rattle.md_frame.proofs.RestRows.{line-blank}
 use Rattle.md_frame.proofs.BlankLine.{quiet-facts}
-use Rattle.md_frame.proofs.Stretch.{stretch-same}
+use Rattle.md_frame.proofs.Stretch.{white-piece}
 
 -- No block begins or ends on it.
 pub blank-blocks : (r : Rest) (p q : Point) → NoBlocks (code_parts r p q)
@@ -88,10 +87,8 @@ pub behind-facts : (bytes : List ℕ) (r : Rest) (p q : Point) → is_blank r.by
     LeafFacts bytes None false p q (blank_behind r p q) (blank_behind r p q)
 behind-facts bytes r p q blank is =
     quiet-facts bytes p q white
-    (stretch-same Quiet bytes p q white
-    (white-shape (Roles Quiet) tt (λ a b. (tt, (tt, tt))) (λ a b c d. (tt, (tt, (tt, (tt, tt))))) r p q)
-    placed.nested placed.tiled placed.stood (inside-no_parts white all) (inside-unlinked white all)
-    (lost-between bytes n.SpaceOrTab 4 r p q is) (lost-sits bytes n.SpaceOrTab 4 r p q (white-sits bytes)))
+    (lost-stretch Quiet bytes n.SpaceOrTab 4 r p q tt (white-piece Quiet bytes tt) refl
+    (λ none. line-blank (lose 4 r) ∙ blank-line r ∙ blank) is)
     (inside-others white all)
     (λ text.
     white-shape (λ es. grammar.Leads text (blocks ∷ []) (blocks ∷ []) es) (λ outer. refl) (λ a b outer. refl)
@@ -102,7 +99,3 @@ behind-facts bytes r p q blank is =
 
     all : AreInside (blank_behind r p q)
     all = lost-inside n.SpaceOrTab 4 r p q refl
-
-    placed : Placed bytes p q (blank_behind r p q)
-    placed =
-        lost-placed bytes n.SpaceOrTab 4 r p q refl (λ none. line-blank (lose 4 r) ∙ blank-line r ∙ blank) is

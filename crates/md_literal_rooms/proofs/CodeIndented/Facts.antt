@@ -20,20 +20,22 @@ use Rattle.md_literal_rooms.proofs.CodeIndented.Grammar.{behind_line, code_begun
 use Rattle.md_literal_rooms.proofs.CodeIndented.Grammar.{line_left}
 use Rattle.md_literal_rooms.proofs.CodeIndented.Reads.{parts-read}
 use Rattle.md_literal_rooms.proofs.IndentRemoved.Sites.{is_told_of, line_site}
-use Rattle.md_literal_rooms.proofs.IndentRemoved.Facts.{IsLineName, line-placed, lost-facts}
-use Rattle.md_frame.proofs.IndentRemoved.Placed.{Placed, in-line}
+use Rattle.md_literal_rooms.proofs.IndentRemoved.Facts.{IsLineName, line-stretch, lost-facts}
+use Rattle.md_frame.proofs.IndentRemoved.Placed.{in-line}
 use Rattle.md_frame.proofs.IndentRemoved.Places.{FurtherAt}
 use Rattle.md_frame.proofs.LeafLines.Inside.{InsideFacts}
 use Rattle.md_frame.proofs.PartsFacts.{ReadsLeaf}
+use Rattle.md_containers.specs.ItemsStand.{IsPart}
+use Rattle.md_frame.proofs.Stretch.{Stretch}
 
 -- The name of its chunk.
 abbrev pub code_chunk : IsLineName n.CodeFlowChunk
 code_chunk = record { inside = refl; told = refl; cut = refl; over = in-line; sits = λ bytes p q ys h. h }
 
--- It nests, and its pieces are over what their names say.
-pub parts-placed : (bytes : List ℕ) (r : Rest) (p q : Point) → FurtherAt bytes r p q →
-    Placed bytes p q (code_parts r p q)
-parts-placed bytes r p q is = line-placed bytes n.CodeFlowChunk 4 r p q code_chunk is
+-- It is a stretch.
+pub parts-stretch : (bytes : List ℕ) (r : Rest) (p q : Point) → FurtherAt bytes r p q →
+    Stretch IsPart bytes p q (code_parts r p q) (code_parts r p q)
+parts-stretch bytes r p q is = line-stretch bytes n.CodeFlowChunk 4 r p q code_chunk is
 
 -- An outline is here in the code behind it.
 abbrev pub code_site : Rest → Site

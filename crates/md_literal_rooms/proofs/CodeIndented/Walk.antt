@@ -22,7 +22,7 @@ use Rattle.md_literal_rooms.specs.Leaf.CodeIndented.{code_parts}
 use Rattle.md_frame.specs.LineColumns.{past_columns}
 use Rattle.md_frame.specs.Row.{Row, but_ends, ending_events}
 use Rattle.md_literal_rooms.proofs.CodeIndented.Cells.{over-some}
-use Rattle.md_literal_rooms.proofs.CodeIndented.Facts.{code_site, line-facts, parts-placed}
+use Rattle.md_literal_rooms.proofs.CodeIndented.Facts.{code_site, line-facts, parts-stretch}
 use Rattle.md_literal_rooms.proofs.CodeIndented.Grammar.{in_line, line-ending, line-ends, line-takes, line_left}
 use Rattle.md_literal_rooms.proofs.CodeIndented.Parts.{code-inside}
 use Rattle.md_literal_rooms.proofs.CodeIndented.Rows.{AreInCode, InCode, as-line, as_line, goes-on, line_in}
@@ -184,7 +184,7 @@ lines-fill bytes r row (next ∷ rows) are full is =
     (subst (λ (es : List Event). Leads (in_leaf (not (is_bare next.front))) (in_leaf here) es)
     (sym (in-parts bytes next are.4))
     (others-fill (not (is_bare next.front)) parts (inside-others parts (code-inside s next.first next.end))
-    (parts-placed bytes s next.first next.end are.4.at).nested.0)))
+    (parts-stretch bytes s next.first next.end are.4.at).nested.0)))
     (lines-fill bytes s next rows are.5 here
     (λ dark.
     ap (λ (x : Bool). not (is_bare next.front) || not x) (text-full s next.first next.end dark)

@@ -46,7 +46,7 @@ use Rattle.md_frame.proofs.PiecesLemmas.{Covered, tiled-append}
 use Rattle.md_frame.proofs.PlaceBetween.{IsPlace, low-behind}
 use Rattle.md_frame.proofs.PlainFacts.{AreKnown, chunk-plain, known-append, known-around, known-none}
 use Rattle.md_frame.proofs.SpanLemmas.{Nested_in, nested_in-append}
-use Rattle.md_frame.proofs.Stretch.{Stretch, stretch-none, stretch-pair}
+use Rattle.md_frame.proofs.Stretch.{Stretch, stretch-none, stretch-pair, white-piece}
 
 -- A place in a fence that stands from a point to a point is between characters, and cuts no tab of one, if its ends
 -- are so.
@@ -175,7 +175,7 @@ fence-walks bytes a e = record {
       let q = past_text (b ∷ bs) p in
       let es = pair n.SpaceOrTab p q in
       let h = stretch-pair IsPart bytes n.SpaceOrTab p q
-      (record { role_is = tt; no_part = refl; parted = λ x y ys k. k }) (before-text (b ∷ bs) p)
+      (white-piece IsPart bytes tt) (before-text (b ∷ bs) p)
       (over-stands bytes n.SpaceOrTab p q (b ∷ bs) (over-front bytes p q (b ∷ bs) rest is (omega arith) refl)
       (begins-cut n.SpaceOrTab p refl) blank) in
       part-of bytes a e p q es es h (λ first last. h.between (mid.0 first last) (end.0 first last)) refl refl

@@ -1,6 +1,6 @@
 -- What is known of what stands in a further line of fenced code or math, from the point where it begins to its end.
-use Rattle.std.proofs.Common.{◌≡◌, ℕ, ◌<◌, Bool, true, false, cond, ◌&&◌, ◌||◌, List}
-use Rattle.std.proofs.Common.{◌++◌, length, drop, take, refl, ◌∙◌, ap, arith, subst, append_assoc}
+use Rattle.std.proofs.Common.{◌≡◌, ℕ, ◌<◌, Bool, true, false, cond, ◌&&◌, ◌||◌, List, ◌++◌, length, drop, take, refl}
+use Rattle.std.proofs.Common.{◌∙◌, ap, arith, subst, append_assoc, ◌-◌}
 use Rattle.std.specs.Prelude.{◌==◌, nat_le, IsTrue}
 use Rattle.std.specs.List.{list_all}
 use Rattle.std.proofs.lemmas.Bool.{and_from, eqb-true, or_left, or_right}
@@ -13,22 +13,26 @@ use Rattle.md_meaning.specs.Leaves.{closes, least_size}
 use Rattle.md_meaning.specs.Rest.{Rest, indent, lose, run_len, trim_start}
 use Rattle.md_meaning.proofs.TextsLemmas.{NoEnding}
 use Rattle.md_code.specs.Fence.{chunk_name, fence_name, held_indent, held_marker, may_begin, sequence_name}
-use Rattle.md_seam.specs.Events.Nested.{pair}
 use Rattle.md_seam.specs.Events.Pieces.{begins_in_tab, stands_over}
 use Rattle.md_seam.specs.Events.Places.{at_or_before, past_text}
 use Rattle.md_seam.proofs.FeedLines.{drop-past}
 use Rattle.md_seam.proofs.InlineLemmas.{past-index, past_text-append}
 use Rattle.md_frame.specs.RestLine.{rest_line}
 use Rattle.md_literal_rooms.specs.Leaf.FenceFurther.{chunk_line, closing_line, closing_part, further_parts, opening_of}
-use Rattle.md_frame.specs.LineColumns.{columns_part, part_over, past_columns}
 use Rattle.md_code.specs.Fence.{is_open as is_fence}
-use Rattle.md_frame.proofs.IndentRemoved.Placed.{Placed, columns-placed, in-line, lost-placed, over-onward, over-placed}
-use Rattle.md_frame.proofs.IndentRemoved.Placed.{placed-append, placed-around, placed-pair}
+use Rattle.md_frame.specs.LineColumns.{past_columns}
+use Rattle.md_frame.proofs.IndentRemoved.Placed.{columns-stretch, in-line, lost-stretch, over-onward, over-stretch}
 use Rattle.md_literal_rooms.proofs.FenceFurther.Names.{either-name}
 use Rattle.md_frame.proofs.IndentRemoved.Places.{FurtherAt, has-left}
 use Rattle.md_literal_rooms.proofs.FenceFurther.Places.{HasClosing, has-closing}
 use Rattle.md_literal_rooms.proofs.FenceFurther.Trial.{fence-marker, fence-size}
 use Rattle.md_frame.proofs.PieceFacts.{Over, begins-cut, begins-whole, over-front, over-stands}
+use Rattle.md_engine.specs.declared.event.Event.{Event}
+use Rattle.md_outline.specs.Between.{is_between}
+use Rattle.md_frame.proofs.BetweenFacts.{all-more, between-behind, is_low, low-at, white-between}
+use Rattle.md_containers.specs.ItemsStand.{IsPart}
+use Rattle.md_frame.proofs.Stretch.{IsGroup, IsPiece, Stretch, stretch-append, stretch-around, stretch-pair}
+use Rattle.md_frame.proofs.Stretch.{white-piece}
 
 -- What is left of a line.
 
@@ -39,10 +43,14 @@ chunk-over m line h =
 chunk-begins : (m : ℕ) → begins_in_tab (chunk_name m) ≡ true
 chunk-begins m = either-name (λ name. begins_in_tab name ≡ true) (m == 36) _ _ refl refl
 
-chunk-placed : (bytes : List ℕ) (m lost : ℕ) (r : Rest) (p q : Point) → FurtherAt bytes r p q →
-    Placed bytes p q (chunk_line m lost r p q)
-chunk-placed bytes m lost r p q is =
-    lost-placed bytes (chunk_name m) lost r p q (chunk-begins m) (chunk-over m (rest_line (lose lost r))) is
+chunk-stretch : (bytes : List ℕ) (m lost : ℕ) (r : Rest) (p q : Point) → FurtherAt bytes r p q →
+    Stretch IsPart bytes p q (chunk_line m lost r p q) (chunk_line m lost r p q)
+chunk-stretch bytes m lost r p q is =
+    lost-stretch IsPart bytes (chunk_name m) lost r p q tt
+    (either-name (IsPiece IsPart bytes) (m == 36) _ _
+    (record { role_is = tt; no_part = refl; parted = λ x y ys h. h })
+    (record { role_is = tt; no_part = refl; parted = λ x y ys h. h }))
+    (chunk-begins m) (chunk-over m (rest_line (lose lost r))) is
 
 -- A closing fence.
 
@@ -113,11 +121,38 @@ has-sequence bytes on r p q e closing =
       ends = closing.ends ∙ ap (λ (l : List ℕ). past_text l at) closing.cut ∙ past_text-append seq left at;
     }
 
-closing-placed : (bytes : List ℕ) (on : HeldLeaf) (r : Rest) (p q : Point) → is_fence on ≡ true →
+-- where the sequence of a closing fence ends
+abbrev pub sequence_end : HeldLeaf → Rest → Point → Point
+sequence_end on r p =
+    let text = trim_start r.bytes in past_text (take (run_len (held_marker on) text) text) (past_columns (indent r) r p)
+
+-- behind which is a place between characters
+marker-low : (m b : ℕ) → may_begin m ≡ true → (b == m) ≡ true → is_low b ≡ true
+marker-low m b may e = grind (arith, nat_tests)
+
+sequence-between : (bytes : List ℕ) (on : HeldLeaf) (r : Rest) (p q : Point) → is_fence on ≡ true →
+    HasClosing bytes on r p q → is_between bytes (sequence_end on r p).index ≡ true
+sequence-between bytes on r p q e closing =
+    let m = held_marker on in
+    let text = trim_start r.bytes in
+    let at = past_columns (indent r) r p in
+    let seq = take (run_len m text) text in
+    let end = past_text seq at in
+    let over = (has-sequence bytes on r p q e closing).over in
+    let size = past-index seq at in
+    let some = over.some in
+    let low : list_all is_low seq ≡ true =
+    all-more (λ (b : ℕ). b == m) is_low seq (λ b k. marker-low m b (fence-marker on e) k) closing.all in
+    between-behind bytes end.index
+    (low-at bytes seq at.index end.index (end.index - 1) over.slice size low (omega (arith, some))
+    (omega (arith, some)))
+
+closing-stretch : (bytes : List ℕ) (on : HeldLeaf) (r : Rest) (p q : Point) → is_fence on ≡ true →
     HasClosing bytes on r p q →
-    Placed bytes (past_columns (indent r) r p) q
-    (closing_part (held_marker on) (trim_start r.bytes) (past_columns (indent r) r p) q)
-closing-placed bytes on r p q e closing =
+    let at = past_columns (indent r) r p in
+    Stretch IsPart bytes at q (closing_part (held_marker on) (trim_start r.bytes) at q)
+    (closing_part (held_marker on) (trim_start r.bytes) at q)
+closing-stretch bytes on r p q e closing =
     let m = held_marker on in
     let text = trim_start r.bytes in
     let at = past_columns (indent r) r p in
@@ -125,26 +160,34 @@ closing-placed bytes on r p q e closing =
     let left = drop (run_len m text) text in
     let end = past_text seq at in
     let sequence = has-sequence bytes on r p q e closing in
-    placed-around bytes (fence_name m) at q (pair (sequence_name m) at end ++ part_over n.SpaceOrTab left end q) refl
-    (placed-append bytes at end q (pair (sequence_name m) at end) (part_over n.SpaceOrTab left end q)
-    (placed-pair bytes (sequence_name m) at end sequence.onward
+    stretch-around (fence_name m)
+    (either-name (IsGroup IsPart) (m == 36) _ _ (record { role_is = tt; no_part = refl; still = tt })
+    (record { role_is = tt; no_part = refl; still = tt })) refl refl
+    (stretch-append
+    (stretch-pair IsPart bytes (sequence_name m) at end
+    (either-name (IsPiece IsPart bytes) (m == 36) _ _
+    (record { role_is = tt; no_part = refl; parted = λ x y ys h. h })
+    (record { role_is = tt; no_part = refl; parted = λ x y ys h. h })) sequence.onward
     (over-stands bytes (sequence_name m) at end seq sequence.over (begins-whole (sequence_name m) at closing.whole)
     sequence.is))
-    (over-placed bytes n.SpaceOrTab left (drop q.index bytes) end q sequence.left sequence.ends
-    (begins-cut n.SpaceOrTab end refl) closing.blank))
+    (over-stretch IsPart bytes n.SpaceOrTab left (drop q.index bytes) end q (white-piece IsPart bytes tt) sequence.left
+    sequence.ends (begins-cut n.SpaceOrTab end refl) closing.blank)
+    (λ first last. sequence-between bytes on r p q e closing))
 
 -- The whole line.
-pub further-placed : (options : ParseOptions) (bytes : List ℕ) (on : HeldLeaf) (r : Rest) (p q : Point) →
-    is_fence on ≡ true → FurtherAt bytes r p q → Placed bytes p q (further_parts options on r p q)
-further-placed options bytes on r p q e is = go (closes options (opening_of on) r) refl
+pub further-stretch : (options : ParseOptions) (bytes : List ℕ) (on : HeldLeaf) (r : Rest) (p q : Point) →
+    is_fence on ≡ true → FurtherAt bytes r p q →
+    Stretch IsPart bytes p q (further_parts options on r p q) (further_parts options on r p q)
+further-stretch options bytes on r p q e is = go (closes options (opening_of on) r) refl
   where
-    go : (x : Bool) → closes options (opening_of on) r ≡ x →
-        Placed bytes p q
-        (cond x (closing_line (held_marker on) r p q) (chunk_line (held_marker on) (held_indent on) r p q))
+    parts : Bool → List Event
+    parts x = cond x (closing_line (held_marker on) r p q) (chunk_line (held_marker on) (held_indent on) r p q)
+
+    go : (x : Bool) → closes options (opening_of on) r ≡ x → Stretch IsPart bytes p q (parts x) (parts x)
     go true f =
-        let m = held_marker on in
-        let at = past_columns (indent r) r p in
-        placed-append bytes p at q (columns_part (indent r) r p) (closing_part m (trim_start r.bytes) at q)
-        (columns-placed bytes (indent r) r p q (has-left bytes (indent r) r p q is))
-        (closing-placed bytes on r p q e (has-closing options bytes on r p q is f))
-    go false f = chunk-placed bytes (held_marker on) (held_indent on) r p q is
+        let left = has-left bytes (indent r) r p q is in
+        stretch-append (columns-stretch IsPart bytes (indent r) r p q tt left)
+        (closing-stretch bytes on r p q e (has-closing options bytes on r p q is f))
+        (λ first last.
+        white-between bytes p.index (past_columns (indent r) r p).index left.white.blank left.white.index first)
+    go false f = chunk-stretch bytes (held_marker on) (held_indent on) r p q is

@@ -21,13 +21,11 @@ use Rattle.md_frame.specs.RestLine.{rest_line}
 use Rattle.md_literal_rooms.specs.Leaf.FenceFurther.{further_parts, opening_of}
 use Rattle.md_literal_rooms.proofs.FenceFurther.Definition.{held_of}
 use Rattle.md_literal_rooms.proofs.FenceFurther.Grammar.{further-leads, further-stays, further_left, in_line, left_by}
-use Rattle.md_literal_rooms.proofs.FenceFurther.Inside.{further-placed}
+use Rattle.md_literal_rooms.proofs.FenceFurther.Inside.{further-stretch}
 use Rattle.md_literal_rooms.proofs.FenceFurther.Joined.{further-empty, nothing-open, nothing_from}
-use Rattle.md_literal_rooms.proofs.FenceFurther.Names.{parts-inside}
-use Rattle.md_literal_rooms.proofs.IndentRemoved.Parts.{inside-stretch}
-use Rattle.md_frame.proofs.IndentRemoved.Places.{FurtherAt, line-over}
+use Rattle.md_frame.proofs.IndentRemoved.Places.{FurtherAt}
 use Rattle.md_literal_rooms.proofs.FenceFurther.Reads.{further-closing-read, further-line-read}
-use Rattle.md_literal_rooms.proofs.FenceFurther.Shown.{further-between, further-known, further-sits}
+use Rattle.md_literal_rooms.proofs.FenceFurther.Shown.{further-known}
 use Rattle.md_literal_rooms.proofs.FenceSpan.Open.{AreMarks, behind-same, closing-told, kind_of, leaf_of, line-same}
 use Rattle.md_literal_rooms.proofs.FenceSpan.Open.{lines-told, opened-line}
 use Rattle.md_literal_rooms.proofs.FenceSpan.OutlineSites.{further-passes, further_site}
@@ -73,10 +71,7 @@ pub further-facts : (options : ParseOptions) (bytes : List ℕ) (on : HeldLeaf) 
     (further_parts options on r p q)
 further-facts options bytes on r p q from to e is reads = record {
   parts = record {
-    stretch =
-        inside-stretch bytes p q (further_parts options on r p q) (parts-inside options on r p q)
-        (further-placed options bytes on r p q e is) (further-between options bytes on r p q e is)
-        (further-sits options bytes on r p q);
+    stretch = further-stretch options bytes on r p q e is;
     unread_word = unread-leads options on r p q;
     word = further-leads plain_text options on r p q;
     unread_stays = further-stays options on r p q;
@@ -159,7 +154,7 @@ pub bare-same : (options : ParseOptions) (bytes : List ℕ) (on : HeldLeaf) (r :
     is_fence on ≡ true → FurtherAt bytes r p q → further_parts options on r p q ≡ [] → (p.index == q.index) ≡ true
 bare-same options bytes on r p q e is none =
     (and_parts (p.index == q.index) (p.vs == q.vs)
-    (subst (Covered p q) none (further-placed options bytes on r p q e is).tiled).covers).0
+    (subst (Covered p q) none (further-stretch options bytes on r p q e is).tiled).covers).0
 
 -- it adds nothing to the block
 pub bare-facts : (bytes : List ℕ) (options : ParseOptions) (on : HeldLeaf) (r : Rest) (p q : Point) (x : Expression)

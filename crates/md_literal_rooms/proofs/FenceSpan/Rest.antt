@@ -13,7 +13,7 @@ use Rattle.md_frame.specs.RestLine.{rest_line}
 use Rattle.md_literal_rooms.specs.Leaf.FenceFurther.{fence_further, further_parts}
 use Rattle.md_frame.specs.Row.{Row, is_empty_row}
 use Rattle.md_literal_rooms.proofs.FenceFurther.Definition.{held_of}
-use Rattle.md_literal_rooms.proofs.FenceFurther.Inside.{further-placed}
+use Rattle.md_literal_rooms.proofs.FenceFurther.Inside.{further-stretch}
 use Rattle.md_literal_rooms.proofs.FenceFurther.Joined.{further-is}
 use Rattle.md_literal_rooms.proofs.FenceFurther.Parts.{further-others}
 use Rattle.md_frame.proofs.IndentRemoved.Places.{FurtherAt, further-at, further-rest}
@@ -41,7 +41,7 @@ further-line options bytes o x left from leaf start site row is on e facts = rec
   clear =
       left-clear bytes (drop row.end.index bytes) is.rest row.first (further-rest bytes is.rest row.first row.end at);
   others = further-others options (held_of o) is.rest row.first row.end;
-  balanced = (further-placed options bytes (held_of o) is.rest row.first row.end e at).nested.0;
+  balanced = (further-stretch options bytes (held_of o) is.rest row.first row.end e at).nested.0;
   bare = bare;
   empty = is.empty;
   facts = facts;

@@ -28,7 +28,7 @@ use Rattle.md_frame.specs.LineColumns.{part_over}
 use Rattle.md_frame.specs.Row.{Row}
 use Rattle.md_frame.proofs.FillFacts.{fill-same, filled-read}
 use Rattle.md_literal_rooms.proofs.HtmlSpan.Lines.{html-inside, html_data, html_parts}
-use Rattle.md_literal_rooms.proofs.IndentRemoved.Facts.{line-placed}
+use Rattle.md_literal_rooms.proofs.IndentRemoved.Facts.{line-stretch}
 use Rattle.md_literal_rooms.proofs.IndentRemoved.Parts.{inside-others}
 use Rattle.md_frame.proofs.IndentRemoved.Places.{FurtherAt, further-at, further-rest}
 use Rattle.md_frame.proofs.IndentRemoved.Shown.{left-clear}
@@ -153,7 +153,7 @@ further-line options bytes x left from leaf start site row is facts = record {
       left-clear bytes (drop row.end.index bytes) is.rest row.first
       (further-rest bytes is.rest row.first row.end at);
   others = inside-others parts (html-inside is.rest row.first row.end);
-  balanced = (line-placed bytes n.HtmlFlowData 0 is.rest row.first row.end html_data at).nested.0;
+  balanced = (line-stretch bytes n.HtmlFlowData 0 is.rest row.first row.end html_data at).nested.0;
   bare = html-bare bytes is.rest row.first row.end at;
   empty = is.empty;
   facts = facts;

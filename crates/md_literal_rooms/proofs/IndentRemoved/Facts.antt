@@ -16,15 +16,18 @@ use Rattle.md_frame.specs.RestLine.{rest_line}
 use Rattle.md_frame.specs.LineColumns.{columns_part, lost_line, part_over, past_columns}
 use Rattle.md_literal_rooms.proofs.IndentRemoved.Sites.{is_told_of, line_site, lost-passes}
 use Rattle.md_literal_rooms.proofs.IndentRemoved.Names.{AreInside, is_inside, lost-inside}
-use Rattle.md_literal_rooms.proofs.IndentRemoved.Parts.{inside-others, inside-stretch}
-use Rattle.md_frame.proofs.IndentRemoved.Placed.{Placed, lost-placed}
+use Rattle.md_literal_rooms.proofs.IndentRemoved.Parts.{inside-kind, inside-others, inside-part}
+use Rattle.md_frame.proofs.IndentRemoved.Placed.{lost-stretch}
 use Rattle.md_frame.proofs.IndentRemoved.Places.{FurtherAt, has-left}
 use Rattle.md_frame.proofs.IndentRemoved.Reads.{columns-quiet}
-use Rattle.md_frame.proofs.IndentRemoved.Shown.{SitsPair, left-clear, lost-between, lost-sits, whole-clear}
-use Rattle.md_frame.proofs.PartedFacts.{clear}
+use Rattle.md_frame.proofs.IndentRemoved.Shown.{left-clear, whole-clear}
+use Rattle.md_frame.proofs.PartedFacts.{clear, PrefixesAtLineStart}
 use Rattle.md_frame.proofs.PlainFacts.{AreKnown, known-append, known-around, known-none, plain-quiet}
 use Rattle.md_frame.proofs.LeafLines.Inside.{InsideFacts}
 use Rattle.md_frame.proofs.PartsFacts.{ReadsLeaf}
+use Rattle.md_containers.specs.ItemsStand.{IsPart}
+use Rattle.md_seam.specs.Events.Nested.{pair}
+use Rattle.md_frame.proofs.Stretch.{Stretch}
 
 -- what is asked of the name of the part over what is left of a line
 pub record IsLineName (name : Name) : Type 0 where
@@ -32,13 +35,19 @@ pub record IsLineName (name : Name) : Type 0 where
   pub told : role name ≡ TextRole AsLine
   pub cut : begins_in_tab name ≡ true
   pub over : (line : List ℕ) → NoEnding line → stands_over name line ≡ true
-  pub sits : (bytes : List ℕ) → SitsPair bytes name
+  pub sits : (bytes : List ℕ) (p q : Point) → PrefixesAtLineStart bytes (pair name p q)
 
--- It nests, and its pieces are over what their names say.
-pub line-placed : (bytes : List ℕ) (name : Name) (lost : ℕ) (r : Rest) (p q : Point) → IsLineName name →
-    FurtherAt bytes r p q → Placed bytes p q (lost_line name lost r p q)
-line-placed bytes name lost r p q named is =
-    lost-placed bytes name lost r p q named.cut (named.over (rest_line (lose lost r))) is
+-- It is a stretch.
+pub line-stretch : (bytes : List ℕ) (name : Name) (lost : ℕ) (r : Rest) (p q : Point) → IsLineName name →
+    FurtherAt bytes r p q →
+    Stretch IsPart bytes p q (lost_line name lost r p q) (lost_line name lost r p q)
+line-stretch bytes name lost r p q named is =
+    lost-stretch IsPart bytes name lost r p q tt
+    (record {
+      role_is = inside-part name named.inside;
+      no_part = inside-kind name named.inside;
+      parted = named.sits bytes;
+    }) named.cut (named.over (rest_line (lose lost r))) is
 
 -- An outline knows its names.
 lost-known : (bytes : List ℕ) (name : Name) (lost : ℕ) (r : Rest) (p q : Point) → IsLineName name →
@@ -73,14 +82,11 @@ pub lost-facts : (bytes : List ℕ) (name : Name) (kind : LeafKind) (lost : ℕ)
     InsideFacts bytes p q x left from to (AtLine kind) (line_site kind (is_told_of (rest_line (lose lost r))))
     (lost_line name lost r p q) (lost_line name lost r p q)
 lost-facts bytes name kind lost r p q x left from to named is leads reads =
-    let placed = line-placed bytes name lost r p q named is in
     let es = lost_line name lost r p q in
     let all : AreInside (lost_line name lost r p q) = lost-inside name lost r p q named.inside in
     record {
       parts = record {
-        stretch =
-            inside-stretch bytes p q es all placed (λ first last. lost-between bytes name lost r p q is first last)
-            (lost-sits bytes name lost r p q (named.sits bytes));
+        stretch = line-stretch bytes name lost r p q named is;
         unread_word = leads unread_text;
         word = leads plain_text;
         unread_stays = stays-others es (inside-others es all);

@@ -1,6 +1,6 @@
 -- What stands on a line that loses columns of whitespace, and in a fence, by its names: parts of a leaf, no block, no
 -- text part, and none that ends a line.
-use Rattle.std.proofs.Common.{◌≡◌, ℕ, true, false, List, refl}
+use Rattle.std.proofs.Common.{◌≡◌, true, false, List, refl}
 use Rattle.std.specs.Prelude.{None}
 use Rattle.std.proofs.lemmas.Bool.{and_from}
 use Rattle.md_engine.specs.declared.event.Event.{Event}
@@ -14,24 +14,17 @@ use Rattle.md_seam.specs.Events.Tiles.{part_kind}
 use Rattle.md_seam.proofs.EndingsLemmas.{AreOthers, is_other}
 use Rattle.md_seam.proofs.SpelledLemmas.{Roles}
 use Rattle.md_literal_rooms.proofs.IndentRemoved.Names.{AreInside, inside-name, is_inside}
-use Rattle.md_frame.proofs.PartFacts.{NoLinks, NoParts}
-use Rattle.md_engine.specs.declared.event.Point.{Point}
-use Rattle.md_outline.specs.Between.{is_between}
-use Rattle.md_frame.proofs.BetweenFacts.{AreBetween}
-use Rattle.md_frame.proofs.IndentRemoved.Placed.{Placed}
-use Rattle.md_frame.proofs.PartedFacts.{PrefixesAtLineStart}
-use Rattle.md_frame.proofs.Stretch.{Stretch, stretch-same}
 
 -- Names.
 
 -- each is the name of a part of a leaf
-inside-part : (name : Name) → is_inside name ≡ true → IsPart (role name)
+pub inside-part : (name : Name) → is_inside name ≡ true → IsPart (role name)
 inside-part = inside-name (λ name. IsPart (role name)) tt tt tt tt tt tt tt tt
 
 inside-block : (name : Name) → is_inside name ≡ true → is_block (role name) ≡ false
 inside-block = inside-name (λ name. is_block (role name) ≡ false) refl refl refl refl refl refl refl refl
 
-inside-kind : (name : Name) → is_inside name ≡ true → part_kind name ≡ None
+pub inside-kind : (name : Name) → is_inside name ≡ true → part_kind name ≡ None
 inside-kind = inside-name (λ name. part_kind name ≡ None) refl refl refl refl refl refl refl refl
 
 inside-other : (name : Name) → is_inside name ≡ true → is_other (on_line name) ≡ true
@@ -53,18 +46,3 @@ inside-lines es all = blocks-lines es (inside-blocks es all)
 -- and none ends a line
 pub inside-others : (es : List Event) → AreInside es → AreOthers es
 inside-others es all = all AreOthers refl (λ kind name x es e h. and_from _ _ (inside-other name e) h)
-
--- No text part stands among them,
-pub inside-no_parts : (es : List Event) → AreInside es → NoParts es
-inside-no_parts es all = all NoParts tt (λ kind name x es e h. (inside-kind name e, h))
-
-pub inside-unlinked : (es : List Event) → AreInside es → NoLinks es
-inside-unlinked es all = all NoLinks tt (λ kind name x es e h. (refl, h))
-
--- so they are a stretch, before and behind the reading of text parts.
-pub inside-stretch : (bytes : List ℕ) (p q : Point) (es : List Event) → AreInside es → Placed bytes p q es →
-    (is_between bytes p.index ≡ true → is_between bytes q.index ≡ true → AreBetween bytes es) →
-    PrefixesAtLineStart bytes es → Stretch IsPart bytes p q es es
-inside-stretch bytes p q es all placed between parted =
-    stretch-same IsPart bytes p q es (inside-parts es all) placed.nested placed.tiled placed.stood
-    (inside-no_parts es all) (inside-unlinked es all) between parted
