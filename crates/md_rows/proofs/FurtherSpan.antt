@@ -1,6 +1,6 @@
 -- What the frame knows of a leaf of several lines that is open between two lines: a line of it is tried first or, as a
 -- row of a table, last.
-use Rattle.std.proofs.Common.{◌≡◌, ℕ, Bool, true, false, cond, ◌&&◌, ◌||◌, List, [], ◌∷◌, refl, ap, ◌∙◌}
+use Rattle.std.proofs.Common.{◌≡◌, ℕ, Bool, true, false, cond, ◌&&◌, ◌||◌, List, [], ◌∷◌, refl, ap, sym, ◌∙◌}
 use Rattle.std.specs.Prelude.{not, Option, Some, None}
 use Rattle.std.specs.Option.{is_some}
 use Rattle.md_engine.specs.declared.configuration.ParseOptions.{ParseOptions}
@@ -9,27 +9,63 @@ use Rattle.md_engine.specs.declared.tokenizer.held_leaf.HeldLeaf.TheVariants as 
 use Rattle.md_meaning.specs.Leaves.{LeafResult, NoText, goes_on, starts}
 use Rattle.md_meaning.specs.Rest.{Rest, is_blank}
 use Rattle.md_meaning.specs.State.{Leaf, NoLeaf, OpenCode, OpenFence, OpenHtml, OpenParagraph, OpenTable, then_leaf}
-use Rattle.md_meaning.specs.Step.{is_concrete}
+use Rattle.md_meaning.specs.Step.{is_concrete, with_lazy}
 use Rattle.md_meaning.specs.Tree.{Blocks, Table}
 use Rattle.md_leaves.specs.HeadingSetext.{is_text}
 use Rattle.md_outline.specs.HeadingDepths.{are_shallow}
-use Rattle.md_frame.specs.HeldLeaf.{has_lines, kind_of_leaf, left_by}
-use Rattle.md_registry.specs.OpenSpan.{IsBuiltLeaf}
+use Rattle.md_frame.specs.HeldLeaf.{has_lines, kind_of_leaf, left_by, may_go_on, met_by, takes_lazy}
 use Rattle.md_table_rooms.specs.Leaf.GfmTable.{table_leaf}
 use Rattle.md_frame.specs.LeafName.{GfmTable, LeafName, first_of}
-use Rattle.md_registry.specs.OpenSpan.{IsOpenSpan}
+use Rattle.md_frame.specs.Leaf.Paragraph.{open_lines}
+use Rattle.md_registry.specs.OpenSpan.{IsBuiltLeaf, IsOpenSpan}
 use Rattle.md_registry.specs.Registry.{further_of, asked_first, leaf, bars_containers}
-use Rattle.md_frame.specs.Row.{BlankRow, LeafRow, RowKind}
+use Rattle.md_frame.specs.Row.{BlankRow, LeafRow, RowKind, TextRow}
 use Rattle.md_rows.specs.Rows.{inside_or, is_further, kind_of, line_kind}
 use Rattle.md_table_rooms.proofs.GfmTable.Found.{table-goes}
-use Rattle.md_rows.proofs.KindLemmas.{kind-plain}
+use Rattle.md_rows.proofs.KindLemmas.{kind-plain, kind-starts}
 use Rattle.md_registry.proofs.OpenSpan.{ComesShallow, OpenSpan}
-use Rattle.md_registry.proofs.LeafStarts.{came_of, leaf_at}
+use Rattle.md_registry.proofs.LeafStarts.{IsAgainst, came_of, leaf_at}
 use Rattle.md_registry.proofs.SpanLeaves.{code-open, fence-open, html-open}
-use Rattle.md_registry.proofs.Registry.{insider-open}
+use Rattle.md_registry.proofs.Registry.{bars_containers-none, insider-open, laws, text-laws}
 use Rattle.md_rows.proofs.RegistryFound.{or_table, other_at, other_trials, table-last, untabled-at, untext-found}
 use Rattle.md_frame.proofs.ShallowBlocks.{shallow-then}
 use Rattle.md_rows.proofs.TableStarts.{asked-untabled}
+
+-- A line that meets no leaf on which it may go, and no text, goes on none.
+pub none-further : (options : ParseOptions) (on : HeldLeaf) (r : Rest) → may_go_on on ≡ false →
+    is_further (line_kind options on r) on ≡ false
+none-further options on r none = go (line_kind options on r) refl
+  where
+    not : (l : LeafName) (x : Bool) → (leaf l).further on ≡ x → (leaf l).starts options on r ≡ true → x ≡ false
+    not l true e starts = let may = (laws l).meets options on r starts e in cc
+    not l false e starts = refl
+
+    go : (kind : RowKind) → line_kind options on r ≡ kind → is_further kind on ≡ false
+    go BlankRow e = refl
+    go (LeafRow l) e = not l ((leaf l).further on) refl (kind-starts options on r l e)
+    go TextRow e = refl
+
+-- Where what is open is no text, a line whose containers do not all go on meets no leaf,
+pub met-none : (still : HeldLeaf) → takes_lazy still ≡ false → met_by false still ≡ held_leaf.None
+met-none (held_leaf.Text at) unlazy = cc
+met-none (held_leaf.LazyText at) unlazy = cc
+met-none _ unlazy = refl
+
+-- and one that meets it, or no leaf, stands against no text.
+pub context-none : (on : HeldLeaf) → takes_lazy on ≡ false → IsAgainst NoText on
+context-none held_leaf.None unlazy = refl
+context-none (held_leaf.Text at) unlazy = cc
+context-none (held_leaf.LazyText at) unlazy = cc
+context-none held_leaf.Code unlazy = refl
+context-none (held_leaf.Fence marker size indent) unlazy = refl
+context-none (held_leaf.Html kind) unlazy = refl
+context-none held_leaf.Table unlazy = refl
+
+-- A leaf of several lines takes no lazy line.
+pub span-lazy : (options : ParseOptions) (r : Rest) (open_leaf : Leaf) → has_lines (kind_of_leaf open_leaf) ≡ true →
+    with_lazy options open_leaf r ≡ None
+span-lazy options r (OpenParagraph lines) e = cc
+span-lazy options r _ e = refl
 
 -- the kind of a line that goes on no leaf of several lines
 abbrev pub other_kind : ParseOptions → HeldLeaf → Rest → RowKind
@@ -179,3 +215,12 @@ further-span (OpenCode lines) is = asked-further (OpenCode lines) (code-open lin
 further-span (OpenFence o lines) is = asked-further (OpenFence o lines) (fence-open o lines is)
 further-span (OpenHtml kind lines) is = asked-further (OpenHtml kind lines) (html-open kind lines)
 further-span (OpenTable delimiter rows) is = table-further delimiter rows
+
+-- Containers open in it, or in what else may be open, where the line definition lets them.
+pub built-concrete : (open_leaf : Leaf) → IsBuiltLeaf open_leaf →
+    is_concrete open_leaf ≡ bars_containers (kind_of_leaf open_leaf)
+built-concrete open_leaf plain =
+    text-laws.cases IsOpenSpan (λ (l : Leaf). is_concrete l ≡ bars_containers (kind_of_leaf l))
+    (sym (bars_containers-none held_leaf.None refl))
+    (λ k ks. sym (bars_containers-none (held_leaf.Text (open_lines (k ∷ ks))) refl))
+    (λ l is. (further-span l is).concrete) open_leaf plain

@@ -54,7 +54,7 @@ abbrev pub lazy_on : List ParagraphLine → HeldLeaf
 lazy_on lines = held_leaf.LazyText (open_lines lines)
 
 -- The first leaf that starts where a line meets text and is no underline.
-text-others : (options : ParseOptions) (at : OpenText) (r : Rest) → underline_depth options r ≡ None →
+pub text-others : (options : ParseOptions) (at : OpenText) (r : Rest) → underline_depth options r ≡ None →
     setext_leaf.starts options (held_leaf.Text at) r ≡ false → is_blank r.bytes ≡ false →
     starts options Text r ≡ came_of options r (other_at options (held_leaf.Text at) r)
 text-others options at r none unturned dark =
@@ -72,7 +72,7 @@ text-others options at r none unturned dark =
     go false false u w e = refl
 
 -- where it may turn nothing no underline starts
-unturned-setext : (options : ParseOptions) (on : HeldLeaf) (r : Rest) → may_turn options on ≡ false →
+pub unturned-setext : (options : ParseOptions) (on : HeldLeaf) (r : Rest) → may_turn options on ≡ false →
     setext_leaf.starts options on r ≡ false
 unturned-setext options on r may =
     ap
@@ -96,7 +96,7 @@ turned-all options bs lines r depth = go (cut options (texts lines)).1
     go (line ∷ left) some = refl
 
 -- Whether something is, how far the definitions have come tells.
-may-left : (options : ParseOptions) (k : ParagraphLine) (ks : List ParagraphLine) →
+pub may-left : (options : ParseOptions) (k : ParagraphLine) (ks : List ParagraphLine) →
     may_turn options (text_on (k ∷ ks)) ≡ not (is_none_left (cut options (texts (k ∷ ks))).1)
 may-left options k ks = go options.constructs.definition
   where
@@ -177,14 +177,31 @@ underlined-untabled options at r depth e =
     none true false = refl
     none false y = refl
 
+-- Where no underline starts, a leaf that starts and takes no head begins behind the text.
+pub behind-text : (options : ParseOptions) (at : OpenText) (r : Rest) (l : LeafName) →
+    setext_leaf.starts options (held_leaf.Text at) r ≡ false → other_at options (held_leaf.Text at) r ≡ Some l →
+    (leaf l).further (held_leaf.Text at) ≡ false
+behind-text options at r l e found = go ((leaf l).further on) refl
+  where
+    on : HeldLeaf
+    on = held_leaf.Text at
+
+    go : (x : Bool) → (leaf l).further on ≡ x → x ≡ false
+    go false goes = refl
+    go true goes =
+        let starts = first-passes (λ m. (leaf m).starts options on r) other_trials l found in
+        let name : l ≡ HeadingSetext = further-text at l goes (other-headless options on r l found) in
+        let bad : true ≡ false = sym starts ∙ ap (λ (m : LeafName). (leaf m).starts options on r) name ∙ e in
+        cc
+
 -- Of lines of text, the last, and those in front of it.
 
-record Ended (lines : List ParagraphLine) : Type 0 where
-  front : List ParagraphLine
-  last : ParagraphLine
-  is : lines ≡ front ++ last ∷ []
+pub record Ended (lines : List ParagraphLine) : Type 0 where
+  pub front : List ParagraphLine
+  pub last : ParagraphLine
+  pub is : lines ≡ front ++ last ∷ []
 
-ended : (k : ParagraphLine) (ks : List ParagraphLine) → Ended (k ∷ ks)
+pub ended : (k : ParagraphLine) (ks : List ParagraphLine) → Ended (k ∷ ks)
 ended k [] = record { front = []; last = k; is = refl }
 ended k (next ∷ ks) =
     let more : Ended (next ∷ ks) = ended next ks in
@@ -196,7 +213,7 @@ front-is (first ∷ []) k = refl
 front-is (first ∷ next ∷ lines) k = ap (λ (l : List ParagraphLine). first ∷ l) (front-is (next ∷ lines) k)
 
 -- what is held of them is right of the last
-knows-head : (lines : List ParagraphLine) (k : ParagraphLine) → KnowsHead (open_lines (lines ++ k ∷ [])) k
+pub knows-head : (lines : List ParagraphLine) (k : ParagraphLine) → KnowsHead (open_lines (lines ++ k ∷ [])) k
 knows-head lines k = record {
   columns = last-is (λ k. head_columns k.text) lines k;
   indent = last-is (λ k. k.indent) lines k;
@@ -271,16 +288,6 @@ text-comes options bs k ks r dark = go (may_turn options on) refl
     left : (x : Bool) → may_turn options on ≡ x → is_none_left (cut options (texts lines)).1 ≡ not x
     left x e = not-not (may_turn options on) (is_none_left (cut options (texts lines)).1) (may-left options k ks) x e
 
-    -- a leaf begins behind the text
-    behind : (l : LeafName) → setext_leaf.starts options on r ≡ false → other_at options on r ≡ Some l → (x : Bool) →
-        (leaf l).further on ≡ x → x ≡ false
-    behind l e found false goes = refl
-    behind l e found true goes =
-        let starts = first-passes (λ m. (leaf m).starts options on r) other_trials l found in
-        let name : l ≡ HeadingSetext = further-text (open_lines lines) l goes (other-headless options on r l found) in
-        let bad : true ≡ false = sym starts ∙ ap (λ (m : LeafName). (leaf m).starts options on r) name ∙ e in
-        cc
-
     by : setext_leaf.starts options on r ≡ false → (o : Option LeafName) → other_at options on r ≡ o →
         text_by options bs lines r (came_of options r o) ≡
         text_came options bs lines r (or_table (table_leaf.starts options on r) o)
@@ -294,7 +301,7 @@ text-comes options bs k ks r dark = go (may_turn options on) refl
         (came (front_before (leaf l).heads options bs (text_leaf.held lines))
         ((leaf l).comes options (text_leaf.held lines) r))
         (came (text_leaf.behind options bs (texts lines)) ((leaf l).comes options NoLeaf r)))
-        (behind l e found ((leaf l).further on) refl))
+        (behind-text options (open_lines lines) r l e found))
 
     -- no underline stands here
     other : underline_depth options r ≡ None → setext_leaf.starts options on r ≡ false → Done None
