@@ -1,5 +1,5 @@
 -- What one line does to the containers and the leaf that are open, where only leaves that are built may be on.
-use Rattle.md_frame.specs.HeldLeaf.{has_lines, may_go_on, takes_lazy}
+use Rattle.md_frame.specs.HeldLeaf.{has_lines, takes_lazy}
 use Rattle.md_engine.specs.declared.tokenizer.held_leaf.HeldLeaf.TheVariants as held_leaf
 use Rattle.md_engine.specs.declared.tokenizer.held_leaf.HeldLeaf.{HeldLeaf}
 use Rattle.std.proofs.Common.{◌≡◌, ℕ, zero, suc, ◌≤◌, Bool, true, false, cond, ◌&&◌, ◌||◌, List, [], ◌∷◌, ◌++◌}
@@ -13,7 +13,7 @@ use Rattle.md_meaning.specs.Leaves.{LeafResult, LazyText, NoText, Opened, goes_o
 use Rattle.md_meaning.specs.Rest.{Rest, is_blank}
 use Rattle.md_meaning.specs.State.{At, Container, ParagraphLine, Leaf, NoLeaf, OpenParagraph, Path, Innermost, Within}
 use Rattle.md_meaning.specs.State.{at_spot, closed, container_block, kept, shut, spot, texts, then_block, then_leaf}
-use Rattle.md_meaning.specs.Step.{all_continued, all_continued_by, came, entered, fresh_by, fresh_line, is_concrete}
+use Rattle.md_meaning.specs.Step.{all_continued, all_continued_by, came, entered, fresh_by, fresh_line}
 use Rattle.md_meaning.specs.Step.{is_open_text, lazy_by, leaf_line, leaf_line_by, on_or_fresh, opened, spot_of, step}
 use Rattle.md_meaning.specs.Step.{stopped, stopped_by, text_line, underline_or_text, with_lazy}
 use Rattle.md_meaning.specs.Tree.{Blocks, End}
@@ -34,50 +34,21 @@ use Rattle.md_registry.specs.OpenSpan.{IsBuiltLeaf, IsOpenSpan}
 use Rattle.md_rows.specs.Stands.{IsPlain, containers_of, still_of}
 use Rattle.md_frame.specs.Leaf.Paragraph.{held_of, open_lines}
 use Rattle.md_rows.proofs.ContainedLemmas.{change-opens, ended-open, lazy-some, lines-unlazy}
-use Rattle.md_rows.proofs.KindLemmas.{kind-plain, kind-starts}
-use Rattle.md_rows.proofs.FurtherSpan.{FurtherSpan, further-span, other-begins, other_kind}
-use Rattle.md_registry.proofs.LeafStarts.{IsAgainst, came_of, leaf_at}
-use Rattle.md_registry.proofs.Registry.{insider-none, laws, text-laws}
+use Rattle.md_rows.proofs.KindLemmas.{kind-plain}
+use Rattle.md_rows.proofs.FurtherSpan.{FurtherSpan, built-concrete, context-none, further-span, met-none, none-further}
+use Rattle.md_rows.proofs.FurtherSpan.{other-begins, other_kind, span-lazy}
+use Rattle.md_registry.proofs.LeafStarts.{came_of, leaf_at}
+use Rattle.md_registry.proofs.Registry.{insider-none, text-laws}
 use Rattle.md_registry.proofs.LeafStarts.{text-starts}
-use Rattle.md_registry.proofs.Registry.{bars_containers-none}
 use Rattle.md_rows.proofs.RegistryFound.{other_at, untabled-at, untext-found}
 use Rattle.md_rows.proofs.TextFound.{front_before, lazy_on, text-comes, text_came, text_on}
 
 -- Leaves of several lines.
 
--- a line that meets none, and no text, goes on none
-pub none-further : (options : ParseOptions) (on : HeldLeaf) (r : Rest) → may_go_on on ≡ false →
-    is_further (line_kind options on r) on ≡ false
-none-further options on r none = go (line_kind options on r) refl
-  where
-    not : (l : LeafName) (x : Bool) → (leaf l).further on ≡ x → (leaf l).starts options on r ≡ true → x ≡ false
-    not l true e starts = let may = (laws l).meets options on r starts e in cc
-    not l false e starts = refl
-
-    go : (kind : RowKind) → line_kind options on r ≡ kind → is_further kind on ≡ false
-    go BlankRow e = refl
-    go (LeafRow l) e = not l ((leaf l).further on) refl (kind-starts options on r l e)
-    go TextRow e = refl
-
--- no line goes on one lazily, and it is not against where its containers did not go on
+-- no line goes on one lazily
 lazy-none : (still : HeldLeaf) (opens : List Container) (kind : RowKind) → takes_lazy still ≡ false →
     is_lazy still opens kind ≡ false
 lazy-none still opens kind unlazy = ap (λ (x : Bool). x && is_none opens && is_text kind) unlazy
-
-met-none : (still : HeldLeaf) → takes_lazy still ≡ false → met_by false still ≡ held_leaf.None
-met-none (held_leaf.Text at) unlazy = cc
-met-none (held_leaf.LazyText at) unlazy = cc
-met-none _ unlazy = refl
-
--- a line that meets one, or no leaf, stands against no text
-context-none : (on : HeldLeaf) → takes_lazy on ≡ false → IsAgainst NoText on
-context-none held_leaf.None unlazy = refl
-context-none (held_leaf.Text at) unlazy = cc
-context-none (held_leaf.LazyText at) unlazy = cc
-context-none held_leaf.Code unlazy = refl
-context-none (held_leaf.Fence marker size indent) unlazy = refl
-context-none (held_leaf.Html kind) unlazy = refl
-context-none held_leaf.Table unlazy = refl
 
 -- nothing stands in front of what is no text
 pub front-unlazy : (heads : Bool) (options : ParseOptions) (bs : Blocks) (open_leaf : Leaf) →
@@ -87,7 +58,7 @@ front-unlazy true options bs _ unlazy = refl
 front-unlazy false options bs (OpenParagraph lines) unlazy = cc
 front-unlazy false options bs _ unlazy = refl
 
--- by the line definition one goes on or ends, and takes no lazy line
+-- by the line definition one goes on or ends
 span-line : (options : ParseOptions) (s : Innermost) (r : Rest) (open_leaf : Leaf) →
     has_lines (kind_of_leaf open_leaf) ≡ true →
     leaf_line_by options s r open_leaf ≡ on_or_fresh options s r (goes_on options open_leaf r)
@@ -95,20 +66,7 @@ span-line options s r NoLeaf e = cc
 span-line options s r (OpenParagraph lines) e = cc
 span-line options s r _ e = refl
 
-span-lazy : (options : ParseOptions) (r : Rest) (open_leaf : Leaf) → has_lines (kind_of_leaf open_leaf) ≡ true →
-    with_lazy options open_leaf r ≡ None
-span-lazy options r (OpenParagraph lines) e = cc
-span-lazy options r _ e = refl
-
--- and containers open in it, or in what else may be open, where the line definition lets them
-built-concrete : (open_leaf : Leaf) → IsBuiltLeaf open_leaf →
-    is_concrete open_leaf ≡ bars_containers (kind_of_leaf open_leaf)
-built-concrete open_leaf plain =
-    text-laws.cases IsOpenSpan (λ (l : Leaf). is_concrete l ≡ bars_containers (kind_of_leaf l))
-    (sym (bars_containers-none held_leaf.None refl))
-    (λ k ks. sym (bars_containers-none (text_on (k ∷ ks)) refl)) (λ l is. (further-span l is).concrete) open_leaf plain
-
--- the first of them interrupts what is open if that is text
+-- the first container that opens interrupts what is open if that is text
 text-interrupted : (open_leaf : Leaf) → is_open_text open_leaf ≡ interrupts (kind_of_leaf open_leaf) []
 text-interrupted (OpenParagraph lines) = refl
 text-interrupted _ = refl

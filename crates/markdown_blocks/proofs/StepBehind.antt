@@ -34,11 +34,11 @@ use Rattle.md_rows.specs.Stands.{IsPlain, containers_of, still_of}
 use Rattle.md_rows.proofs.ContainedLemmas.{contained-met, contained-size, contained-still, lazy-opens}
 use Rattle.md_rows.proofs.ContainedLemmas.{lines-open}
 use Rattle.md_rows.proofs.KindLemmas.{kind-starts}
-use Rattle.md_rows.proofs.FurtherSpan.{FurtherSpan, further-span, other-begins, other_kind}
+use Rattle.md_rows.proofs.FurtherSpan.{FurtherSpan, further-span, none-further, other-begins, other_kind}
 use Rattle.md_frame.proofs.LastKept.{last-is}
 use Rattle.markdown_blocks.proofs.LineSteps.{behind_path, come_by, contained-lazy, contained_at}
 use Rattle.markdown_blocks.proofs.LineSteps.{further_path}
-use Rattle.markdown_blocks.proofs.LineSteps.{goes_further, goes_lazy, kept_to, longer, new_line, none-further}
+use Rattle.markdown_blocks.proofs.LineSteps.{goes_further, goes_lazy, kept_to, longer, new_line}
 use Rattle.markdown_blocks.proofs.LineSteps.{path_by, renewed, renewed-spot, spot_by}
 use Rattle.markdown_blocks.proofs.LineSteps.{step-contained, with_came}
 use Rattle.md_registry.proofs.OpenSpan.{Begun, ComesShallow, TurnsText}
