@@ -9,7 +9,8 @@ use Rattle.md_engine.specs.declared.tokenizer.held_leaf.HeldLeaf.{HeldLeaf}
 use Rattle.md_engine.specs.declared.tokenizer.held_leaf.HeldLeaf.TheVariants as held_leaf
 use Rattle.md_meaning.specs.Leaves.{LazyText, LeafResult, NoText, Text, starts, table_at, underline_depth}
 use Rattle.md_meaning.specs.Rest.{Rest, is_blank}
-use Rattle.md_meaning.specs.State.{Innermost, Leaf, NoLeaf, OpenParagraph, ParagraphLine, cut, kept, shut_paragraph, texts}
+use Rattle.md_meaning.specs.State.{Innermost, Leaf, NoLeaf, OpenParagraph, ParagraphLine, cut, kept, shut_paragraph}
+use Rattle.md_meaning.specs.State.{texts}
 use Rattle.md_meaning.specs.Step.{came, with_lazy}
 use Rattle.md_meaning.specs.Tree.{Blocks, End}
 use Rattle.md_exact.specs.Rows.{Blank, Delimiter, First, FirstText, Further, FurtherText, Role, Underline, first_or}

@@ -6,3 +6,4 @@ pub mod TextRuns
 pub mod GroupRuns
 pub mod ExactRoles
 pub mod RowsMet
+pub mod GroupsMatch

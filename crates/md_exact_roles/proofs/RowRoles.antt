@@ -216,7 +216,7 @@ pub record MeetsLeaf (options : ParseOptions) (bytes : List ℕ) (open_leaf : Le
   pub met : may_go_on row.on ≡ true → row.on ≡ kind_of_leaf open_leaf
 
 -- text is open behind it if it is text
-behind-lazy : (options : ParseOptions) (bytes line : List ℕ) (row : Row) → IsRow options bytes line row →
+pub behind-lazy : (options : ParseOptions) (bytes line : List ℕ) (row : Row) → IsRow options bytes line row →
     takes_lazy row.behind ≡ is_text row.kind
 behind-lazy options bytes line row is = ap takes_lazy is.behind ∙ go row.kind
   where
@@ -225,7 +225,7 @@ behind-lazy options bytes line row is = ap takes_lazy is.behind ∙ go row.kind
     go (LeafRow l) = ((laws l).not_lazy options row.on).1 is.rest
     go TextRow = refl
 
-code-further : (l : LeafName) → (leaf l).further held_leaf.Code ≡ true → l ≡ CodeFurther
+pub code-further : (l : LeafName) → (leaf l).further held_leaf.Code ≡ true → l ≡ CodeFurther
 code-further CodeIndented e = cc
 code-further CodeFurther e = refl
 code-further Fence e = cc

@@ -7,8 +7,8 @@ use Rattle.md_frame.specs.LeafName.{CodeFurther, CodeIndented, Fence, FenceFurth
 use Rattle.md_frame.specs.LeafName.{HtmlFlow, HtmlFurther, LeafName, ThematicBreak}
 use Rattle.md_frame.specs.Row.{BlankRow, LeafRow, Row, RowKind, TextRow}
 use Rattle.md_registry.specs.Registry.{leaf}
-use Rattle.md_rows.specs.Rows.{Group, Headed, LeafLines, Lines, Single, Turned, groups, is_further, is_last, onto_groups}
-use Rattle.md_rows.specs.Rows.{onto_leaf, onto_span, takes_head}
+use Rattle.md_rows.specs.Rows.{Group, Headed, LeafLines, Lines, Single, Turned, groups, is_further, is_last}
+use Rattle.md_rows.specs.Rows.{onto_groups, onto_leaf, onto_span, takes_head}
 use Rattle.md_rows.proofs.GroupLines.{Begins, FirstIs, onto-first}
 use Rattle.md_exact_roles.proofs.RowRoles.{further_rows, is_headed}
 
@@ -18,7 +18,7 @@ behind_further [] = []
 behind_further (row ∷ rows) = if is_further row.kind row.on then behind_further rows else row ∷ rows
 
 -- a line that goes on a leaf is one of a leaf of several lines
-further-several : (l : LeafName) (on : HeldLeaf) → (leaf l).further on ≡ true → (leaf l).ends ≡ false
+pub further-several : (l : LeafName) (on : HeldLeaf) → (leaf l).further on ≡ true → (leaf l).ends ≡ false
 further-several CodeIndented on e = refl
 further-several CodeFurther on e = refl
 further-several Fence on e = refl
@@ -31,7 +31,7 @@ further-several ThematicBreak on e = cc
 further-several GfmTable on e = refl
 
 -- a line of a leaf of several in front of lines of which the first goes on no leaf
-span-alone : (row : Row) (gs : List Group) → FirstIs Begins gs → onto_span row gs ≡ LeafLines row [] ∷ gs
+pub span-alone : (row : Row) (gs : List Group) → FirstIs Begins gs → onto_span row gs ≡ LeafLines row [] ∷ gs
 span-alone row [] first = refl
 span-alone row (Single next ∷ gs) first = refl
 span-alone row (Lines next rows ∷ gs) first = refl
