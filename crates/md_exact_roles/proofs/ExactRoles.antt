@@ -94,15 +94,21 @@ pub record IsMet (options : ParseOptions) (bytes : List ℕ) (p : Path) (line : 
   pub is : IsRow options bytes own row
   pub rest_is : is.rest ≡ (contained_at options p (whole line)).rest
   pub on : row.on ≡ (contained_at options p (whole line)).on
+  pub change : row.change ≡ (contained_at options p (whole line)).change
   pub behind : still_of (step options p (whole line)) ≡ row.behind
+
+-- the containers that end behind it are those that end in front of the next
+abbrev pub EndsTo : Row → List Row → Type 0
+EndsTo row [] = Unit {0}
+EndsTo row (next ∷ rows) = row.closed_after ≡ next.change.closes
 
 abbrev pub AreMet : ParseOptions → List ℕ → Path → List TextLine → List Row → Type 0
 AreMet options bytes p [] [] = Unit {0}
 AreMet options bytes p (line ∷ lines) (row ∷ rows) =
-    IsMet options bytes p line row × AreMet options bytes (step options p (whole line)) lines rows
+    IsMet options bytes p line row × EndsTo row rows × AreMet options bytes (step options p (whole line)) lines rows
 AreMet options bytes p _ _ = ⊥
 
-abbrev meets-leaf : (options : ParseOptions) (bytes : List ℕ) (p : Path) (line : TextLine) (row : Row) →
+abbrev pub meets-leaf : (options : ParseOptions) (bytes : List ℕ) (p : Path) (line : TextLine) (row : Row) →
     IsMet options bytes p line row → MeetsLeaf options bytes (spot p).leaf row
 meets-leaf options bytes p line row is = record {
   line = is.own;
@@ -145,7 +151,7 @@ first-role options bytes p (line ∷ lines) (row ∷ rows) are =
     (sym is.is.kind)
     ∙ role-before options bytes (spot p).leaf row (next_role below) rows (meets-leaf options bytes p line row is)
     (subst (λ (behind : HeldLeaf). IsNext (next_role below) behind rows) is.behind
-    (next-known options bytes after lines rows are.1 (first-role options bytes after lines rows are.1)))
+    (next-known options bytes after lines rows are.2 (first-role options bytes after lines rows are.2)))
   where
     is : IsMet options bytes p line row
     is = are.0

@@ -1,5 +1,5 @@
--- The lines of the exact list are put together as their rows are grouped, but for blank lines behind code, each of which
--- is alone.
+-- The lines of the exact list are put together as their rows are grouped, but for blank lines behind code, each of
+-- which is alone.
 use Rattle.std.proofs.Common.{◌≡◌, ℕ, Bool, true, false, cond, List, [], ◌∷◌, ◌++◌, refl, ap, ap₂, sym, ◌∙◌, subst}
 use Rattle.std.specs.Prelude.{◌&&◌, ◌||◌, not, if◌then◌else◌}
 use Rattle.md_engine.specs.declared.configuration.ParseOptions.{ParseOptions}
@@ -445,8 +445,9 @@ match-step options bytes Fit e f es fs ess row next rows are more = go row.kind 
         (subst (λ (l : List Group). GroupsMatch Fit l ((f ∷ fs) ∷ ess)) same more))
 
     -- that is one line
-    single-kind : (kind : RowKind) → next.kind ≡ kind → onto_groups next kind (groups rows) ≡ Single next ∷ groups rows →
-        goes_kind next rows kind ≡ false → Done (onto_groups row TextRow gs) g
+    single-kind : (kind : RowKind) → next.kind ≡ kind →
+        onto_groups next kind (groups rows) ≡ Single next ∷ groups rows → goes_kind next rows kind ≡ false →
+        Done (onto_groups row TextRow gs) g
     single-kind kind k onto_first none =
         alone (Single next ∷ groups rows) (ap (λ (x : RowKind). onto_groups next x (groups rows)) k ∙ onto_first) refl
         (ap (goes_kind next rows) k ∙ none)

@@ -7,3 +7,4 @@ pub mod GroupRuns
 pub mod ExactRoles
 pub mod RowsMet
 pub mod GroupsMatch
+pub mod Aligned

@@ -47,6 +47,7 @@ line-met options bytes p q line own row knows plain same is = record {
   is = is.is;
   rest_is = rest;
   on = on;
+  change = is.change ∙ ap (λ (r : Rest). (contained_at options p r).change) (sym same);
   behind =
       knows.still p (whole line) plain
       ∙ ap₂ (λ (met : HeldLeaf) (r : Rest). line_behind options met r (line_kind options met r)) (sym on) (sym rest)
@@ -72,9 +73,10 @@ rows-met options bytes p q (line ∷ []) (own ∷ next ∷ owns) rows knows plai
 rows-met options bytes p q (line ∷ []) (own ∷ []) (row ∷ below ∷ rows) knows plain have are = absurd are
 rows-met options bytes p q (line ∷ next ∷ lines) (own ∷ after ∷ owns) (row ∷ []) knows plain have are = absurd are
 rows-met options bytes p q (line ∷ []) (own ∷ []) (row ∷ []) knows plain have are =
-    (line-met options bytes p q line own row knows plain (whole-from q line own have.0 have.1) are.0, tt)
+    (line-met options bytes p q line own row knows plain (whole-from q line own have.0 have.1) are.0, tt, tt)
 rows-met options bytes p q (line ∷ next ∷ lines) (own ∷ after ∷ owns) (row ∷ below ∷ rows) knows plain have are = (
   met,
+  are.1,
   rows-met options bytes (step options p (whole line)) are.2 (next ∷ lines) (after ∷ owns) (below ∷ rows) knows
       (knows.plain p (whole line) plain)
       (subst (λ (column : ℕ). HaveBytes column (next ∷ lines) (after ∷ owns)) (sym (ap (λ (n : ℕ). n - 1) are.4.column))
