@@ -6,5 +6,6 @@ pub mod TextRuns
 pub mod GroupRuns
 pub mod ExactRoles
 pub mod RowsMet
+pub mod TextLines
 pub mod GroupsMatch
 pub mod Aligned

@@ -1,0 +1,202 @@
+-- The lines behind the front of a text, by their bytes: they are those that rows are made of.
+use Rattle.std.proofs.Common.{◌≡◌, ◌⊎◌, inl, inr, ℕ, zero, suc, ◌+◌, ◌-◌, Bool, true, false, cond, List, [], ◌∷◌, ◌++◌}
+use Rattle.std.proofs.Common.{length, drop, refl, ap, sym, ◌∙◌, subst, subst₂, append_assoc, arith}
+use Rattle.std.proofs.Math.Seq.{drop-append_seam, drop-nil}
+use Rattle.std.proofs.lemmas.List.{drop-drop}
+use Rattle.md_engine.specs.declared.configuration.ParseOptions.{ParseOptions}
+use Rattle.md_engine.specs.declared.event.Point.{Point}
+use Rattle.md_meaning.specs.Bytes.{is_end}
+use Rattle.md_meaning.specs.Lines.{full_lines_of}
+use Rattle.md_meaning.specs.Preamble.{first_column, has_mark, without_mark}
+use Rattle.md_meaning.specs.Texts.{split_lines}
+use Rattle.md_meaning.proofs.TextsLemmas.{Both, Ending, LineFeed, Return, ending_bytes, split-line, split-next}
+use Rattle.md_front_rooms.specs.Front.{body_point, ending_of}
+use Rattle.md_front_rooms.proofs.FullLines.{IsLines, LastLine, NextLine, NoLines, ending-is, full-lines, last-ending, last-is}
+use Rattle.md_front_rooms.proofs.FullLines.{line-is}
+use Rattle.md_exact.specs.Blocks.{front_size, text_lines}
+use Rattle.md_exact.specs.Places.{TextLine, line_at, lines_from}
+use Rattle.md_exact_fronts.proofs.Front.{begin}
+use Rattle.md_exact_fronts.proofs.FrontBody.{Body, Ends, Goes, front-body}
+use Rattle.md_exact_roles.proofs.RowsMet.{HaveBytes}
+
+some-ending : (ending : Ending) → is_end (ending_bytes ending) ≡ false
+some-ending LineFeed = refl
+some-ending Return = refl
+some-ending Both = refl
+
+-- The lines of a text, from a point on, have the bytes of its lines.
+have-bytes : (number index column : ℕ) (text : List ℕ) (fulls : List (List ℕ)) → IsLines text fulls →
+    HaveBytes column (lines_from number index column fulls) (split_lines text)
+have-bytes number index column text fulls NoLines = (refl, refl, tt)
+have-bytes number index column text fulls (LastLine b line h) =
+    subst (λ (owns : List (List ℕ)). HaveBytes column (lines (is_end (ending_of full))) owns)
+    (sym (split-line full h))
+    (subst (λ (x : Bool). HaveBytes column (lines x) (full ∷ [])) (sym (ap is_end (last-ending full h)))
+    (last-is full h, refl, tt))
+  where
+    full : List ℕ
+    full = b ∷ line
+
+    lines : Bool → List TextLine
+    lines x =
+        line_at number index column full ∷ cond x [] (lines_from (number + 1) (index + length full) 0 [])
+have-bytes number index column text fulls (NextLine line ending rest more h before is same) =
+    subst₂
+    (λ (x : Bool) (owns : List (List ℕ)).
+    HaveBytes column
+    (line_at number index column full ∷ cond x [] (lines_from (number + 1) (index + length full) 0 more)) owns)
+    (sym (ap is_end (ending-is line ending h) ∙ some-ending ending))
+    (sym
+    (ap split_lines (sym (append_assoc line (ending_bytes ending) rest)) ∙ split-next line ending rest h before))
+    (line-is line ending h, refl, have-bytes (number + 1) (index + length full) 0 rest more is)
+  where
+    full : List ℕ
+    full = line ++ ending_bytes ending
+
+-- Behind some of its lines.
+
+pub record LinesLeft (text : List ℕ) (lines : List TextLine) : Type 0 where
+  pub number : ℕ
+  pub index : ℕ
+  pub column : ℕ
+  pub fulls : List (List ℕ)
+  pub are : IsLines (drop index text) fulls
+  pub is : lines ≡ lines_from number index column fulls
+
+lines-behind : (text full : List ℕ) (more : List (List ℕ)) (fulls : List (List ℕ)) → IsLines text fulls →
+    fulls ≡ full ∷ more → is_end (ending_of full) ≡ false → IsLines (drop (length full) text) more
+lines-behind text full more fulls NoLines e some = absurd (cc)
+lines-behind text full more fulls (LastLine b line h) e some =
+    let same : b ∷ line ≡ full = cc in
+    let bad : true ≡ false = sym (ap is_end (last-ending (b ∷ line) h)) ∙ ap (λ (l : List ℕ). is_end (ending_of l)) same
+    ∙ some in
+    absurd (cc)
+lines-behind text full more fulls (NextLine line ending rest below h before is same) e some =
+    let one : line ++ ending_bytes ending ≡ full = cc in
+    let others : below ≡ more = cc in
+    subst₂ (λ (l : List ℕ) (ls : List (List ℕ)). IsLines l ls)
+    (sym
+    (ap (λ (l : List ℕ). drop (length l) (line ++ (ending_bytes ending ++ rest))) (sym one)
+    ∙ ap (drop (length (line ++ ending_bytes ending))) (sym (append_assoc line (ending_bytes ending) rest))
+    ∙ drop-append_seam (line ++ ending_bytes ending) rest)) others is
+
+lines-left : (text : List ℕ) (number index column : ℕ) (fulls : List (List ℕ)) → IsLines (drop index text) fulls →
+    (k : ℕ) →
+    (drop k (lines_from number index column fulls) ≡ [])
+    ⊎ LinesLeft text (drop k (lines_from number index column fulls))
+lines-left text number index column fulls are zero =
+    inr
+    (record { number = number; index = index; column = column; fulls = fulls; are = are; is = refl })
+lines-left text number index column [] are (suc k) = inl (drop-nil k)
+lines-left text number index column (full ∷ more) are (suc k) =
+    go (is_end (ending_of full)) refl
+    (λ next. lines-left text (number + 1) (index + length full) 0 more next k)
+  where
+    go : (x : Bool) → is_end (ending_of full) ≡ x →
+        (IsLines (drop (index + length full) text) more →
+        (drop k (lines_from (number + 1) (index + length full) 0 more) ≡ [])
+        ⊎ LinesLeft text (drop k (lines_from (number + 1) (index + length full) 0 more))) →
+        (drop k (cond (is_end (ending_of full)) [] (lines_from (number + 1) (index + length full) 0 more)) ≡ [])
+        ⊎ LinesLeft text
+        (drop k (cond (is_end (ending_of full)) [] (lines_from (number + 1) (index + length full) 0 more)))
+    go true e below =
+        inl
+        (ap
+        (λ (x : Bool). drop k (cond x [] (lines_from (number + 1) (index + length full) 0 more))) e
+        ∙ drop-nil k)
+    go false e below =
+        subst
+        (λ (x : Bool).
+        (drop k (cond x [] (lines_from (number + 1) (index + length full) 0 more)) ≡ [])
+        ⊎ LinesLeft text (drop k (cond x [] (lines_from (number + 1) (index + length full) 0 more)))) (sym e)
+        (below
+        (subst (λ (l : List ℕ). IsLines l more) (drop-drop (length full) index text)
+        (lines-behind (drop index text) full more (full ∷ more) are refl e)))
+
+-- Behind its front.
+
+mark-left : (text : List ℕ) → without_mark text ≡ drop (first_column text) text
+mark-left text = go (has_mark text)
+  where
+    go : (x : Bool) → cond x (drop 3 text) text ≡ drop (cond x 3 0) text
+    go true = refl
+    go false = refl
+
+record BeginsAt (p : Point) (lines : List TextLine) : Type 0 where
+  number : ℕ
+  index : ℕ
+  column : ℕ
+  fulls : List (List ℕ)
+  point : p ≡ begin number index column
+  is : lines ≡ lines_from number index column fulls
+
+begins : (p : Point) (lines : List TextLine) → Body p lines → (lines ≡ []) ⊎ BeginsAt p lines
+begins p lines (Goes number index column fulls) =
+    inr
+    (record { number = number; index = index; column = column; fulls = fulls; point = refl; is = refl })
+begins p lines (Ends q) = inl refl
+
+abbrev first_of : (TextLine → ℕ) → List TextLine → ℕ
+first_of f [] = 0
+first_of f (line ∷ lines) = f line
+
+first-is : (f : TextLine → ℕ) (number index column : ℕ) (fulls : List (List ℕ)) (x : ℕ) →
+    ((full : List ℕ) → f (line_at number index column full) ≡ x) →
+    first_of f (lines_from number index column fulls) ≡ x
+first-is f number index column [] x h = h []
+first-is f number index column (full ∷ more) x h = h full
+
+-- They have the bytes of the lines of its body, of which the first begins in the column of that; or there are none.
+pub body-bytes : (options : ParseOptions) (text : List ℕ) →
+    let q = body_point options text in
+    let lines = drop (front_size options text) (text_lines text) in
+    (lines ≡ []) ⊎ HaveBytes (q.column - 1) lines (split_lines (drop q.index text))
+body-bytes options text = by (begins q lines (front-body options text)) left
+  where
+    q : Point
+    q = body_point options text
+
+    size : ℕ
+    size = first_column text
+
+    lines : List TextLine
+    lines = drop (front_size options text) (text_lines text)
+
+    left : (lines ≡ []) ⊎ LinesLeft text lines
+    left =
+        lines-left text 1 size size (full_lines_of (without_mark text))
+        (subst (λ (l : List ℕ). IsLines l (full_lines_of (without_mark text))) (mark-left text)
+        (full-lines (without_mark text))) (front_size options text)
+
+    some : BeginsAt q lines → LinesLeft text lines → HaveBytes (q.column - 1) lines (split_lines (drop q.index text))
+    some from is =
+        subst (λ (ls : List TextLine). HaveBytes (q.column - 1) ls (split_lines (drop q.index text))) (sym is.is)
+        (subst₂
+        (λ (column index : ℕ).
+        HaveBytes column (lines_from is.number is.index is.column is.fulls) (split_lines (drop index text)))
+        (sym column) (sym index)
+        (have-bytes is.number is.index is.column (drop is.index text) is.fulls is.are))
+      where
+        same : (f : TextLine → ℕ) (x y : ℕ) →
+            ((full : List ℕ) → f (line_at from.number from.index from.column full) ≡ x) →
+            ((full : List ℕ) → f (line_at is.number is.index is.column full) ≡ y) → x ≡ y
+        same f x y h k =
+            sym (first-is f from.number from.index from.column from.fulls x h)
+            ∙ ap (first_of f) (sym from.is ∙ is.is) ∙ first-is f is.number is.index is.column is.fulls y k
+
+        index : q.index ≡ is.index
+        index =
+            ap (λ (p : Point). p.index) from.point
+            ∙ same (λ (line : TextLine). line.index) from.index is.index (λ full. refl) (λ full. refl)
+
+        column : q.column - 1 ≡ is.column
+        column =
+            let at : q.column ≡ from.column + 1 = ap (λ (p : Point). p.column) from.point in
+            let first : q.column - 1 ≡ from.column = omega (arith, at) in
+            first ∙ same (λ (line : TextLine). line.column) from.column is.column (λ full. refl) (λ full. refl)
+
+    by : (lines ≡ []) ⊎ BeginsAt q lines → (lines ≡ []) ⊎ LinesLeft text lines →
+        (lines ≡ []) ⊎ HaveBytes (q.column - 1) lines (split_lines (drop q.index text))
+    by (inl none) is = inl none
+    by (inr from) (inl none) = inl none
+    by (inr from) (inr is) = inr (some from is)
