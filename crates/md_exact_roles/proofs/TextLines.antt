@@ -11,8 +11,8 @@ use Rattle.md_meaning.specs.Preamble.{first_column, has_mark, without_mark}
 use Rattle.md_meaning.specs.Texts.{split_lines}
 use Rattle.md_meaning.proofs.TextsLemmas.{Both, Ending, LineFeed, Return, ending_bytes, split-line, split-next}
 use Rattle.md_front_rooms.specs.Front.{body_point, ending_of}
-use Rattle.md_front_rooms.proofs.FullLines.{IsLines, LastLine, NextLine, NoLines, ending-is, full-lines, last-ending, last-is}
-use Rattle.md_front_rooms.proofs.FullLines.{line-is}
+use Rattle.md_front_rooms.proofs.FullLines.{IsLines, LastLine, NextLine, NoLines, ending-is, full-lines, last-ending}
+use Rattle.md_front_rooms.proofs.FullLines.{last-is, line-is}
 use Rattle.md_exact.specs.Blocks.{front_size, text_lines}
 use Rattle.md_exact.specs.Places.{TextLine, line_at, lines_from}
 use Rattle.md_exact_fronts.proofs.Front.{begin}
