@@ -7,5 +7,6 @@ pub mod GroupRuns
 pub mod ExactRoles
 pub mod RowsMet
 pub mod TextLines
+pub mod NoLines
 pub mod GroupsMatch
 pub mod Aligned

@@ -19,7 +19,7 @@ use Rattle.md_exact_fronts.proofs.Front.{begin}
 use Rattle.md_exact_fronts.proofs.FrontBody.{Body, Ends, Goes, front-body}
 use Rattle.md_exact_roles.proofs.RowsMet.{HaveBytes}
 
-some-ending : (ending : Ending) → is_end (ending_bytes ending) ≡ false
+pub some-ending : (ending : Ending) → is_end (ending_bytes ending) ≡ false
 some-ending LineFeed = refl
 some-ending Return = refl
 some-ending Both = refl
