@@ -1,7 +1,6 @@
 -- What stands in a text once its lines and its content are read: texts that are not read yet.
 use Rattle.md_engine.specs.declared.tokenizer.held_leaf.HeldLeaf.TheVariants as held_leaf
-use Rattle.std.proofs.Common.{◌≡◌, ◌^◌, ◌<◌, ℕ, suc, List, [], length, drop, refl}
-use Rattle.std.proofs.Common.{sym, ◌∙◌, subst}
+use Rattle.std.proofs.Common.{◌≡◌, ◌^◌, ◌<◌, ℕ, suc, List, [], length, drop, refl, sym, ◌∙◌, subst}
 use Rattle.md_engine.specs.declared.configuration.ParseOptions.{ParseOptions}
 use Rattle.md_engine.specs.declared.event.Event.{Event}
 use Rattle.md_engine.specs.declared.event.Point.{Point}
@@ -16,7 +15,7 @@ use Rattle.md_front_rooms.specs.Front.{body_point, front_events}
 use Rattle.md_rows.specs.TextRows.{text_cells, text_rows}
 use Rattle.markdown_blocks.specs.Parsed.{IsWithoutMdx}
 use Rattle.md_frame.specs.Row.{Row}
-use Rattle.md_rows.specs.Rows.{groups}
+use Rattle.md_rows.specs.Rows.{groups, rows_events}
 use Rattle.md_rows.specs.Unread.{unread_groups}
 use Rattle.md_frame.proofs.ContentFacts.{content-alone}
 use Rattle.md_rows.proofs.ContentCut.{content-reads}
@@ -30,7 +29,6 @@ use Rattle.markdown_blocks.proofs.RowLemmas.{fresh-rows}
 use Rattle.md_rows.proofs.AloneGroups.{leaves-alone}
 use Rattle.md_content.specs.Joined.{joined}
 use Rattle.md_table_rooms.specs.Headed.{heads_read}
-use Rattle.md_rows.specs.Rows.{rows_events}
 use Rattle.md_order.specs.Alone.{HoldNoBlock, Nothing}
 use Rattle.markdown_blocks.proofs.FlowReads.{FlowFlushed}
 

@@ -1,8 +1,7 @@
 -- Each state of flow takes one step of what flow means.
 use Rattle.md_registry.proofs.FlowSteps.{behind_ending, containers_means, ending_left, leaves_means}
-use Rattle.md_registry.specs.FlowRule.{FlowInvariant}
-use Rattle.std.proofs.Common.{◌≡◌, inl, inr, ℕ, Bool, List, []}
-use Rattle.std.proofs.Common.{Some, refl, sym, ◌∙◌, ap, subst}
+use Rattle.md_registry.specs.FlowRule.{FlowInvariant, GoesOn, feeds, HasFlow, flow_at, line_ended}
+use Rattle.std.proofs.Common.{◌≡◌, inl, inr, ℕ, Bool, List, [], Some, refl, sym, ◌∙◌, ap, subst}
 use Rattle.md_engine.specs.declared.configuration.ParseOptions.{ParseOptions}
 use Rattle.md_engine.specs.declared.state.Name.{Name as StateName}
 use Rattle.md_engine.specs.declared.state.Name.TheVariants as n
@@ -25,18 +24,13 @@ use Rattle.md_seam.specs.Transition.{Transition}
 use Rattle.md_seam.proofs.SpacesTermination.{does-stands}
 use Rattle.md_seam.proofs.WhiteMeaning.{white_means}
 use Rattle.md_registry.specs.Document.{document_own_transition}
-use Rattle.md_registry.specs.FlowRule.{FlowInvariant}
-use Rattle.md_registry.specs.FlowRule.{GoesOn, feeds}
 use Rattle.md_registry.specs.Flow.{flow_end_code}
 use Rattle.md_frame.specs.Rule.{Rule}
-use Rattle.md_registry.specs.FlowRule.{HasFlow}
-use Rattle.md_registry.specs.FlowRule.{flow_at, line_ended}
 use Rattle.md_registry.specs.LineFlags as flags
 use Rattle.md_registry.specs.States.{FlowStep, flow_behaves, flow_behaves_by, flow_table_scheme, flow_transition}
 use Rattle.md_registry.proofs.FlowLemmas.{flow_by_line}
 use Rattle.md_registry.proofs.States.{flow_terminates}
-use Rattle.md_registry.proofs.ConstructStates.{construct-steps, container-states, leaf-states}
-use Rattle.md_registry.proofs.ConstructStates.{white_has}
+use Rattle.md_registry.proofs.ConstructStates.{construct-steps, container-states, leaf-states, white_has}
 
 flow_has : (bytes : List ℕ) (options : ParseOptions) (next : Rule) →
     HasFlow (flow_behaves_by bytes options next) options next

@@ -1,8 +1,7 @@
 -- What flow has read of a text, by what pushing it, flushing it and reading its content do.
 use Rattle.md_engine.specs.declared.tokenizer.held_leaf.HeldLeaf.TheVariants as held_leaf
 use Rattle.std.proofs.Common.{◌≡◌, ◌≢◌, ◌⊎◌, inl, inr, ◌^◌, ◌<◌, ℕ, suc, Bool, true, false, List, [], ◌∷◌, ◌++◌, length}
-use Rattle.std.proofs.Common.{◌≤◌}
-use Rattle.std.proofs.Common.{refl, sym, ◌∙◌, ap, subst, arith, not, ◌||◌}
+use Rattle.std.proofs.Common.{◌≤◌, refl, sym, ◌∙◌, ap, subst, arith, not, ◌||◌}
 use Rattle.std.proofs.lemmas.Bool.{or_from, or_parts}
 use Rattle.md_engine.specs.declared.configuration.ParseOptions.{ParseOptions}
 use Rattle.md_engine.specs.declared.event.Event.{Event}
@@ -28,27 +27,23 @@ use Rattle.md_content.specs.Resolves.{found_in_content}
 use Rattle.md_leaves.specs.HeadingText.{headings_resolved}
 use Rattle.md_leaves.specs.Turned.{turned}
 use Rattle.md_tables.specs.Tabled.{tabled}
-use Rattle.md_registry.specs.Resolving.{lines_joined}
+use Rattle.md_registry.specs.Resolving.{lines_joined, resolved_as}
 use Rattle.md_seam.specs.Substituted.{Substituted}
 use Rattle.markdown_blocks.specs.ContentRead.{ReadIf, holds_content}
 use Rattle.markdown_blocks.specs.Fed.{FlowRan}
 use Rattle.markdown_blocks.specs.FlowReads.{FlowReads, has_text}
 use Rattle.md_rows.specs.TextRows.{text_cells, text_rows, text_setting}
-use Rattle.md_registry.specs.Resolving.{resolved_as}
 use Rattle.md_registry.specs.FlowRule.{flow_at}
 use Rattle.md_table_rooms.specs.Headed.{heads_read}
 use Rattle.md_frame.specs.Row.{BlankRow, LeafRow, Row, RowKind, TextRow}
-use Rattle.md_rows.specs.Rows.{is_text, leaf_events, row_events}
-use Rattle.md_rows.specs.Rows.{row_events_by, rows_events, tail_events}
+use Rattle.md_rows.specs.Rows.{is_text, leaf_events, row_events, row_events_by, rows_events, tail_events}
 use Rattle.md_registry.specs.States.{FlowStep, flow_behaves, flow_table_scheme}
 use Rattle.md_rows.proofs.EachRow.{EachRow}
 use Rattle.md_registry.proofs.FlowLemmas.{flow_by_line}
 use Rattle.md_rows.proofs.FlowRows.{flow_at-rows}
 use Rattle.markdown_blocks.proofs.FlowRuns.{flow_flush, flow_outcome, flow_push}
-use Rattle.md_frame.proofs.ContentFacts.{content-alone, no_content-label, nothing as nothing_wanted}
-use Rattle.md_frame.proofs.ContentFacts.{nothing-wanted}
-use Rattle.markdown_blocks.proofs.FlowSteps.{IsFramed, content-same, rows-no_content}
-use Rattle.markdown_blocks.proofs.FlowSteps.{rows_at-framed}
+use Rattle.md_frame.proofs.ContentFacts.{content-alone, no_content-label, nothing as nothing_wanted, nothing-wanted}
+use Rattle.markdown_blocks.proofs.FlowSteps.{IsFramed, content-same, rows-no_content, rows_at-framed}
 use Rattle.md_table_rooms.proofs.HeadsRead.{heads-none}
 use Rattle.md_rows.proofs.JoinedLemmas.{EachNoContent, rows_at-no_content}
 use Rattle.markdown_blocks.proofs.StandsLemmas.{flow-ran}

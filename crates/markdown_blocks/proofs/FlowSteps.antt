@@ -2,8 +2,8 @@
 -- not matter whether it ran.
 use Rattle.md_engine.specs.declared.tokenizer.held_leaf.HeldLeaf.{HeldLeaf}
 use Rattle.std.proofs.Common.{◌≡◌, ◌≢◌, ℕ, zero, suc, Bool, true, false, cond, List, [], ◌∷◌, length}
-use Rattle.md_rows.specs.Rows.{is_inside, new_behind}
-use Rattle.md_rows.specs.Rows.{behind_held}
+use Rattle.md_rows.specs.Rows.{is_inside, new_behind, behind_held, Front, Held, held_at, in_front, is_text}
+use Rattle.md_rows.specs.Rows.{opened_prefixes, no_front, row_events, rows_at, rows_by, rows_events, continued_prefixes}
 use Rattle.std.proofs.Common.{refl, ap, sym, ◌∙◌, subst, append-nil}
 use Rattle.std.specs.Prelude.{Option, Some, None}
 use Rattle.std.proofs.lemmas.Bool.{or_parts}
@@ -19,11 +19,7 @@ use Rattle.md_meaning.specs.State.{Container}
 use Rattle.md_seam.specs.Substituted.{Readings, Substituted}
 use Rattle.md_frame.specs.Change.{interrupts, open_behind, others_of}
 use Rattle.markdown_blocks.specs.FlowReads.{has_text}
-use Rattle.md_frame.specs.Row.{BlankRow, Row, RowKind, TextRow}
-use Rattle.md_rows.specs.Rows.{Front, Held, held_at}
-use Rattle.md_rows.specs.Rows.{in_front, is_text, opened_prefixes, no_front, row_events}
-use Rattle.md_frame.specs.Row.{LeafRow}
-use Rattle.md_rows.specs.Rows.{rows_at, rows_by, rows_events, continued_prefixes}
+use Rattle.md_frame.specs.Row.{BlankRow, Row, RowKind, TextRow, LeafRow}
 use Rattle.md_frame.proofs.EachEvent.{each-append}
 use Rattle.md_rows.proofs.EachRow.{EachRow}
 use Rattle.md_registry.specs.Registry.{goes_at, opens_at}

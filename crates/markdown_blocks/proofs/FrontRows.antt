@@ -2,9 +2,11 @@
 -- line, and what is left of it.
 use Rattle.md_engine.specs.declared.tokenizer.held_leaf.HeldLeaf.{HeldLeaf}
 use Rattle.std.proofs.Common.{◌≡◌, ℕ, zero, suc, ◌^◌, ◌<◌, ◌≤◌, Bool, true, false, List, [], ◌∷◌, ◌++◌, length, Option, cond}
-use Rattle.md_rows.specs.Rows.{is_inside, new_behind}
-use Rattle.md_rows.specs.Fronted.{prefixes_behind}
-use Rattle.md_frame.specs.Change.{against}
+use Rattle.md_rows.specs.Rows.{is_inside, new_behind, Front, Held, held_at, held_behind, held_by, in_front, is_lazy}
+use Rattle.md_rows.specs.Rows.{line_kind, opened_prefixes, no_front, row_kind, continued_prefixes}
+use Rattle.md_rows.specs.Fronted.{prefixes_behind, Contained, Prefixed, contained, contained_behind, contained_by}
+use Rattle.md_rows.specs.Fronted.{contained_of, no_prefix, one_more, prefixes_new, prefixes_on}
+use Rattle.md_frame.specs.Change.{against, change_by, interrupts, open_behind, others_of}
 use Rattle.std.proofs.Common.{Some, None, refl, sym, ap, ap₂, ◌∙◌, subst, arith, append_assoc}
 use Rattle.md_engine.specs.declared.configuration.ParseOptions.{ParseOptions}
 use Rattle.md_engine.specs.declared.event.Event.{Event}
@@ -18,14 +20,9 @@ use Rattle.md_meaning.proofs.ContainerLemmas.{opens-leaves}
 use Rattle.md_seam.proofs.FeedLines.{Stops}
 use Rattle.md_seam.proofs.RestCells.{RestAt, past_rest, rest_cells}
 use Rattle.md_meaning.proofs.TextsLemmas.{NoEnding}
-use Rattle.md_frame.specs.Change.{change_by, interrupts, open_behind, others_of}
-use Rattle.md_rows.specs.Fronted.{Contained, Prefixed, contained, contained_behind, contained_by, contained_of}
-use Rattle.md_rows.specs.Fronted.{no_prefix, one_more, prefixes_new, prefixes_on}
 use Rattle.markdown_blocks.specs.Parsed.{IsWithoutMdx}
 use Rattle.md_frame.specs.Passed.{Passed}
 use Rattle.md_registry.specs.Registry.{goes_at, opens_at}
-use Rattle.md_rows.specs.Rows.{Front, Held, held_at, held_behind, held_by, in_front, is_lazy, line_kind}
-use Rattle.md_rows.specs.Rows.{opened_prefixes, no_front, row_kind, continued_prefixes}
 use Rattle.md_rows.proofs.ContainedLemmas.{change-opens}
 use Rattle.md_frame.proofs.FrontFacts.{Behind, Begins, Goes, LinePrefix, ReadFront, front_read-begins}
 use Rattle.md_frame.proofs.FrontFacts.{front_read-goes, front_read-none}

@@ -1,5 +1,5 @@
 -- What one line does to the containers and the leaf that are open, where only leaves that are built may be on.
-use Rattle.md_frame.specs.HeldLeaf.{has_lines, takes_lazy}
+use Rattle.md_frame.specs.HeldLeaf.{has_lines, takes_lazy, kind_of_leaf, met_by}
 use Rattle.md_engine.specs.declared.tokenizer.held_leaf.HeldLeaf.TheVariants as held_leaf
 use Rattle.md_engine.specs.declared.tokenizer.held_leaf.HeldLeaf.{HeldLeaf}
 use Rattle.std.proofs.Common.{◌≡◌, ℕ, zero, suc, ◌≤◌, Bool, true, false, cond, ◌&&◌, ◌||◌, List, [], ◌∷◌, ◌++◌}
@@ -29,7 +29,6 @@ use Rattle.md_frame.specs.TextLines.{text_leaf}
 use Rattle.md_registry.specs.Registry.{leaf, bars_containers}
 use Rattle.md_frame.specs.Row.{BlankRow, LeafRow, RowKind, TextRow}
 use Rattle.md_rows.specs.Rows.{is_further, is_lazy, is_text, takes_head, kind_of, line_kind}
-use Rattle.md_frame.specs.HeldLeaf.{kind_of_leaf, met_by}
 use Rattle.md_registry.specs.OpenSpan.{IsBuiltLeaf, IsOpenSpan}
 use Rattle.md_rows.specs.Stands.{IsPlain, containers_of, still_of}
 use Rattle.md_frame.specs.Leaf.Paragraph.{held_of, open_lines}
@@ -37,9 +36,8 @@ use Rattle.md_rows.proofs.ContainedLemmas.{change-opens, ended-open, lazy-some, 
 use Rattle.md_rows.proofs.KindLemmas.{kind-plain}
 use Rattle.md_rows.proofs.FurtherSpan.{FurtherSpan, built-concrete, context-none, further-span, met-none, none-further}
 use Rattle.md_rows.proofs.FurtherSpan.{other-begins, other_kind, span-lazy}
-use Rattle.md_registry.proofs.LeafStarts.{came_of, leaf_at}
+use Rattle.md_registry.proofs.LeafStarts.{came_of, leaf_at, text-starts}
 use Rattle.md_registry.proofs.Registry.{insider-none, text-laws}
-use Rattle.md_registry.proofs.LeafStarts.{text-starts}
 use Rattle.md_rows.proofs.RegistryFound.{other_at, untabled-at, untext-found}
 use Rattle.md_rows.proofs.TextFound.{front_before, lazy_on, text-comes, text_came, text_on}
 

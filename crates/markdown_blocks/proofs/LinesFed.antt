@@ -5,9 +5,8 @@
 use Rattle.md_engine.specs.declared.tokenizer.held_leaf.HeldLeaf.TheVariants as held_leaf
 use Rattle.md_engine.specs.declared.tokenizer.held_leaf.HeldLeaf.{HeldLeaf}
 use Rattle.std.proofs.Common.{◌≡◌, ◌^◌, ◌<◌, ◌⊎◌, inl, inr, ℕ, zero, suc, ◌+◌, Bool, true, false, cond, nat_eq, List}
-use Rattle.std.proofs.Common.{◌≤◌}
-use Rattle.std.proofs.Common.{[], ◌∷◌, ◌++◌, length, take, drop, Option, Some, None, refl, sym, ◌∙◌, ap, subst, arith}
-use Rattle.std.proofs.Common.{append_assoc, append-nil, length-drop}
+use Rattle.std.proofs.Common.{◌≤◌, [], ◌∷◌, ◌++◌, length, take, drop, Option, Some, None, refl, sym, ◌∙◌, ap, subst}
+use Rattle.std.proofs.Common.{arith, append_assoc, append-nil, length-drop}
 use Rattle.std.proofs.lemmas.Bool.{eqb-true}
 use Rattle.md_engine.specs.declared.configuration.ParseOptions.{ParseOptions}
 use Rattle.md_engine.specs.declared.event.Event.{Event}
@@ -35,10 +34,9 @@ use Rattle.md_seam.specs.Events.Nested.{pair}
 use Rattle.md_meaning.specs.State.{Container}
 use Rattle.md_seam.proofs.FeedLines.{Stops}
 use Rattle.md_frame.specs.Change.{ends_of, open_behind}
-use Rattle.md_registry.specs.FlowRule.{feeds}
+use Rattle.md_registry.specs.FlowRule.{feeds, ended, line_then}
 use Rattle.markdown_blocks.specs.Fed.{fed, flow_begins, line_begins, not_left, place_behind}
 use Rattle.md_frame.specs.Rule.{Rule}
-use Rattle.md_registry.specs.FlowRule.{ended, line_then}
 use Rattle.md_frame.specs.EndingName.{ending_name}
 use Rattle.md_frame.specs.Row.{Row, behind_row}
 use Rattle.md_rows.specs.Rows.{behind_held, Held, after_ending, closes_before, held_at}

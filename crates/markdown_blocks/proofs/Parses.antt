@@ -32,9 +32,8 @@ use Rattle.md_rows.proofs.HeldRows.{events-held}
 use Rattle.md_rows.proofs.NestedRows.{Nests, rows-nest}
 use Rattle.md_rows.proofs.PieceRows.{events-pieces}
 use Rattle.md_rows.proofs.RowFacts.{AreRows}
-use Rattle.markdown_blocks.proofs.ContentAre.{lines_of, part-of, rows_of, text-are}
+use Rattle.markdown_blocks.proofs.ContentAre.{lines_of, part-of, rows_of, text-are, text-quiet}
 use Rattle.markdown_blocks.proofs.TextBlocks.{read-is, read_of}
-use Rattle.markdown_blocks.proofs.ContentAre.{text-quiet}
 use Rattle.md_rows.proofs.TileReads.{end-read}
 
 -- What is known of the list of events that the plain layer reads.

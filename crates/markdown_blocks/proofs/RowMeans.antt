@@ -12,7 +12,7 @@ use Rattle.markdown_blocks.proofs.SpelledGroups.{starts-alike}
 use Rattle.md_frame.specs.HeldLeaf.{kind_of_leaf, takes_lazy}
 use Rattle.md_frame.specs.Leaf.Paragraph.{open_lines}
 use Rattle.md_content_rooms.specs.Defined.{then_front}
-use Rattle.md_registry.specs.Registry.{further_of, leaf}
+use Rattle.md_registry.specs.Registry.{further_of, leaf, turn_leaf}
 use Rattle.md_rows.specs.Rows.{front_done, group_done, is_further, onto_span, onto_leaf, takes_head, Group, Single}
 use Rattle.md_rows.specs.Rows.{groups, groups_events, is_lazy, is_text, leaf_done, line_kind, onto_groups}
 use Rattle.md_rows.proofs.GroupLines.{AreLines, kept-of, line-of}
@@ -38,7 +38,6 @@ use Rattle.md_meaning.specs.Step.{came, step}
 use Rattle.md_meaning.specs.Tree.{Block}
 use Rattle.md_seam.proofs.SpelledLemmas.{read-from}
 use Rattle.md_frame.specs.TextLines.{text_leaf}
-use Rattle.md_registry.specs.Registry.{turn_leaf}
 use Rattle.md_frame.specs.Change.{Change}
 use Rattle.md_frame.specs.Closed.{close_containers}
 use Rattle.md_rows.specs.Fronted.{Contained, rest_from}

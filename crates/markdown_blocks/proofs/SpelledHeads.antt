@@ -1,7 +1,6 @@
 -- What a line of text is read as that is the head of a table, with the lines that go on it: the table to which the line
 -- definition comes with them, behind what the lines of text in front of the head come to.
-use Rattle.std.proofs.Common.{◌≡◌, ℕ, Bool, true, false, cond, List, [], ◌∷◌, ◌++◌, refl, ap, sym, ◌∙◌}
-use Rattle.std.proofs.Common.{subst}
+use Rattle.std.proofs.Common.{◌≡◌, ℕ, Bool, true, false, cond, List, [], ◌∷◌, ◌++◌, refl, ap, sym, ◌∙◌, subst}
 use Rattle.std.specs.Prelude.{None}
 use Rattle.std.proofs.lemmas.List.{reverse-append}
 use Rattle.md_engine.specs.declared.configuration.ParseOptions.{ParseOptions}
@@ -12,8 +11,7 @@ use Rattle.md_meaning.specs.Definition.{Defined, cut_at_most, cut_definitions}
 use Rattle.md_meaning.specs.Leaves.{LeafResult, Opened}
 use Rattle.md_meaning.specs.Rest.{is_blank, trim}
 use Rattle.md_meaning.specs.State.{At, ParagraphLine, Leaf, NoLeaf, OpenTable, Path, Within, kept, shut, shut_paragraph}
-use Rattle.md_meaning.specs.State.{spot}
-use Rattle.md_meaning.specs.State.{texts, then_definitions, then_leaf, then_paragraph}
+use Rattle.md_meaning.specs.State.{spot, texts, then_definitions, then_leaf, then_paragraph}
 use Rattle.md_meaning.specs.Step.{came}
 use Rattle.md_meaning.specs.Table.{row_cells}
 use Rattle.md_meaning.specs.Tree.{Blocks}
@@ -24,11 +22,9 @@ use Rattle.md_frame.specs.EndingName.{ending_name}
 use Rattle.md_frame.specs.LeafName.{GfmTable, LeafName}
 use Rattle.md_frame.specs.TextLines.{text_leaf}
 use Rattle.md_registry.specs.Registry.{leaf}
-use Rattle.md_frame.specs.Row.{LeafRow, Row, TextRow}
+use Rattle.md_frame.specs.Row.{LeafRow, Row, TextRow, is_blank_row, last_row}
 use Rattle.md_table_rooms.specs.Headed.{headed_done}
-use Rattle.md_rows.specs.Rows.{Group, Headed, groups_events}
-use Rattle.md_frame.specs.Row.{is_blank_row, last_row}
-use Rattle.md_rows.specs.Rows.{tail_events}
+use Rattle.md_rows.specs.Rows.{Group, Headed, groups_events, tail_events}
 use Rattle.md_frame.specs.Around.{around_of}
 use Rattle.md_rows.specs.Stands.{reading, reading_on}
 use Rattle.md_table_rooms.proofs.GfmTable.TableForm.{IsFilledLine}

@@ -21,8 +21,7 @@ use Rattle.md_meaning.specs.Texts.{split_lines}
 use Rattle.md_meaning.specs.Tree.{End}
 use Rattle.md_frame.specs.Change.{open_behind}
 use Rattle.md_frame.specs.Closed.{close_containers}
-use Rattle.markdown_blocks.specs.Fed.{FlowRan, StandsBehind, fed, flow_begins, last_leaves}
-use Rattle.markdown_blocks.specs.Fed.{line_begins, rests_from}
+use Rattle.markdown_blocks.specs.Fed.{FlowRan, StandsBehind, fed, flow_begins, last_leaves, line_begins, rests_from}
 use Rattle.md_rows.specs.Fronted.{rest_from}
 use Rattle.markdown_blocks.specs.Parsed.{IsWithoutMdx}
 use Rattle.md_frame.specs.Row.{Row}

@@ -12,8 +12,7 @@ use Rattle.md_leaves.specs.Turned.{is_no_underline}
 use Rattle.md_order.specs.InOrder.{every, in_order}
 use Rattle.md_order.specs.Left.{is_same}
 use Rattle.md_resolve.proofs.Same.{in_order-same}
-use Rattle.md_registry.specs.Resolving.{lines_joined}
-use Rattle.md_registry.specs.Resolving.{joins_lines}
+use Rattle.md_registry.specs.Resolving.{lines_joined, joins_lines}
 use Rattle.md_content.specs.Joined.{is_content}
 use Rattle.markdown_blocks.specs.Alone.{passes_alone, stays_alone}
 use Rattle.markdown_blocks.specs.ContentRead.{holds_content}

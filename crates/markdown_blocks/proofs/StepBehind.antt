@@ -9,8 +9,7 @@ use Rattle.md_engine.specs.declared.tokenizer.held_leaf.HeldLeaf.TheVariants as 
 use Rattle.md_engine.specs.declared.tokenizer.held_leaf.Progress.TheVariants.{Fresh}
 use Rattle.md_engine.specs.declared.tokenizer.held_leaf.Progress.{Progress}
 use Rattle.md_meaning.specs.Leaves.{LeafResult, Finished, Opened}
-use Rattle.md_meaning.specs.Rest.{Rest}
-use Rattle.md_meaning.specs.Rest.{trim_start}
+use Rattle.md_meaning.specs.Rest.{Rest, trim_start}
 use Rattle.md_meaning.specs.State.{At, Container, ParagraphLine, Leaf, NoLeaf, OpenParagraph, Path, Innermost, Within}
 use Rattle.md_meaning.specs.State.{cut, kept, spot, texts}
 use Rattle.md_meaning.specs.Step.{came, step}
@@ -19,28 +18,22 @@ use Rattle.md_rows.proofs.TextProgress.{IsFresh, contained-progress, unlazy-fres
 use Rattle.md_frame.specs.Change.{is_none, open_behind}
 use Rattle.md_rows.specs.Fronted.{Contained}
 use Rattle.md_frame.specs.HeldLeaf.{has_lines, kind_of_leaf, left_by, may_go_on, takes_lazy}
-use Rattle.md_registry.specs.OpenSpan.{IsBuiltLeaf}
+use Rattle.md_registry.specs.OpenSpan.{IsBuiltLeaf, IsOpenSpan}
 use Rattle.md_frame.specs.Leaf.Paragraph.{held_of, open_lines}
 use Rattle.markdown_blocks.specs.Parsed.{IsWithoutMdx}
 use Rattle.md_frame.specs.LeafName.{GfmTable, LeafName}
-use Rattle.md_registry.specs.OpenSpan.{IsOpenSpan}
 use Rattle.md_frame.specs.TextLines.{text_leaf}
-use Rattle.md_registry.specs.Registry.{turn_leaf}
-use Rattle.md_registry.specs.Registry.{further_of, leaf}
+use Rattle.md_registry.specs.Registry.{turn_leaf, further_of, leaf}
 use Rattle.md_frame.specs.Row.{BlankRow, LeafRow, RowKind, TextRow}
-use Rattle.md_rows.specs.Rows.{is_further, is_lazy, is_text, line_behind}
-use Rattle.md_rows.specs.Rows.{line_kind, takes_head}
+use Rattle.md_rows.specs.Rows.{is_further, is_lazy, is_text, line_behind, line_kind, takes_head}
 use Rattle.md_rows.specs.Stands.{IsPlain, containers_of, still_of}
-use Rattle.md_rows.proofs.ContainedLemmas.{contained-met, contained-size, contained-still, lazy-opens}
-use Rattle.md_rows.proofs.ContainedLemmas.{lines-open}
+use Rattle.md_rows.proofs.ContainedLemmas.{contained-met, contained-size, contained-still, lazy-opens, lines-open}
 use Rattle.md_rows.proofs.KindLemmas.{kind-starts}
 use Rattle.md_rows.proofs.FurtherSpan.{FurtherSpan, further-span, none-further, other-begins, other_kind}
 use Rattle.md_frame.proofs.LastKept.{last-is}
-use Rattle.markdown_blocks.proofs.LineSteps.{behind_path, come_by, contained-lazy, contained_at}
-use Rattle.markdown_blocks.proofs.LineSteps.{further_path}
-use Rattle.markdown_blocks.proofs.LineSteps.{goes_further, goes_lazy, kept_to, longer, new_line}
-use Rattle.markdown_blocks.proofs.LineSteps.{path_by, renewed, renewed-spot, spot_by}
-use Rattle.markdown_blocks.proofs.LineSteps.{step-contained, with_came}
+use Rattle.markdown_blocks.proofs.LineSteps.{behind_path, come_by, contained-lazy, contained_at, further_path}
+use Rattle.markdown_blocks.proofs.LineSteps.{goes_further, goes_lazy, kept_to, longer, new_line, path_by, renewed}
+use Rattle.markdown_blocks.proofs.LineSteps.{renewed-spot, spot_by, step-contained, with_came}
 use Rattle.md_registry.proofs.OpenSpan.{Begun, ComesShallow, TurnsText}
 use Rattle.md_registry.proofs.LeafStarts.{text-turns}
 use Rattle.md_registry.proofs.SpanLeaves.{leaf-begun}

@@ -34,14 +34,13 @@ use Rattle.md_outline.specs.HeadingDepths.{are_shallow}
 use Rattle.md_outline.specs.Outlined.{IsOutlined}
 use Rattle.md_seam.proofs.FilledLemmas.{spelled-filled}
 use Rattle.md_seam.proofs.OnLemmas.{tree-on}
-use Rattle.md_rows.specs.BlockList.{block_list}
+use Rattle.md_rows.specs.BlockList.{block_list, tabled_groups}
 use Rattle.md_front_rooms.specs.Front.{body_point, front_events}
 use Rattle.markdown_blocks.specs.FlowReads.{FlowReads}
 use Rattle.md_container_rooms.specs.Footnotes.{footnotes_listed}
 use Rattle.markdown_blocks.specs.Parsed.{IsWithoutMdx}
 use Rattle.md_frame.specs.Row.{Row}
 use Rattle.md_rows.specs.Rows.{groups, groups_events}
-use Rattle.md_rows.specs.BlockList.{tabled_groups}
 use Rattle.md_rows.specs.Unread.{unread_groups}
 use Rattle.md_rows.proofs.BetweenRows.{rows-between}
 use Rattle.md_rows.proofs.EndingRows.{blocks-endings}

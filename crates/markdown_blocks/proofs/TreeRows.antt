@@ -4,11 +4,13 @@ use Rattle.md_engine.specs.declared.tokenizer.held_leaf.HeldLeaf.TheVariants as 
 use Rattle.md_engine.specs.declared.tokenizer.held_leaf.HeldLeaf.{HeldLeaf}
 use Rattle.std.proofs.Common.{◌≡◌, ℕ, zero, suc, ◌-◌, Bool, true, false, cond, not, ◌==◌, ◌&&◌, ◌||◌, List, [], ◌∷◌}
 use Rattle.md_meaning.specs.Leaves.{LeafResult}
-use Rattle.md_meaning.specs.State.{OpenParagraph, spot}
-use Rattle.md_registry.proofs.Registry.{insider-none}
-use Rattle.md_rows.specs.Rows.{is_further, is_inside, takes_head}
-use Rattle.md_rows.specs.Fronted.{prefixes_behind}
-use Rattle.md_frame.specs.Change.{against}
+use Rattle.md_meaning.specs.State.{OpenParagraph, spot, At, Container, ParagraphLine, Leaf, Path, Innermost, Within}
+use Rattle.md_meaning.specs.State.{closed, container_block, kept, shut, texts, then_block, then_leaf}
+use Rattle.md_registry.proofs.Registry.{insider-none, text-laws}
+use Rattle.md_rows.specs.Rows.{is_further, is_inside, takes_head, groups, groups_events, is_lazy, line_kind}
+use Rattle.md_rows.specs.Fronted.{prefixes_behind, Contained, Prefixed, contained, no_prefix, one_more, prefixes_new}
+use Rattle.md_rows.specs.Fronted.{prefixes_on, contained_behind, contained_of}
+use Rattle.md_frame.specs.Change.{against, change_by, interrupts, others_of, Change}
 use Rattle.std.proofs.Common.{◌++◌, map, length, drop, take, refl, ap, sym, ◌∙◌, subst, inl, inr, ◌⊎◌}
 use Rattle.std.specs.Prelude.{Option, Some, None}
 use Rattle.std.specs.List.{onto_first}
@@ -20,29 +22,20 @@ use Rattle.md_meaning.specs.Containers.{Taken, continues, opens}
 use Rattle.md_meaning.specs.Grouped.{grouped}
 use Rattle.md_meaning.specs.Lines.{begins_with, ends_line, full_lines_of, is_ending, lines_of, without_ending}
 use Rattle.md_meaning.specs.Meaning.{tree, with_frontmatter}
-use Rattle.md_meaning.specs.Preamble.{Preamble, rest_at}
-use Rattle.md_meaning.specs.Preamble.{rests_at}
+use Rattle.md_meaning.specs.Preamble.{Preamble, rest_at, rests_at}
 use Rattle.md_meaning.specs.Rest.{Rest}
-use Rattle.md_seam.specs.Events.Spelled.{spelled}
-use Rattle.md_meaning.specs.State.{At, Container, ParagraphLine, Leaf, Path, Innermost, Within, closed, container_block}
-use Rattle.md_meaning.specs.State.{kept}
-use Rattle.md_meaning.specs.State.{shut, texts, then_block, then_leaf}
+use Rattle.md_seam.specs.Events.Spelled.{spelled, without_last}
 use Rattle.md_meaning.specs.Step.{spot_of, step, steps}
 use Rattle.md_meaning.specs.Texts.{split_lines}
 use Rattle.md_meaning.specs.Tree.{Blocks, End}
 use Rattle.md_meaning.proofs.LinesLemmas.{without_ending-onto}
-use Rattle.md_frame.specs.Change.{change_by, interrupts, others_of}
 use Rattle.markdown_blocks.specs.Fed.{rests_from}
-use Rattle.md_rows.specs.Fronted.{Contained, Prefixed, contained, no_prefix, one_more, prefixes_new}
-use Rattle.md_rows.specs.Fronted.{prefixes_on}
 use Rattle.markdown_blocks.specs.Parsed.{IsWithoutMdx}
 use Rattle.md_frame.specs.TextLines.{text_leaf}
 use Rattle.md_frame.specs.Row.{BlankRow, LeafRow, Row, RowKind, TextRow}
-use Rattle.md_rows.specs.Rows.{groups, groups_events, is_lazy}
-use Rattle.md_rows.specs.Rows.{line_kind}
 use Rattle.md_registry.specs.OpenSpan.{IsBuiltLeaf, IsOpenSpan}
 use Rattle.md_rows.specs.Stands.{IsPlain, containers_of, still_of}
-use Rattle.md_rows.proofs.ContainedLemmas.{contained-kinds}
+use Rattle.md_rows.proofs.ContainedLemmas.{contained-kinds, contained-still, lines-open}
 use Rattle.md_rows.proofs.KindLemmas.{kind-plain}
 use Rattle.markdown_blocks.proofs.LineSteps.{behind_path, come_by, contained_at, further_path, goes_further, goes_lazy}
 use Rattle.markdown_blocks.proofs.LineSteps.{kept_to, longer, new_line, path_by, renewed, spot_by, step-contained}
@@ -51,20 +44,15 @@ use Rattle.md_rows.proofs.FurtherSpan.{FurtherSpan, further-span, other_kind}
 use Rattle.md_registry.proofs.OpenSpan.{ComesShallow}
 use Rattle.markdown_blocks.proofs.LastLine.{no_bytes, no_rests, step_over, steps_over, told}
 use Rattle.markdown_blocks.proofs.StepBehind.{GoesOn, begun-leaf, further-unlazy, goes-on, plain-step, span-open}
-use Rattle.md_rows.proofs.ContainedLemmas.{contained-still, lines-open}
 use Rattle.md_frame.specs.HeldLeaf.{has_lines, takes_lazy}
-use Rattle.md_frame.specs.Change.{Change}
-use Rattle.md_rows.specs.Fronted.{contained_behind, contained_of}
 use Rattle.md_rows.proofs.RowFacts as f
 use Rattle.markdown_blocks.proofs.SpelledRows.{spelled-rows}
-use Rattle.md_registry.proofs.Registry.{text-laws}
 use Rattle.md_rows.proofs.TextFound.{front_before}
 use Rattle.md_frame.proofs.ShallowBlocks.{shallow-then}
 use Rattle.md_content_rooms.proofs.Paragraph.Laws.{shallow-front}
 use Rattle.md_frame.proofs.RegistryRead.{AreRead, IsRead, IsReadTaken, kinds-read, read-front}
 use Rattle.md_registry.proofs.RegistryContainers.{opens-read, over-empty, read-shallow}
 use Rattle.md_outline.specs.HeadingDepths.{are_shallow}
-use Rattle.md_seam.specs.Events.Spelled.{without_last}
 use Rattle.md_rows.proofs.Begun.{IsBegun}
 use Rattle.md_engine.specs.declared.event.Event.{Event}
 

@@ -1,7 +1,6 @@
 -- What stands between two lines while flow reads a text: whenever a line has been fed, what the tokenizer holds stands
 -- for what is open by the line definition.
-use Rattle.std.specs.Prelude.{◌≡◌, ℕ, suc, ◌+◌, ◌<◌, ◌≤◌, Bool, true, List, [], ◌∷◌, length, map}
-use Rattle.std.specs.Prelude.{take, drop}
+use Rattle.std.specs.Prelude.{◌≡◌, ℕ, suc, ◌+◌, ◌<◌, ◌≤◌, Bool, true, List, [], ◌∷◌, length, map, take, drop}
 use Rattle.md_engine.specs.declared.configuration.ParseOptions.{ParseOptions}
 use Rattle.md_engine.specs.declared.event.Point.{Point}
 use Rattle.md_engine.specs.declared.state.Name.TheVariants as s

@@ -14,8 +14,7 @@ use Rattle.md_exact.specs.Blocks as blocks
 use Rattle.md_exact.specs.Blocks.{grouped, tail}
 use Rattle.md_exact.specs.Places.{TextLine, whole}
 use Rattle.md_exact.specs.Prefixes.{behind_all, containers}
-use Rattle.md_exact.specs.Rows.{BehindCode, Blank, Role, Row}
-use Rattle.md_exact.specs.Rows.{is_blank_role, next_role, next_stays, row_of, rows_of}
+use Rattle.md_exact.specs.Rows.{BehindCode, Blank, Role, Row, is_blank_role, next_role, next_stays, row_of, rows_of}
 use Rattle.md_exact_lists.specs.Last.{HasLine, goes_between, last_at, last_in}
 use Rattle.md_exact_lists.specs.Unlisted.{LeavesStand, LinesStand, MarkersStand, NoneIs, without_lists}
 use Rattle.md_exact_lists.proofs.GroupEvents.{all_events, all_unlisted, behind_leaf, first_group, first_leaf}
@@ -24,8 +23,7 @@ use Rattle.md_exact_lists.proofs.LineWalk.{BehindListed, FrontListed, NextTold, 
 use Rattle.md_exact_lists.proofs.LineWalk.{begins-told, behind_place, ended-walk, leaf-stands}
 use Rattle.md_exact_lists.proofs.LineWalk.{remains-listed, remains-told, stays-fewer}
 use Rattle.md_exact_lists.proofs.ListWalk.{markers_from, walk-passes}
-use Rattle.md_exact_lists.proofs.RowLast.{Follows, Remains, begins-facts, follows-last, new_on, on_of}
-use Rattle.md_exact_lists.proofs.RowLast.{remains-facts}
+use Rattle.md_exact_lists.proofs.RowLast.{Follows, Remains, begins-facts, follows-last, new_on, on_of, remains-facts}
 
 -- Any line.
 

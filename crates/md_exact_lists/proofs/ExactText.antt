@@ -1,6 +1,5 @@
 -- The exact list of a text is the one without lists, with the lists put around its items.
-use Rattle.std.proofs.Common.{◌≡◌, ℕ, zero, suc, ◌+◌, Bool, true, false, cond, not, List, [], ◌∷◌, ◌++◌, length}
-use Rattle.std.proofs.Common.{map}
+use Rattle.std.proofs.Common.{◌≡◌, ℕ, zero, suc, ◌+◌, Bool, true, false, cond, not, List, [], ◌∷◌, ◌++◌, length, map}
 use Rattle.std.proofs.Common.{take, drop, refl, ap, sym, ◌∙◌, append_assoc}
 use Rattle.std.specs.List.{concat, onto_first, prefix_len}
 use Rattle.std.proofs.Math.Seq.{drop-append_seam}

@@ -17,8 +17,7 @@ use Rattle.md_seam.specs.Events.Spelled.{role}
 use Rattle.md_exact.specs.Blocks.{events_by, goes_on, group_events, grouped, onto, tail}
 use Rattle.md_exact.specs.Places.{TextLine, ending, line_end, next_line, place}
 use Rattle.md_exact.specs.Prefixes.{begin, begins, blocks_before, end_in_item, list_name}
-use Rattle.md_exact.specs.Rows.{Row, container_name, ends_from, is_blank_role, list_ends}
-use Rattle.md_exact.specs.Rows.{list_goes_on, next_role}
+use Rattle.md_exact.specs.Rows.{Row, container_name, ends_from, is_blank_role, list_ends, list_goes_on, next_role}
 use Rattle.md_exact_lists.specs.Unlisted.{LeafStands, LeavesStand, NoneIs, is_list, opening_prefix, plain_begin}
 use Rattle.md_exact_lists.specs.Unlisted.{plain_begins, plain_ends, unlisted_groups, without_lists}
 use Rattle.md_exact_lists.proofs.ListWalk.{opening-none}

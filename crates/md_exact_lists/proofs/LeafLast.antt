@@ -1,8 +1,6 @@
 -- Behind a line that opens no container: what is the last block of the innermost container.
 use Rattle.std.proofs.Common.{◌≡◌, ℕ, Bool, true, false, cond, ◌&&◌, List, [], ◌∷◌, ◌++◌, drop, length, refl, ap, ap₂}
-use Rattle.std.proofs.Common.{sym}
-use Rattle.std.proofs.Common.{subst}
-use Rattle.std.proofs.Common.{◌∙◌}
+use Rattle.std.proofs.Common.{sym, subst, ◌∙◌}
 use Rattle.std.specs.Prelude.{◌||◌, ◌==◌, nat_le, nat_lt, reverse, Option, Some, None}
 use Rattle.std.specs.Option.{is_some, option_or}
 use Rattle.md_engine.specs.declared.configuration.ParseOptions.{ParseOptions}

@@ -10,8 +10,7 @@ use Rattle.md_engine.specs.declared.event.Point.{Point}
 use Rattle.md_meaning.specs.Ascii.{dollar}
 use Rattle.md_meaning.specs.Leaves.{Finished, LeafResult, Opened, goes_on}
 use Rattle.md_meaning.specs.Rest.{Rest, behind_indent, is_blank}
-use Rattle.md_meaning.specs.State.{Leaf, OpenCode, OpenFence, OpenHtml, Path}
-use Rattle.md_meaning.specs.State.{spot}
+use Rattle.md_meaning.specs.State.{Leaf, OpenCode, OpenFence, OpenHtml, Path, spot}
 use Rattle.md_meaning.specs.Tree.{Break, Heading, Html}
 use Rattle.md_seam.specs.Events.Blocks.{is_block}
 use Rattle.md_seam.specs.Events.Nested.{enter, exit}
@@ -30,8 +29,7 @@ use Rattle.md_exact_lists.specs.Last.{HasLine}
 use Rattle.md_exact_lists.specs.Unlisted.{IsLeaf, LeavesStand, NoneIs}
 use Rattle.md_exact_lists.proofs.ExactListed.{line-text, by-new, begun, body_rows, open-follows}
 use Rattle.md_exact_lists.proofs.GroupEvents.{first_group, grouped-first, rest_groups}
-use Rattle.md_exact_lists.proofs.LeafEvents.{Plain, content-items, fence-items, heading-items}
-use Rattle.md_exact_lists.proofs.LeafEvents.{leaf-items}
+use Rattle.md_exact_lists.proofs.LeafEvents.{Plain, content-items, fence-items, heading-items, leaf-items}
 use Rattle.md_exact_lists.proofs.LeafEvents.{runs_line-items, table-items}
 use Rattle.md_exact_lists.proofs.LeafLast.{Starts, fresh-cases, leaf-starts}
 use Rattle.md_exact_lists.proofs.LineWalk.{after}

@@ -25,8 +25,7 @@ use Rattle.md_exact.specs.Prefixes.{begins, behind_all, blocks_before, container
 use Rattle.md_exact.specs.Rows.{BehindCode, Blank, Role, Row, begin_with_item, ends_from, is_blank_role, list_goes_on}
 use Rattle.md_exact.specs.Rows.{next_role, next_stays, rows_of}
 use Rattle.md_exact_lists.specs.Last.{goes_between, last_at, last_in, last_of, marker_in}
-use Rattle.md_exact_lists.specs.Unlisted.{IsLeaf, MarkersStand, NoneIs}
-use Rattle.md_exact_lists.specs.Unlisted.{plain_begins, plain_ends, without_lists}
+use Rattle.md_exact_lists.specs.Unlisted.{IsLeaf, MarkersStand, NoneIs, plain_begins, plain_ends, without_lists}
 use Rattle.md_exact_lists.proofs.GroupEvents.{all-first, all_events, all_unlisted, begins-without, behind-last}
 use Rattle.md_exact_lists.proofs.GroupEvents.{behind_leaf, ending-none, ends-without, first_leaf}
 use Rattle.md_exact_lists.proofs.GroupEvents.{tail_name, unlisted-all, unlisted-last, unlisted_behind, without-append}

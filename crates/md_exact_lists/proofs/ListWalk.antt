@@ -1,7 +1,6 @@
 -- The walk that puts lists around items, over the events of containers that open and end.
 use Rattle.std.proofs.Common.{◌≡◌, ℕ, suc, ◌≤◌, Bool, true, false, cond, ◌&&◌, List, [], ◌∷◌, ◌++◌, length, refl, ap}
-use Rattle.std.proofs.Common.{ap₂, sym}
-use Rattle.std.proofs.Common.{◌∙◌, arith, append_assoc}
+use Rattle.std.proofs.Common.{ap₂, sym, ◌∙◌, arith, append_assoc}
 use Rattle.std.specs.Prelude.{◌||◌, get_or, Option, Some, None}
 use Rattle.md_engine.specs.declared.event.Event.{Event}
 use Rattle.md_engine.specs.declared.event.Kind.{Kind}
@@ -24,13 +23,11 @@ use Rattle.md_containers.specs.Listed.{list_begin, list_name, marker_by, next_it
 use Rattle.md_containers.proofs.ListedLemmas.{passes-given}
 use Rattle.md_exact.specs.Places.{TextLine, chunk, is_same, part, past, piece, place, text_part, white}
 use Rattle.md_exact.specs.Prefixes.{alert_part, begin, begins, blocks_before, end_in_item, footnote_prefix}
-use Rattle.md_exact.specs.Prefixes.{further_prefix}
-use Rattle.md_exact.specs.Prefixes.{further_prefixes, item_prefix, quote_prefix}
+use Rattle.md_exact.specs.Prefixes.{further_prefix, further_prefixes, item_prefix, quote_prefix}
 use Rattle.md_exact.specs.Rows.{Row, container_name, ends_from, list_ends, list_goes_on}
 use Rattle.md_exact_lists.specs.Last.{goes_between, last_of, marker_in}
 use Rattle.md_exact_lists.specs.Unlisted.{MarkerAt, MarkerStands, MarkersStand, NoneIs, opening_prefix, plain_begin}
-use Rattle.md_exact_lists.specs.Unlisted.{plain_begins}
-use Rattle.md_exact_lists.specs.Unlisted.{plain_ends, pushed}
+use Rattle.md_exact_lists.specs.Unlisted.{plain_begins, plain_ends, pushed}
 use Rattle.md_exact_lists.proofs.StepLast.{held_in}
 
 -- Events that no list turns on.

@@ -1,7 +1,6 @@
 -- The marker of an item that opens stands in the text, a byte behind its digits: what is left of a line is its end.
 use Rattle.std.proofs.Common.{◌≡◌, ℕ, zero, suc, ◌+◌, ◌-◌, Bool, true, false, cond, ◌&&◌, not, List, [], ◌∷◌, ◌++◌}
-use Rattle.std.proofs.Common.{length}
-use Rattle.std.proofs.Common.{take, drop, refl, ap, sym, ◌∙◌, arith, append_assoc}
+use Rattle.std.proofs.Common.{length, take, drop, refl, ap, sym, ◌∙◌, arith, append_assoc}
 use Rattle.std.specs.Prelude.{◌==◌, ◌||◌, get_or, nat_eq, nat_le, Option, Some, None}
 use Rattle.std.specs.List.{starts_with, take_while}
 use Rattle.std.specs.Option.{option_or}
@@ -11,13 +10,11 @@ use Rattle.std.proofs.lemmas.List.{get_or-drop, length-append, take-append-drop}
 use Rattle.md_engine.specs.declared.configuration.ParseOptions.{ParseOptions}
 use Rattle.md_meaning.specs.declared.alert.AlertKind.{AlertKind}
 use Rattle.md_meaning.specs.Alert.{alert_at, marker_of}
-use Rattle.md_meaning.specs.Ascii.{caret, dot, left_bracket, right_parenthesis}
+use Rattle.md_meaning.specs.Ascii.{caret, dot, left_bracket, right_parenthesis, space, tab}
 use Rattle.md_meaning.specs.Containers.{Labelled, Marker, Taken, continues, footnote_by, footnote_continues}
 use Rattle.md_meaning.specs.Containers.{footnote_label, is_bullet, is_digit, item_by, item_continues, item_padding}
-use Rattle.md_meaning.specs.Containers.{list_marker}
-use Rattle.md_meaning.specs.Containers.{marker_behind, opens, opens_footnote, opens_item, opens_quote, quote_taken}
-use Rattle.md_meaning.specs.Containers.{taken_as, with_kind}
-use Rattle.md_meaning.specs.Ascii.{space, tab}
+use Rattle.md_meaning.specs.Containers.{list_marker, marker_behind, opens, opens_footnote, opens_item, opens_quote}
+use Rattle.md_meaning.specs.Containers.{quote_taken, taken_as, with_kind}
 use Rattle.md_meaning.specs.Rest.{Rest, behind, behind_indent, has_small_indent, indent, is_blank, lose, tab_columns}
 use Rattle.md_meaning.specs.Rest.{without_column}
 use Rattle.md_meaning.specs.State.{At, Container, InFootnote, InItem, InQuote, Path, Within, spot}

@@ -8,9 +8,8 @@ use Rattle.md_meaning.specs.Containers.{Taken, continues, opens}
 use Rattle.md_meaning.specs.Leaves.{LazyText, starts}
 use Rattle.md_meaning.specs.Rest.{Rest, is_blank}
 use Rattle.md_meaning.specs.State.{At, Container, InFootnote, InItem, InQuote, Innermost, Leaf, NoLeaf, OpenCode}
-use Rattle.md_meaning.specs.State.{OpenFence, OpenHtml, OpenParagraph, OpenTable}
-use Rattle.md_meaning.specs.State.{ParagraphLine, Path, Within, at_spot, closed, container_block, kept, shut, spot}
-use Rattle.md_meaning.specs.State.{then_block}
+use Rattle.md_meaning.specs.State.{OpenFence, OpenHtml, OpenParagraph, OpenTable, ParagraphLine, Path, Within, at_spot}
+use Rattle.md_meaning.specs.State.{closed, container_block, kept, shut, spot, then_block}
 use Rattle.md_meaning.specs.Step.{all_continued, all_continued_by, entered, fresh_line, is_concrete, is_open_text}
 use Rattle.md_meaning.specs.Step.{lazy_by, leaf_line, spot_of, step, stopped, stopped_by, with_lazy}
 use Rattle.md_meaning.specs.Step as step

@@ -1,7 +1,6 @@
 -- The exact list of lines without the lists around its items, and what its rows owe so that these lists can be told.
 use Rattle.std.specs.Prelude.{◌≡◌, ℕ, Bool, true, false, ◌==◌, if◌then◌else◌, List, [], ◌∷◌, ◌++◌, length, get_or, map}
-use Rattle.std.specs.Prelude.{take, drop}
-use Rattle.std.specs.Prelude.{Option, Some, None}
+use Rattle.std.specs.Prelude.{take, drop, Option, Some, None}
 use Rattle.md_engine.specs.declared.configuration.ParseOptions.{ParseOptions}
 use Rattle.md_engine.specs.declared.event.Event.{Event}
 use Rattle.md_engine.specs.declared.event.Name.{Name}
@@ -17,8 +16,7 @@ use Rattle.md_meaning.specs.Tree.{End}
 use Rattle.md_seam.specs.Events.Nested.{enter, exit}
 use Rattle.md_seam.specs.Events.Spelled.{Role, role}
 use Rattle.md_containers.specs.Listed.{is_item, next_item}
-use Rattle.md_exact.specs.Blocks.{events_by, front_line, front_row, front_size, grouped, mark_events, tail}
-use Rattle.md_exact.specs.Blocks.{text_lines}
+use Rattle.md_exact.specs.Blocks.{events_by, front_line, front_row, front_size, grouped, mark_events, tail, text_lines}
 use Rattle.md_exact.specs.Leaves.{leaf}
 use Rattle.md_exact.specs.Places.{TextLine, is_same, past, place, whole}
 use Rattle.md_exact.specs.Prefixes.{behind_all, containers, footnote_prefix, gone_on, item_prefix, new_containers}

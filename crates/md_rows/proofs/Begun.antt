@@ -1,7 +1,6 @@
 -- Where the lines of the body of a text begin, and what is known of the events in front of them.
 use Rattle.std.proofs.Common.{◌≡◌, ℕ, ◌-◌, ◌+◌, ◌<◌, ◌≤◌, Bool, true, false, cond, List, [], ◌∷◌, ◌++◌, length, drop}
-use Rattle.std.proofs.Common.{take}
-use Rattle.std.proofs.Common.{Option, Some, None, refl, sym, ◌∙◌, ap, subst, arith, append-nil}
+use Rattle.std.proofs.Common.{take, Option, Some, None, refl, sym, ◌∙◌, ap, subst, arith, append-nil}
 use Rattle.std.proofs.lemmas.List.{length-append, length-drop}
 use Rattle.std.specs.Prelude.{IsTrue}
 use Rattle.md_engine.specs.declared.configuration.ParseOptions.{ParseOptions}
@@ -27,8 +26,7 @@ use Rattle.md_seam.proofs.PlacesLemmas.{all-append}
 use Rattle.md_seam.proofs.SpelledLemmas.{read-from}
 use Rattle.md_seam.proofs.InlineLemmas.{past-index}
 use Rattle.md_front_rooms.specs.Front.{FrontRead, body_point, events_of, front_events, front_read, mark_end}
-use Rattle.md_front_rooms.specs.Front.{mark_events}
-use Rattle.md_front_rooms.specs.Front.{mark_point, point_or, text_front}
+use Rattle.md_front_rooms.specs.Front.{mark_events, mark_point, point_or, text_front}
 use Rattle.md_frame.proofs.BetweenFacts.{between-end, ending-behind}
 use Rattle.md_front_rooms.proofs.Frontmatter.Found.{AtEnd, Ended, FrontMeans, Here, Tail, front-means}
 use Rattle.md_front_rooms.proofs.Frontmatter.Lines.{Closes, IsFront, IsRest, More}

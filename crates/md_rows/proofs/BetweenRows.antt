@@ -2,7 +2,8 @@
 use Rattle.md_engine.specs.declared.tokenizer.held_leaf.HeldLeaf.TheVariants as held_leaf
 use Rattle.md_engine.specs.declared.tokenizer.held_leaf.HeldLeaf.{HeldLeaf}
 use Rattle.std.proofs.Common.{◌≡◌, ℕ, true, List, [], ◌∷◌, ◌++◌, refl, sym, subst}
-use Rattle.md_rows.specs.Rows.{Headed, LeafLines, Turned}
+use Rattle.md_rows.specs.Rows.{Headed, LeafLines, Turned, final_row, first_row, front_done, group_done, group_events}
+use Rattle.md_rows.specs.Rows.{Group, Lines, Single, groups, groups_events, tail_events, group_ending}
 use Rattle.std.specs.Prelude.{Option, Some, None}
 use Rattle.md_engine.specs.declared.configuration.ParseOptions.{ParseOptions}
 use Rattle.md_engine.specs.declared.event.Event.{Event}
@@ -14,10 +15,7 @@ use Rattle.md_outline.specs.Between.{is_between}
 use Rattle.md_frame.specs.Change.{ends_of}
 use Rattle.md_rows.specs.Fronted.{contained, rest_from}
 use Rattle.md_frame.specs.RestLine.{rest_line}
-use Rattle.md_rows.specs.Rows.{final_row, first_row, front_done, group_done, group_events}
 use Rattle.md_frame.specs.Row.{Row, behind_row, ending_events}
-use Rattle.md_rows.specs.Rows.{Group, Lines, Single, groups}
-use Rattle.md_rows.specs.Rows.{groups_events, tail_events}
 use Rattle.md_rows.proofs.EachRow.{EachGroup, EachRow, OfGroup, groups-each, last-each}
 use Rattle.md_frame.proofs.FrontStands.{fronts-between}
 use Rattle.md_rows.proofs.JoinedLemmas.{behind-is, behind-none}
@@ -26,7 +24,6 @@ use Rattle.md_rows.proofs.RowFacts.{AreRows, IsLine, IsRow, behind_line}
 use Rattle.md_frame.proofs.BetweenFacts.{AreBetween, between-append, between-end, between-more, between-pair}
 use Rattle.md_frame.proofs.BetweenFacts.{ending-before, ending-behind}
 use Rattle.md_frame.specs.ContainerNames.{container_name}
-use Rattle.md_rows.specs.Rows.{group_ending}
 
 -- Lines.
 

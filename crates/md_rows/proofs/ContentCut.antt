@@ -23,11 +23,9 @@ use Rattle.md_seam.specs.Events.Nested.{around, enter, exit, pair}
 use Rattle.md_seam.specs.Substituted.{belongs}
 use Rattle.md_rows.specs.BlockList.{lines_unread, text_unread}
 use Rattle.md_frame.specs.Laid.{LineBreak, laid}
-use Rattle.md_frame.specs.Row.{Row, behind_row, breaks_of, chunks_of}
-use Rattle.md_rows.specs.Rows.{behind_cut, cut_at_most, cut_by}
-use Rattle.md_frame.specs.Row.{ending_events, last_row}
+use Rattle.md_frame.specs.Row.{Row, behind_row, breaks_of, chunks_of, ending_events, last_row}
+use Rattle.md_rows.specs.Rows.{behind_cut, cut_at_most, cut_by, further_lines, lines_cells}
 use Rattle.md_content_rooms.specs.Defined.{defined_unread}
-use Rattle.md_rows.specs.Rows.{further_lines, lines_cells}
 use Rattle.md_frame.specs.Linked.{linked}
 use Rattle.md_rows.proofs.Defined.Cells.{world-first}
 use Rattle.md_rows.proofs.Defined.Cut.{IsBehind, IsSet, lines-cut}

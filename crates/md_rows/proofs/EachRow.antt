@@ -1,11 +1,9 @@
 -- What holds of each line of a text holds of each line of its groups.
 use Rattle.std.proofs.Common.{Bool, true, false, cond, ◌&&◌, List, [], ◌∷◌}
-use Rattle.md_frame.specs.Row.{BlankRow, LeafRow, Row, RowKind, TextRow}
-use Rattle.md_rows.specs.Rows.{Group, Lines, Single, goes_on, groups}
+use Rattle.md_frame.specs.Row.{BlankRow, LeafRow, Row, RowKind, TextRow, last_row}
+use Rattle.md_rows.specs.Rows.{Group, Lines, Single, goes_on, groups, Headed, LeafLines, Turned, is_further, is_last}
+use Rattle.md_rows.specs.Rows.{onto_groups, onto_leaf, onto_span, takes_head}
 use Rattle.md_registry.specs.Registry.{leaf}
-use Rattle.md_frame.specs.Row.{last_row}
-use Rattle.md_rows.specs.Rows.{Headed, LeafLines, Turned, is_further, is_last, onto_groups, onto_leaf}
-use Rattle.md_rows.specs.Rows.{onto_span, takes_head}
 
 abbrev pub EachRow : (Row → Type 0) → List Row → Type 0
 EachRow P [] = Unit {0}

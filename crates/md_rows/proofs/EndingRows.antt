@@ -1,12 +1,13 @@
 -- The endings of blank lines are told from others, before the text of a document is read and once it is.
 use Rattle.md_engine.specs.declared.tokenizer.held_leaf.HeldLeaf.TheVariants as held_leaf
 use Rattle.std.proofs.Common.{◌≡◌, ℕ, Bool, true, false, cond, ◌&&◌, List, [], ◌∷◌, ◌++◌, refl, ap, sym, ◌∙◌}
-use Rattle.std.proofs.Common.{append_assoc, subst}
-use Rattle.md_rows.proofs.GroupLines.{AreSpan}
+use Rattle.std.proofs.Common.{append_assoc, subst, ◌≤◌, length, append-nil}
+use Rattle.md_rows.proofs.GroupLines.{AreSpan, AreGroups, EndsBeforeGroups, IsSingle}
 use Rattle.md_registry.specs.Registry.{leaf}
-use Rattle.md_frame.specs.Row.{is_blank_by, last_row}
-use Rattle.md_rows.specs.Rows.{Headed, LeafLines, Turned, is_further, is_last, onto_leaf}
-use Rattle.md_rows.specs.Rows.{takes_head}
+use Rattle.md_frame.specs.Row.{is_blank_by, last_row, BlankRow, Row, RowKind, TextRow, ending_events, LeafRow}
+use Rattle.md_rows.specs.Rows.{Headed, LeafLines, Turned, is_further, is_last, onto_leaf, takes_head, final_row}
+use Rattle.md_rows.specs.Rows.{first_row, front_done, group_done, Group, Lines, Single, goes_on, group_events, groups}
+use Rattle.md_rows.specs.Rows.{groups_events, onto_groups, tail_events, group_ending, is_blank_group}
 use Rattle.std.specs.Prelude.{Option, Some, None, not}
 use Rattle.md_engine.specs.declared.configuration.ParseOptions.{ParseOptions}
 use Rattle.md_engine.specs.declared.event.Event.{Event}
@@ -18,16 +19,8 @@ use Rattle.md_meaning.specs.State.{Container}
 use Rattle.md_seam.proofs.EndingsLemmas.{AreOthers, Leads, leads-append, others-append, others-lead}
 use Rattle.md_frame.specs.ContainerNames.{container_name}
 use Rattle.md_frame.specs.Change.{ends_of}
-use Rattle.md_frame.specs.Row.{BlankRow, Row}
-use Rattle.md_rows.specs.Rows.{final_row, first_row, front_done, group_done, Group, Lines}
-use Rattle.md_frame.specs.Row.{RowKind, TextRow, ending_events}
-use Rattle.md_rows.specs.Rows.{Single, goes_on, group_events, groups}
-use Rattle.md_frame.specs.Row.{LeafRow}
-use Rattle.md_rows.specs.Rows.{groups_events, onto_groups, tail_events}
-use Rattle.md_rows.specs.Rows.{group_ending, is_blank_group}
 use Rattle.md_rows.specs.BlockList.{group_unread, tabled_group, tabled_groups}
 use Rattle.md_frame.proofs.EndingFacts.{ending-leads}
-use Rattle.md_rows.proofs.GroupLines.{AreGroups, EndsBeforeGroups, IsSingle}
 use Rattle.md_rows.proofs.GroupsAre.{groups-are}
 use Rattle.md_frame.proofs.FrontNames.{HasFront}
 use Rattle.md_rows.proofs.GroupLemmas.{rows-end}
@@ -43,7 +36,6 @@ use Rattle.md_frame.proofs.LeafFacts.{StandFacts, spot_behind}
 use Rattle.md_rows.proofs.Text.Stands.{text-stands}
 use Rattle.md_rows.proofs.Underlines.{under-filled}
 use Rattle.md_front_rooms.proofs.Frontmatter.Whole.{Leaves, ToEnd, ToLine}
-use Rattle.std.proofs.Common.{◌≤◌, length, append-nil}
 
 -- Events that are no ending, and no begin or end of a leaf.
 

@@ -1,8 +1,10 @@
 -- Flow takes every text to its end.
 use Rattle.std.proofs.Common.{◌≡◌, ℕ, zero, suc, ◌<◌, ◌≤◌, Bool, true, false, List, [], ◌∷◌, length, Option, Some, None, refl, arith}
-use Rattle.md_registry.specs.Registry.{asked_first, bars_containers}
-use Rattle.md_registry.specs.FlowRule.{all_on, blank_at_end, inside_by, inside_of}
-use Rattle.md_registry.specs.FlowRule.{behind_leaf}
+use Rattle.md_registry.specs.Registry.{asked_first, bars_containers, begins_at, continues_at, leaf, openers, trials}
+use Rattle.md_registry.specs.FlowRule.{all_on, blank_at_end, inside_by, inside_of, behind_leaf, asking_here}
+use Rattle.md_registry.specs.FlowRule.{behind_containers, blank_ended, content_of, ended, ended_to, existing_at}
+use Rattle.md_registry.specs.FlowRule.{existing_by, existing_from, opens_of, flow_at, flow_lines, leaf_of, leaves_of}
+use Rattle.md_registry.specs.FlowRule.{line_ended, line_then, new_from, new_of, opened}
 use Rattle.md_engine.specs.declared.configuration.ParseOptions.{ParseOptions}
 use Rattle.md_engine.specs.declared.tokenizer.container.Container.{Container}
 use Rattle.md_engine.specs.declared.tokenizer.Scratch.{Scratch}
@@ -14,17 +16,10 @@ use Rattle.md_leaves.specs.BlankRule.{blank_at}
 use Rattle.md_seam.specs.Look.{first_seen}
 use Rattle.md_seam.specs.Spaces.{ends_line}
 use Rattle.md_seam.proofs.FeedLines.{Stops}
-use Rattle.md_frame.specs.Rule.{Rule}
-use Rattle.md_registry.specs.FlowRule.{asking_here, behind_containers, blank_ended, content_of, ended, ended_to}
-use Rattle.md_registry.specs.FlowRule.{existing_at, existing_by, existing_from, opens_of}
-use Rattle.md_registry.specs.FlowRule.{flow_at, flow_lines, leaf_of, leaves_of, line_ended, line_then}
-use Rattle.md_registry.specs.FlowRule.{new_from}
-use Rattle.md_frame.specs.Rule.{tried}
-use Rattle.md_registry.specs.FlowRule.{new_of, opened}
+use Rattle.md_frame.specs.Rule.{Rule, tried}
 use Rattle.md_registry.specs.LineFlags.{begun_line, blanked, ended_on, next_container, shut_leaf, kept_containers}
 use Rattle.md_registry.specs.LineFlags.{went_on}
 use Rattle.md_frame.specs.LeafName.{LeafName}
-use Rattle.md_registry.specs.Registry.{begins_at, continues_at, leaf, openers, trials}
 use Rattle.md_registry.proofs.FlowLemmas.{blank_at-shrinks, chunk_at-shrinks}
 use Rattle.md_frame.proofs.FromEnding.{stops-same}
 use Rattle.md_frame.proofs.LeafLaws.{Shrinks}

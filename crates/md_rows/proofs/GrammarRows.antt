@@ -14,15 +14,12 @@ use Rattle.md_seam.specs.Events.Nested.{pair}
 use Rattle.md_containers.specs.Unlisted.{keeps_unlisted, unlisted_left}
 use Rattle.md_containers.proofs.UnlistedLemmas.{Unlists, unlists-rest, unlists-same}
 use Rattle.md_frame.specs.Change.{ends_of}
-use Rattle.md_frame.specs.Row.{Row}
-use Rattle.md_rows.specs.Rows.{final_row, first_row, front_done, group_done, Group}
-use Rattle.md_frame.specs.Row.{ending_events}
-use Rattle.md_rows.specs.Rows.{group_events, groups}
-use Rattle.md_rows.specs.Rows.{groups_events, tail_events}
+use Rattle.md_frame.specs.Row.{Row, ending_events}
+use Rattle.md_rows.specs.Rows.{final_row, first_row, front_done, group_done, Group, group_events, groups, groups_events}
+use Rattle.md_rows.specs.Rows.{tail_events, group_ending, is_blank_group}
 use Rattle.md_rows.specs.BlockList.{group_unread, tabled_group, tabled_groups}
 use Rattle.md_frame.proofs.ContainerNames.{TakesData, open_names}
-use Rattle.md_frame.proofs.GrammarFronts.{behind-ends, behinds, behinds-append, blocks_behind}
-use Rattle.md_frame.proofs.GrammarFronts.{ends-lead, front-leads}
+use Rattle.md_frame.proofs.GrammarFronts.{behind-ends, behinds, behinds-append, blocks_behind, ends-lead, front-leads}
 use Rattle.md_rows.proofs.GroupLines.{EndsBeforeGroups}
 use Rattle.md_rows.proofs.GroupLemmas.{rows-end}
 use Rattle.md_rows.proofs.JoinedLemmas.{EachNoContent}
@@ -31,7 +28,6 @@ use Rattle.md_frame.proofs.FrontFacts.{LinePrefix}
 use Rattle.md_rows.proofs.NestedRows.{ByGroups, Ordered, rows-hold}
 use Rattle.md_rows.proofs.RowFacts.{AreRows}
 use Rattle.md_rows.proofs.GroupFacts.{IsGroupLeaf}
-use Rattle.md_rows.specs.Rows.{group_ending, is_blank_group}
 use Rattle.md_front_rooms.proofs.Frontmatter.Whole.{IsText, Leaves, Plain, ToEnd, ToLine, Unread}
 use Rattle.std.proofs.Common.{◌≤◌, length, append-nil}
 use Rattle.md_frame.proofs.LeafStands.{roles-unlisted}

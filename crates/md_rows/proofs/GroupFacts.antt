@@ -1,18 +1,16 @@
 -- What is known of the leaf of a group, be it one line, the lines of a text, or those of a leaf of several.
 use Rattle.std.proofs.Common.{◌≢◌, ℕ, List, ◌∷◌, Bool, true, false}
 use Rattle.md_rows.proofs.GroupLines.{AreSpan, Begins, IsUnder, behind-first, line-further, line-of, span-begins}
+use Rattle.md_rows.proofs.GroupLines.{AreGroups, AreLines, IsHead, IsLeft}
 use Rattle.md_registry.proofs.SpanLeaves.{span-laws}
 use Rattle.std.specs.Prelude.{not}
 use Rattle.md_engine.specs.declared.configuration.ParseOptions.{ParseOptions}
 use Rattle.md_meaning.specs.Tree.{Block}
-use Rattle.md_frame.specs.Row.{last_row, Row}
+use Rattle.md_frame.specs.Row.{last_row, Row, TextRow, is_blank_row}
 use Rattle.md_rows.specs.Rows.{Headed, LeafLines, Turned, Group, Lines, Single, final_row, first_row}
-use Rattle.md_frame.specs.Row.{TextRow, is_blank_row}
 use Rattle.md_rows.specs.Rows.{group_done, leaf_done, leaf_unread}
 use Rattle.md_rows.specs.BlockList.{group_unread}
-use Rattle.md_rows.proofs.GroupLines.{AreGroups, AreLines}
 use Rattle.md_frame.proofs.FrontNames.{HasFront}
-use Rattle.md_rows.proofs.GroupLines.{IsHead, IsLeft}
 use Rattle.md_rows.proofs.HeadedTable.{headed-facts, headed-is}
 use Rattle.md_frame.proofs.LeafFacts.{StandFacts}
 use Rattle.md_rows.proofs.RowFacts.{IsRow}

@@ -1,8 +1,9 @@
 -- Once the content in the events of the groups of a text is read, texts stand there that are not read yet.
 use Rattle.md_engine.specs.declared.tokenizer.held_leaf.HeldLeaf.{HeldLeaf}
 use Rattle.std.proofs.Common.{◌≡◌, ◌≢◌, ℕ, ◌<◌, ◌≤◌, Bool, true, false, cond, ◌&&◌, List, [], ◌∷◌, ◌++◌, length, drop}
-use Rattle.md_rows.specs.BlockList.{lines_unread}
-use Rattle.md_rows.specs.Rows.{Headed, LeafLines, Turned}
+use Rattle.md_rows.specs.BlockList.{lines_unread, text_unread, unread_lines}
+use Rattle.md_rows.specs.Rows.{Headed, LeafLines, Turned, Group, Lines, Single, groups, kind_of, line_kind, row_events}
+use Rattle.md_rows.specs.Rows.{rows_events, tail_events}
 use Rattle.std.proofs.Common.{slice_range, refl, ap, sym, ◌∙◌, subst, append_assoc, arith, length-append}
 use Rattle.std.specs.Prelude.{Option, Some, None}
 use Rattle.std.proofs.lemmas.Bool.{and_from, eq-eqb}
@@ -28,50 +29,32 @@ use Rattle.md_frame.specs.Change.{ends_of}
 use Rattle.md_frame.specs.LeafName.{first_of, LeafName}
 use Rattle.md_frame.specs.TextLines.{text_leaf}
 use Rattle.md_frame.specs.ContainerNames.{container_name}
-use Rattle.md_registry.specs.Registry.{leaf as line_leaf}
-use Rattle.md_registry.specs.Registry.{trials}
-use Rattle.md_frame.specs.Row.{BlankRow, LeafRow, Row, RowKind, TextRow}
-use Rattle.md_rows.specs.Rows.{Group, Lines, Single}
-use Rattle.md_frame.specs.Row.{behind_row, chunks_of, ending_events, ending_of}
-use Rattle.md_frame.specs.Row.{last_row}
-use Rattle.md_rows.specs.Rows.{groups, kind_of}
-use Rattle.md_rows.specs.Rows.{line_kind, row_events}
-use Rattle.md_frame.specs.Row.{row_line}
+use Rattle.md_registry.specs.Registry.{leaf as line_leaf, trials}
+use Rattle.md_frame.specs.Row.{BlankRow, LeafRow, Row, RowKind, TextRow, behind_row, chunks_of, ending_events}
+use Rattle.md_frame.specs.Row.{ending_of, last_row, row_line, is_blank_by}
 use Rattle.md_table_rooms.specs.Headed.{headed_row}
-use Rattle.md_rows.specs.Rows.{rows_events, tail_events}
-use Rattle.md_meaning.specs.Rest.{cut_tab}
+use Rattle.md_meaning.specs.Rest.{cut_tab, Rest as LineRest, is_blank}
 use Rattle.md_frame.specs.Linked.{linked}
-use Rattle.md_rows.specs.Unread.{headed_lines, joined_groups}
+use Rattle.md_rows.specs.Unread.{headed_lines, joined_groups, unread_group, unread_groups}
 use Rattle.md_frame.specs.UnreadText.{linked_lines}
-use Rattle.md_rows.specs.BlockList.{text_unread}
-use Rattle.md_rows.specs.Unread.{unread_group, unread_groups}
-use Rattle.md_rows.specs.BlockList.{unread_lines}
-use Rattle.md_seam.proofs.FeedLines.{ending-some}
-use Rattle.md_rows.proofs.GroupLines.{AreGroups, AreLines, AreSpan, EndsBeforeGroups, IsSingle}
-use Rattle.md_frame.proofs.FrontNames.{HasFront}
-use Rattle.md_rows.proofs.GroupLines.{IsSpanLine}
+use Rattle.md_seam.proofs.FeedLines.{ending-some, IsEnding}
+use Rattle.md_rows.proofs.GroupLines.{AreGroups, AreLines, AreSpan, EndsBeforeGroups, IsSingle, IsSpanLine, IsUnder}
+use Rattle.md_frame.proofs.FrontNames.{HasFront, ends-first, fronts-prefixes}
 use Rattle.md_rows.proofs.GroupsAre.{groups-are}
-use Rattle.md_rows.proofs.GroupLines.{IsUnder}
-use Rattle.md_frame.proofs.FrontNames.{ends-first, fronts-prefixes}
 use Rattle.md_frame.proofs.FrontPlaces.{fronts-grow}
 use Rattle.md_table_rooms.proofs.GfmTable.Head.{head-no_content}
-use Rattle.md_rows.proofs.JoinedLemmas.{EachEnds, EachFront, EachNoContent, HasNoContent, behind-is}
+use Rattle.md_rows.proofs.JoinedLemmas.{EachEnds, EachFront, EachNoContent, HasNoContent, behind-is, ending-other}
+use Rattle.md_rows.proofs.JoinedLemmas.{events-no_content, has_front-no_content, front-no_content, tail-no_content}
 use Rattle.md_frame.proofs.LeafLines.Cuts.{ending-is}
-use Rattle.md_rows.proofs.JoinedLemmas.{ending-other, events-no_content, has_front-no_content}
-use Rattle.md_rows.proofs.JoinedLemmas.{front-no_content, tail-no_content}
 use Rattle.md_rows.proofs.RowFacts.{AreRows, IsRow, behind_line, line-text}
-use Rattle.md_seam.proofs.FeedLines.{IsEnding}
-use Rattle.md_frame.proofs.SubstitutedLemmas.{AllBelong, CutAt, EachPrefixed, NextBelongs, Rest}
-use Rattle.md_frame.proofs.SubstitutedLemmas.{Unwanted, behind-exit, line_after}
-use Rattle.md_frame.proofs.SubstitutedLemmas.{passes, places}
+use Rattle.md_frame.proofs.SubstitutedLemmas.{AllBelong, CutAt, EachPrefixed, NextBelongs, Rest, Unwanted, behind-exit}
+use Rattle.md_frame.proofs.SubstitutedLemmas.{line_after, passes, places}
 use Rattle.md_frame.proofs.ContentFacts.{NoContent, WantsContent, no_content-append, no_content-unwanted}
 use Rattle.md_frame.proofs.ContainerNames.{container-facts}
-use Rattle.md_meaning.specs.Rest.{Rest as LineRest, is_blank}
 use Rattle.md_frame.proofs.LineTexts.{one-last, one-next, piece, without-none, without-one}
 use Rattle.md_frame.proofs.PrefixNames.{ArePrefixes, prefixes-front}
 use Rattle.md_rows.proofs.KindLemmas.{kind-text}
 use Rattle.md_rows.proofs.TextProgress.{IsShut}
-use Rattle.md_frame.specs.Row.{is_blank_by}
 
 -- each line of a text but the last has an ending
 pub rows-end : (options : ParseOptions) (bytes : List ℕ) (open_before : List Container) (still : HeldLeaf) (p : Point)

@@ -14,9 +14,8 @@ use Rattle.md_meaning.specs.State.{Container}
 use Rattle.md_seam.specs.Events.Nested.{enter_link, exit}
 use Rattle.md_tables.specs.Heads.{headed, meets_table}
 use Rattle.md_tables.proofs.HeadsLemmas.{headed-behind, headed-head, headed-text}
-use Rattle.md_table_rooms.specs.Headed.{heads_read}
+use Rattle.md_table_rooms.specs.Headed.{heads_read, headed_row}
 use Rattle.md_frame.specs.Row.{BlankRow, LeafRow, Row, RowKind, TextRow}
-use Rattle.md_table_rooms.specs.Headed.{headed_row}
 use Rattle.md_rows.specs.Rows.{groups, is_further}
 use Rattle.md_rows.specs.Rows.{is_text, row_events, row_events_by, rows_events, tail_events, takes_head}
 use Rattle.md_rows.specs.Unread.{joined_groups}

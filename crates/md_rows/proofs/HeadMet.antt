@@ -33,17 +33,15 @@ use Rattle.md_frame.specs.LeafName.{CodeFurther, CodeIndented, Fence, FenceFurth
 use Rattle.md_frame.specs.LeafName.{HeadingSetext, HtmlFlow, HtmlFurther, LeafName, ThematicBreak}
 use Rattle.md_registry.specs.Registry.{leaf}
 use Rattle.md_frame.specs.Row.{BlankRow, LeafRow, Row, RowKind, TextRow, ending_events, ending_of}
-use Rattle.md_rows.specs.Rows.{is_further}
-use Rattle.md_rows.specs.Rows.{leaf_events, line_behind, row_events, row_events_by, rows_events, tail_events}
-use Rattle.md_rows.specs.Rows.{takes_head}
+use Rattle.md_rows.specs.Rows.{is_further, leaf_events, line_behind, row_events, row_events_by, rows_events}
+use Rattle.md_rows.specs.Rows.{tail_events, takes_head}
 use Rattle.md_frame.specs.MarkRuns.{Apart, mark_runs}
 use Rattle.md_frame.proofs.BlankLine.{blank-unlinked}
 use Rattle.md_frame.proofs.EachEvent.{Each, each-append, each-as}
-use Rattle.md_frame.proofs.FrontNames.{ends-are, fronts-are, fronts-prefixes}
+use Rattle.md_frame.proofs.FrontNames.{ends-are, fronts-are, fronts-prefixes, HasFront}
 use Rattle.md_rows.proofs.GroupLemmas.{rows-end, rows-front}
 use Rattle.md_rows.proofs.GroupLines.{Begins}
 use Rattle.md_rows.proofs.LineBehind.{FirstLine, first-line, line-begins, line-met}
-use Rattle.md_frame.proofs.FrontNames.{HasFront}
 use Rattle.md_rows.proofs.JoinedLemmas.{EachEnds}
 use Rattle.md_frame.proofs.LeafLines.Cuts.{ending-is}
 use Rattle.md_frame.proofs.MarkRuns.Each.{runs-hold}

@@ -9,13 +9,10 @@ use Rattle.md_engine.specs.declared.tokenizer.held_leaf.HeldLeaf.TheVariants as 
 use Rattle.md_content.specs.Joined.{joined}
 use Rattle.md_frame.specs.LeafName.{GfmTable, LeafName}
 use Rattle.md_registry.specs.Registry.{leaf}
-use Rattle.md_frame.specs.Row.{BlankRow, LeafRow, Row, RowKind, TextRow}
-use Rattle.md_rows.specs.Rows.{Group, Headed, Lines, Single, LeafLines}
+use Rattle.md_frame.specs.Row.{BlankRow, LeafRow, Row, RowKind, TextRow, row_line}
+use Rattle.md_rows.specs.Rows.{Group, Headed, Lines, Single, LeafLines, Turned, goes_on, groups, is_further, is_last}
+use Rattle.md_rows.specs.Rows.{is_text, onto_groups, onto_leaf, onto_span, onto_underline, takes_head, rows_events}
 use Rattle.md_table_rooms.specs.Headed.{headed_row}
-use Rattle.md_rows.specs.Rows.{Turned, goes_on, groups, is_further, is_last, is_text, onto_groups}
-use Rattle.md_frame.specs.Row.{row_line}
-use Rattle.md_rows.specs.Rows.{onto_leaf, onto_span, onto_underline, takes_head}
-use Rattle.md_rows.specs.Rows.{rows_events}
 use Rattle.md_rows.specs.Unread.{joined_group, joined_groups}
 use Rattle.md_frame.proofs.FrontNames.{HasFront}
 use Rattle.md_table_rooms.proofs.GfmTable.Head.{head-no_content}

@@ -17,17 +17,14 @@ use Rattle.md_table_rooms.specs.Leaf.GfmTable.{may_be_table, table_leaf}
 use Rattle.md_frame.specs.LeafName.{GfmTable, LeafName}
 use Rattle.md_registry.specs.Resolving.{joins_lines}
 use Rattle.md_registry.specs.Registry.{further_of, asked_first, leaf}
-use Rattle.md_frame.specs.Row.{LeafRow, Row, RowKind}
+use Rattle.md_frame.specs.Row.{LeafRow, Row, RowKind, is_blank_by, last_row}
 use Rattle.md_table_rooms.specs.Headed.{headed_done, headed_unread}
-use Rattle.md_rows.specs.Rows.{Headed}
-use Rattle.md_frame.specs.Row.{is_blank_by, last_row}
-use Rattle.md_rows.specs.Rows.{is_blank_group, line_behind}
+use Rattle.md_rows.specs.Rows.{Headed, is_blank_group, line_behind}
 use Rattle.md_table_rooms.proofs.GfmTable.Found.{table-enabled}
 use Rattle.md_table_rooms.proofs.GfmTable.TableForm.{IsFilledLine, IsTable}
 use Rattle.md_table_rooms.proofs.GfmTable.TableLaws.{AreFilled, table-facts, table-of, table_behind}
-use Rattle.md_rows.proofs.GroupLines.{AreSpan, IsHead, IsSpanLine, line-as, line-further}
+use Rattle.md_rows.proofs.GroupLines.{AreSpan, IsHead, IsSpanLine, line-as, line-further, span-begins, span-behind}
 use Rattle.md_rows.proofs.LineBehind.{line-heads}
-use Rattle.md_rows.proofs.GroupLines.{span-begins, span-behind}
 use Rattle.md_rows.proofs.KindLemmas.{kind-filled}
 use Rattle.md_frame.proofs.LeafFacts.{LeafFacts}
 use Rattle.md_rows.proofs.RowFacts.{IsRow}

@@ -10,8 +10,7 @@ use Rattle.md_engine.specs.declared.event.Name.{Name}
 use Rattle.md_engine.specs.declared.event.Name.TheVariants as n
 use Rattle.md_engine.specs.declared.event.Point.{Point}
 use Rattle.md_containers.specs.ItemsHeld.{HoldsItems, IsHeld, ItemsHeld}
-use Rattle.md_containers.specs.Listed.{Begins as TurnBegins, Ends as TurnEnds, Stays as TurnStays, is_item}
-use Rattle.md_containers.specs.Listed.{turn}
+use Rattle.md_containers.specs.Listed.{Begins as TurnBegins, Ends as TurnEnds, Stays as TurnStays, is_item, turn}
 use Rattle.md_containers.specs.Unlisted.{in_place}
 use Rattle.md_containers.proofs.UnlistedLemmas.{NoListing, held-append}
 use Rattle.md_engine.specs.Place.{first_point}
@@ -24,20 +23,18 @@ use Rattle.md_seam.proofs.SpelledLemmas.{Between}
 use Rattle.md_frame.specs.Change.{ends_of}
 use Rattle.md_frame.specs.ContainerNames.{container_name}
 use Rattle.md_frame.specs.Row.{Row, ending_events}
-use Rattle.md_rows.specs.Rows.{Group, final_row, first_row, front_done, group_done}
-use Rattle.md_rows.specs.Rows.{groups, groups_events, tail_events}
+use Rattle.md_rows.specs.Rows.{Group, final_row, first_row, front_done, group_done, groups, groups_events, tail_events}
+use Rattle.md_rows.specs.Rows.{group_ending, is_blank_group}
 use Rattle.md_rows.specs.BlockList.{group_unread, tabled_groups}
 use Rattle.md_frame.proofs.ContainerNames.{container-facts, open_names}
 use Rattle.md_frame.proofs.FrontFacts.{Begins, Behind, Goes, LinePrefix}
 use Rattle.md_frame.proofs.FrontLemmas.{Turns, ends-turn, fronts-turn, turns-balanced}
-use Rattle.md_frame.proofs.LeafStands.{between-unlisted, ending-between}
+use Rattle.md_frame.proofs.LeafStands.{between-unlisted, ending-between, roles-unlisted}
 use Rattle.md_rows.proofs.NestedRows.{ByGroups, Keeps, rows-hold}
 use Rattle.md_frame.proofs.PrefixNames.{prefixes-roles}
 use Rattle.md_rows.proofs.RowFacts.{AreRows}
 use Rattle.md_frame.proofs.SpanLemmas.{Nested_in}
-use Rattle.md_rows.specs.Rows.{group_ending, is_blank_group}
 use Rattle.md_front_rooms.proofs.Frontmatter.Whole.{FrontPart}
-use Rattle.md_frame.proofs.LeafStands.{roles-unlisted}
 
 -- What is open.
 

@@ -1,12 +1,13 @@
 -- Lines of text that follow one another, joined.
 use Rattle.md_engine.specs.declared.tokenizer.held_leaf.HeldLeaf.{HeldLeaf}
 use Rattle.std.proofs.Common.{◌≡◌, ◌≢◌, ℕ, zero, suc, Bool, true, false, cond, ◌&&◌, List, [], ◌∷◌, ◌++◌, refl, ap, sym}
-use Rattle.std.proofs.Common.{append-nil}
+use Rattle.std.proofs.Common.{append-nil, ◌∙◌, subst, append_assoc}
 use Rattle.md_frame.specs.EndingName.{ending_name}
 use Rattle.md_registry.specs.Registry.{leaf}
 use Rattle.md_rows.specs.Rows.{Headed, LeafLines, Turned, is_further, is_last, onto_leaf, onto_underline, takes_head}
-use Rattle.md_rows.specs.Rows.{behind_held}
-use Rattle.std.proofs.Common.{◌∙◌, subst, append_assoc}
+use Rattle.md_rows.specs.Rows.{behind_held, Group, Held, Lines, Single, groups, held_at, inside_of, leaf_events}
+use Rattle.md_rows.specs.Rows.{onto_groups, row_events, row_events_by, row_kind, rows_at, rows_by, rows_events}
+use Rattle.md_rows.specs.Rows.{tail_events}
 use Rattle.std.specs.Prelude.{Option, Some, None, not}
 use Rattle.std.proofs.lemmas.Bool.{and_parts, and_right}
 use Rattle.md_engine.specs.declared.configuration.ParseOptions.{ParseOptions}
@@ -29,29 +30,20 @@ use Rattle.md_meaning.specs.State.{Container}
 use Rattle.md_seam.specs.Events.Prefix.{is_prefix}
 use Rattle.md_seam.specs.Substituted.{wanted, wanted_at}
 use Rattle.md_frame.specs.Change.{ends_of, is_none, open_behind}
-use Rattle.md_frame.specs.Row.{BlankRow, Row, RowKind, TextRow}
-use Rattle.md_rows.specs.Rows.{Group, Held, Lines, Single}
-use Rattle.md_frame.specs.Row.{behind_row, ending_events, ending_of}
-use Rattle.md_rows.specs.Rows.{groups, held_at, inside_of}
-use Rattle.md_frame.specs.Row.{last_row}
-use Rattle.md_rows.specs.Rows.{leaf_events, onto_groups, row_events, row_events_by}
-use Rattle.md_frame.specs.Row.{LeafRow}
-use Rattle.md_rows.specs.Rows.{row_kind, rows_at, rows_by, rows_events, tail_events}
+use Rattle.md_frame.specs.Row.{BlankRow, Row, RowKind, TextRow, behind_row, ending_events, ending_of, last_row, LeafRow}
+use Rattle.md_frame.specs.Row.{is_blank_by}
 use Rattle.md_rows.specs.Unread.{joined_groups}
 use Rattle.md_frame.specs.UnreadText.{linked_lines}
-use Rattle.md_frame.proofs.FrontNames.{HasFront, ends-first, fronts-are}
-use Rattle.md_frame.proofs.EventNames.{front-content}
-use Rattle.md_frame.proofs.FrontNames.{fronts-prefixes, fronts-stop, prefixes-content}
+use Rattle.md_frame.proofs.FrontNames.{HasFront, ends-first, fronts-are, fronts-prefixes, fronts-stop, prefixes-content}
+use Rattle.md_frame.proofs.EventNames.{front-content, is_told, told-content}
 use Rattle.md_frame.proofs.LeafLines.Cuts.{ending-is}
 use Rattle.md_registry.proofs.Registry.{laws}
 use Rattle.md_rows.proofs.TextGroups.{HeadsNone, NoHeads, groups-unheaded, onto_text}
 use Rattle.md_rows.proofs.TextGroups.{lines-first, text-onto, text_group}
 use Rattle.md_frame.proofs.ContentFacts.{NoContent, WantsContent, no_content-append, nothing, nothing-wanted}
-use Rattle.md_frame.proofs.EventNames.{is_told, told-content}
 use Rattle.md_frame.proofs.PrefixNames.{AreFront, is_alone, is_string}
 use Rattle.md_frame.proofs.ContainerNames.{container-facts, end-stops}
 use Rattle.md_frame.specs.ContainerNames.{container_name}
-use Rattle.md_frame.specs.Row.{is_blank_by}
 
 -- no content stands inside a line, and its links are to text
 abbrev pub HasNoContent : Row → Type 0

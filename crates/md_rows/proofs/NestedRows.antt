@@ -3,16 +3,11 @@ use Rattle.md_engine.specs.declared.tokenizer.held_leaf.HeldLeaf.TheVariants as 
 use Rattle.md_engine.specs.declared.tokenizer.held_leaf.HeldLeaf.{HeldLeaf}
 use Rattle.md_frame.specs.LeafName.{LeafName}
 use Rattle.md_registry.specs.Registry.{leaf}
-use Rattle.md_rows.proofs.GroupLines.{AreSpan, Begins, FirstIs, IsHead, IsSpanLine}
-use Rattle.md_rows.proofs.LineBehind.{FirstBegins, IsBehind}
-use Rattle.md_rows.proofs.GroupLines.{IsUnder, Leaves}
-use Rattle.md_rows.proofs.LineBehind.{behind-fresh, behind-on, leaf-fresh, leaves-left}
-use Rattle.md_rows.proofs.GroupsAre.{first-text}
-use Rattle.md_rows.proofs.LineBehind.{leaves-longer, unjoined-fresh}
-use Rattle.md_rows.proofs.GroupsAre.{under-leaves}
-use Rattle.md_rows.proofs.LineBehind.{begins-behind, blank-ends, first-begins, first-behind, leaf-other}
-use Rattle.md_rows.proofs.LineBehind.{leaf-row-ends, shut-behind, turned-alone}
-use Rattle.md_rows.proofs.GroupsAre.{text-head, text-under}
+use Rattle.md_rows.proofs.GroupLines.{AreSpan, Begins, FirstIs, IsHead, IsSpanLine, IsUnder, Leaves, AreLines}
+use Rattle.md_rows.proofs.LineBehind.{FirstBegins, IsBehind, behind-fresh, behind-on, leaf-fresh, leaves-left}
+use Rattle.md_rows.proofs.LineBehind.{leaves-longer, unjoined-fresh, begins-behind, blank-ends, first-begins}
+use Rattle.md_rows.proofs.LineBehind.{first-behind, leaf-other, leaf-row-ends, shut-behind, turned-alone}
+use Rattle.md_rows.proofs.GroupsAre.{first-text, under-leaves, text-head, text-under}
 use Rattle.std.proofs.Common.{◌≡◌, ◌≢◌, ℕ, Bool, true, false, cond, ◌&&◌, List, [], ◌∷◌, ◌++◌, refl, ap, sym, ◌∙◌}
 use Rattle.std.proofs.Common.{append_assoc, append-nil, subst}
 use Rattle.std.specs.Prelude.{IsTrue, Some}
@@ -27,21 +22,16 @@ use Rattle.md_seam.proofs.NestedLemmas.{at_or_before-refl}
 use Rattle.md_frame.specs.Change.{Change, ends_of, is_none, open_behind}
 use Rattle.md_rows.specs.Fronted.{contained, rest_from}
 use Rattle.md_frame.specs.RestLine.{rest_line}
-use Rattle.md_rows.specs.Rows.{Headed, LeafLines, Turned, is_further, is_last, onto_leaf, final_row, first_row}
-use Rattle.md_frame.specs.Row.{LeafRow, BlankRow, Row, RowKind, TextRow}
-use Rattle.md_rows.specs.Rows.{Group, Lines, Single}
-use Rattle.md_frame.specs.Row.{behind_row, ending_events}
-use Rattle.md_rows.specs.Rows.{closes_before, front_done, goes_on, groups}
-use Rattle.md_rows.specs.Rows.{groups_events}
-use Rattle.md_frame.specs.Row.{last_row}
-use Rattle.md_rows.specs.Rows.{group_done, onto_groups, tail_events, takes_head}
+use Rattle.md_rows.specs.Rows.{Headed, LeafLines, Turned, is_further, is_last, onto_leaf, final_row, first_row, Group}
+use Rattle.md_rows.specs.Rows.{Lines, Single, closes_before, front_done, goes_on, groups, groups_events, group_done}
+use Rattle.md_rows.specs.Rows.{onto_groups, tail_events, takes_head, group_ending}
+use Rattle.md_frame.specs.Row.{LeafRow, BlankRow, Row, RowKind, TextRow, behind_row, ending_events, last_row}
 use Rattle.md_rows.proofs.ContainedLemmas.{contained-shapes, none-nil}
 use Rattle.md_frame.proofs.FrontFacts.{LinePrefix, ReadFront}
 use Rattle.md_frame.proofs.FrontLemmas.{Turns, ends-spans, ends-turn, fronts-spans, fronts-turn, names-append}
 use Rattle.md_frame.proofs.FrontLemmas.{shapes-names}
 use Rattle.md_rows.proofs.JoinedLemmas.{behind-is, behind-none}
 use Rattle.md_rows.proofs.GroupFacts.{IsGroupLeaf, headed-leaf, single-leaf, span-group, text-leaf, turned-leaf}
-use Rattle.md_rows.proofs.GroupLines.{AreLines}
 use Rattle.md_rows.proofs.RowLeaf.{EndsOnLine}
 use Rattle.md_frame.proofs.ChunkFacts.{ending-order}
 use Rattle.md_rows.proofs.RowFacts.{AreRows, IsLine, IsRow, behind_line}
@@ -49,7 +39,6 @@ use Rattle.md_seam.proofs.FeedLines.{IsEnding}
 use Rattle.md_frame.proofs.NestedEvents.{Onward, Under, ending-nested, under-before, under-none, under-turn}
 use Rattle.md_frame.proofs.SpanLemmas.{Nested_in}
 use Rattle.md_frame.proofs.ContainerNames.{open_names}
-use Rattle.md_rows.specs.Rows.{group_ending}
 use Rattle.md_rows.proofs.Turned.Under.{text-open}
 use Rattle.md_rows.proofs.Underlines.{further-quiet}
 

@@ -1,8 +1,7 @@
 -- A paragraph over the cells of its lines is these lines, whose text is not read yet. Each ends behind its ending, and
 -- the next begins behind the prefixes of its containers.
 use Rattle.std.proofs.Common.{◌≡◌, inl, inr, ℕ, zero, suc, ◌+◌, ◌-◌, ◌^◌, ◌<◌, ◌≤◌, Bool, true, false, cond, List, []}
-use Rattle.std.proofs.Common.{◌∷◌, ◌++◌}
-use Rattle.std.proofs.Common.{length, drop, refl, ap, sym, ◌∙◌, subst, append_assoc, append-nil, drop-drop}
+use Rattle.std.proofs.Common.{◌∷◌, ◌++◌, length, drop, refl, ap, sym, ◌∙◌, subst, append_assoc, append-nil, drop-drop}
 use Rattle.std.proofs.Common.{length-append, length-drop, arith}
 use Rattle.std.specs.Prelude.{◌==◌, ◌&&◌, Option, Some, nat_le, nat_lt, slice_get, slice_index}
 use Rattle.std.proofs.lemmas.Bool.{eqb-true, or_parts}

@@ -1,7 +1,7 @@
 -- Prefixes part no text but that of lines, and that at the begins of these.
 use Rattle.md_engine.specs.declared.tokenizer.held_leaf.HeldLeaf.TheVariants as held_leaf
 use Rattle.std.proofs.Common.{◌≡◌, ℕ, true, List, [], ◌++◌, refl}
-use Rattle.std.specs.Prelude.{Option, Some, None}
+use Rattle.std.specs.Prelude.{Option, Some, None, Bool, false}
 use Rattle.md_engine.specs.declared.configuration.ParseOptions.{ParseOptions}
 use Rattle.md_engine.specs.declared.event.Event.{Event}
 use Rattle.md_engine.specs.declared.event.Name.{Name}
@@ -12,18 +12,15 @@ use Rattle.md_seam.proofs.SpelledLemmas.{Roles, roles-append}
 use Rattle.md_outline.specs.Outlined.{are_parted}
 use Rattle.md_frame.specs.EndingName.{ending_name}
 use Rattle.md_frame.specs.Change.{ends_of}
-use Rattle.md_frame.specs.Row.{Row}
-use Rattle.md_rows.specs.Rows.{final_row, first_row, front_done, group_done, Group}
-use Rattle.md_frame.specs.Row.{ending_events}
-use Rattle.md_rows.specs.Rows.{groups, groups_events, tail_events}
+use Rattle.md_frame.specs.Row.{Row, ending_events}
+use Rattle.md_rows.specs.Rows.{final_row, first_row, front_done, group_done, Group, groups, groups_events, tail_events}
+use Rattle.md_rows.specs.Rows.{group_ending, is_blank_group}
 use Rattle.md_frame.proofs.FrontLemmas.{ends-roles}
 use Rattle.md_frame.proofs.FrontStands.{fronts-sit}
 use Rattle.md_rows.proofs.RowFacts.{AreRows}
 use Rattle.md_frame.proofs.PartedFacts.{PrefixesAtLineStart, Still, sits-append, sits-still}
 use Rattle.md_rows.proofs.NestedRows.{ByGroups, rows-hold}
 use Rattle.md_frame.proofs.ContainerNames.{container-facts}
-use Rattle.std.specs.Prelude.{Bool, false}
-use Rattle.md_rows.specs.Rows.{group_ending, is_blank_group}
 
 -- Events outside of texts.
 

@@ -2,7 +2,8 @@
 use Rattle.md_engine.specs.declared.tokenizer.held_leaf.HeldLeaf.TheVariants as held_leaf
 use Rattle.md_engine.specs.declared.tokenizer.held_leaf.HeldLeaf.{HeldLeaf}
 use Rattle.std.proofs.Common.{◌≡◌, ℕ, true, List, [], ◌∷◌, ◌++◌, sym, subst}
-use Rattle.md_rows.specs.Rows.{Headed, LeafLines, Turned}
+use Rattle.md_rows.specs.Rows.{Headed, LeafLines, Turned, final_row, first_row, front_done, group_done, Group, Lines}
+use Rattle.md_rows.specs.Rows.{Single, group_events, groups, groups_events, tail_events, group_ending, is_blank_group}
 use Rattle.std.specs.Prelude.{Option, Some, None}
 use Rattle.md_engine.specs.declared.configuration.ParseOptions.{ParseOptions}
 use Rattle.md_engine.specs.declared.event.Event.{Event}
@@ -18,10 +19,7 @@ use Rattle.md_frame.specs.ContainerNames.{container_name}
 use Rattle.md_frame.specs.Change.{ends_of}
 use Rattle.md_rows.specs.Fronted.{contained, rest_from}
 use Rattle.md_frame.specs.RestLine.{rest_line}
-use Rattle.md_rows.specs.Rows.{final_row, first_row, front_done, group_done, Group}
 use Rattle.md_frame.specs.Row.{Row, ending_events}
-use Rattle.md_rows.specs.Rows.{Lines, Single, group_events, groups}
-use Rattle.md_rows.specs.Rows.{groups_events, tail_events}
 use Rattle.md_rows.specs.BlockList.{group_unread, tabled_group, tabled_groups}
 use Rattle.md_rows.proofs.EachRow.{EachGroup, EachRow, OfGroup, groups-each, last-each}
 use Rattle.md_frame.proofs.FrontFacts.{LinePrefix}
@@ -32,7 +30,6 @@ use Rattle.md_frame.proofs.EndingFacts.{ending-named}
 use Rattle.md_rows.proofs.RowFacts.{AreRows, IsLine, IsRow, behind_line}
 use Rattle.md_seam.proofs.FeedLines.{IsEnding}
 use Rattle.md_rows.proofs.NestedRows.{ByGroups, rows-hold}
-use Rattle.md_rows.specs.Rows.{group_ending, is_blank_group}
 use Rattle.md_front_rooms.proofs.Frontmatter.Whole.{FrontPart}
 
 -- Containers.

@@ -5,8 +5,7 @@ use Rattle.md_outline.specs.Roles.{is_plain}
 use Rattle.std.proofs.Common.{◌≡◌, ℕ, Bool, true, false, List, [], ◌∷◌, ◌++◌, map, refl, sym, subst}
 use Rattle.md_frame.specs.EndingName.{ending_name}
 use Rattle.md_rows.specs.Rows.{Headed, LeafLines, Turned, final_row, first_row, front_done, group_done, Group, Lines}
-use Rattle.md_rows.specs.Rows.{Single, group_events, groups, groups_events, tail_events, group_ending}
-use Rattle.md_rows.specs.Rows.{is_blank_group}
+use Rattle.md_rows.specs.Rows.{Single, group_events, groups, groups_events, tail_events, group_ending, is_blank_group}
 use Rattle.std.specs.Prelude.{Option, Some, None}
 use Rattle.std.specs.List.{list_all}
 use Rattle.std.specs.Str.{IsUtf8}

@@ -17,8 +17,7 @@ use Rattle.md_meaning.specs.Rest.{Rest, is_blank}
 use Rattle.md_rows.specs.Fronted.{contained, rest_from}
 use Rattle.md_frame.specs.RestLine.{rest_line}
 use Rattle.md_frame.specs.Row.{BlankRow, LeafRow, Row, blank_line, is_empty_row}
-use Rattle.md_rows.specs.Rows.{line_behind}
-use Rattle.md_rows.specs.Rows.{line_kind, stays_blank}
+use Rattle.md_rows.specs.Rows.{line_behind, line_kind, stays_blank}
 use Rattle.md_frame.proofs.FrontFacts.{LinePrefix, ReadFront}
 use Rattle.md_frame.proofs.PieceFacts.{CutsFirst}
 

@@ -15,8 +15,7 @@ use Rattle.md_frame.specs.RestLine.{rest_line}
 use Rattle.md_frame.specs.LeafName.{LeafName}
 use Rattle.md_registry.specs.Registry.{asked_first, leaf, trials}
 use Rattle.md_frame.specs.Row.{BlankRow, LeafRow, RowKind, TextRow, blank_line}
-use Rattle.md_rows.specs.Rows.{inside_of, kind_of, leaf_behind}
-use Rattle.md_rows.specs.Rows.{line_behind, line_kind, row_kind}
+use Rattle.md_rows.specs.Rows.{inside_of, kind_of, leaf_behind, line_behind, line_kind, row_kind}
 use Rattle.md_rows.proofs.KindLemmas.{first-agrees, inside-agrees, kind-blank, kind-starts}
 use Rattle.md_registry.proofs.Registry.{laws}
 use Rattle.md_frame.proofs.RestRows.{rest-blank, rest-blank_events}

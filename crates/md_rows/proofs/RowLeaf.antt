@@ -11,15 +11,13 @@ use Rattle.md_frame.specs.RestLine.{rest_line}
 use Rattle.md_frame.specs.LeafName.{LeafName}
 use Rattle.md_registry.specs.Registry.{asked_first, leaf}
 use Rattle.md_frame.specs.Row.{BlankRow, LeafRow, Row, RowKind, TextRow}
-use Rattle.md_rows.specs.Rows.{leaf_done, leaf_unread}
+use Rattle.md_rows.specs.Rows.{leaf_done, leaf_unread, line_behind, stays_blank}
 use Rattle.md_frame.specs.Row.{is_blank_by, is_blank_row, is_empty_row, row_line}
-use Rattle.md_rows.specs.Rows.{line_behind, stays_blank}
 use Rattle.md_frame.proofs.BlankLine.{blank-facts}
 use Rattle.md_rows.proofs.KindLemmas.{kind-blank, kind-filled, kind-starts}
-use Rattle.md_registry.proofs.Registry.{insider-open}
+use Rattle.md_registry.proofs.Registry.{insider-open, laws}
 use Rattle.md_frame.proofs.RestRows.{line-blank}
 use Rattle.md_frame.proofs.LeafFacts.{LeafFacts, LineAt}
-use Rattle.md_registry.proofs.Registry.{laws}
 use Rattle.md_rows.proofs.RowFacts.{IsRow, line-at}
 use Rattle.md_frame.proofs.SpanLaws.{IsLineOf}
 

@@ -24,22 +24,18 @@ use Rattle.md_frame.specs.Change.{ends_of}
 use Rattle.md_frame.specs.EndingName.{ending_name}
 use Rattle.md_frame.specs.LeafName.{LeafName}
 use Rattle.md_registry.specs.Registry.{further_of, leaf}
-use Rattle.md_frame.specs.Row.{LeafRow, Row, RowKind, any_framed, but_end, but_ends, end_of, ending_events}
-use Rattle.md_frame.specs.Row.{ending_of, is_blank_by, is_framed, last_row}
-use Rattle.md_rows.specs.Rows.{leaf_events, row_events}
-use Rattle.md_frame.specs.Row.{span_behind, span_by, span_rest}
-use Rattle.md_rows.specs.Rows.{rows_events, tail_events}
+use Rattle.md_frame.specs.Row.{LeafRow, Row, RowKind, any_framed, but_end, but_ends, end_of, ending_events, ending_of}
+use Rattle.md_frame.specs.Row.{is_blank_by, is_framed, last_row, span_behind, span_by, span_rest}
+use Rattle.md_rows.specs.Rows.{leaf_events, row_events, rows_events, tail_events}
 use Rattle.md_frame.proofs.EachEvent.{each-append}
 use Rattle.md_frame.proofs.FrontNames.{HasFront, ends-are, fronts-are, fronts-prefixes}
-use Rattle.md_rows.proofs.GroupLines.{AreSpan}
-use Rattle.md_rows.proofs.GroupLines.{IsSpanLine, span-begins}
+use Rattle.md_rows.proofs.GroupLines.{AreSpan, IsSpanLine, span-begins}
 use Rattle.md_frame.proofs.PrefixNames.{ArePrefixes, prefixes-front}
 use Rattle.md_registry.proofs.SpanLeaves.{span-laws}
 use Rattle.md_frame.proofs.LeafLines.Cuts.{but_end-is, but_ends-is, end-is}
 use Rattle.md_frame.proofs.LeafLines.Framed.{plain-unframed, rest-bare, rest-behind, rest-framed, spanned-framed}
 use Rattle.md_frame.proofs.SpanLaws.{AreBehind, IsBare, IsNone, IsSpanned}
-use Rattle.md_frame.proofs.SpannedFacts.{AreUnspanned, IsUnspanned, fronts-unspanned, unspanned-lines}
-use Rattle.md_frame.proofs.SpannedFacts.{unspanned-pass}
+use Rattle.md_frame.proofs.SpannedFacts.{AreUnspanned, IsUnspanned, fronts-unspanned, unspanned-lines, unspanned-pass}
 
 -- Endings.
 

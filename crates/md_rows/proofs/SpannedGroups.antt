@@ -8,10 +8,9 @@ use Rattle.md_engine.specs.declared.tokenizer.held_leaf.HeldLeaf.{HeldLeaf}
 use Rattle.md_meaning.specs.State.{Container}
 use Rattle.md_leaves.specs.Spanned.{goes_on, spanned}
 use Rattle.md_leaves.proofs.SpannedLines.{IsBegin}
-use Rattle.md_registry.specs.Resolving.{lines_joined}
+use Rattle.md_registry.specs.Resolving.{lines_joined, joins_lines}
 use Rattle.md_frame.specs.EndingName.{ending_name}
 use Rattle.md_frame.specs.LeafName.{GfmTable}
-use Rattle.md_registry.specs.Resolving.{joins_lines}
 use Rattle.md_frame.specs.Row.{Row, RowKind, TextRow, ending_of, last_row, row_line, span_by}
 use Rattle.md_table_rooms.specs.Headed.{headed_row}
 use Rattle.md_rows.specs.Rows.{Group, Headed, LeafLines, Lines, Single, Turned, groups, rows_events, tail_events}

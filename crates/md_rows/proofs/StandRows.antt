@@ -16,15 +16,14 @@ use Rattle.md_seam.proofs.SpelledLemmas.{Between}
 use Rattle.md_frame.specs.Change.{ends_of}
 use Rattle.md_frame.specs.ContainerNames.{container_name, shape_of}
 use Rattle.md_frame.specs.Row.{Row, ending_events}
-use Rattle.md_rows.specs.Rows.{Group, final_row, first_row, front_done, group_done}
-use Rattle.md_rows.specs.Rows.{groups, groups_events}
+use Rattle.md_rows.specs.Rows.{Group, final_row, first_row, front_done, group_done, groups, groups_events, group_ending}
+use Rattle.md_rows.specs.Rows.{is_blank_group}
 use Rattle.md_frame.proofs.ContainerNames.{container-facts, open_names}
 use Rattle.md_frame.proofs.FrontFacts.{Begins, Behind, Goes, LinePrefix}
 use Rattle.md_frame.proofs.LeafStands.{between-stand, ending-between, moves-stand}
 use Rattle.md_rows.proofs.NestedRows.{ByGroups, Keeps, Ordered, rows-hold}
 use Rattle.md_frame.proofs.PrefixNames.{prefixes-roles}
 use Rattle.md_rows.proofs.RowFacts.{AreRows}
-use Rattle.md_rows.specs.Rows.{group_ending, is_blank_group}
 use Rattle.md_front_rooms.proofs.Frontmatter.Whole.{FrontPart}
 use Rattle.md_engine.specs.Place.{first_point}
 

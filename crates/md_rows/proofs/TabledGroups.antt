@@ -11,8 +11,7 @@ use Rattle.md_leaves.specs.Turned.{turned}
 use Rattle.md_tables.specs.Tabled.{tabled}
 use Rattle.md_tables.proofs.TabledLines.{AreFree, AreUntabled, free-untabled, tabled-passes, untabled-append}
 use Rattle.md_frame.specs.EndingName.{ending_name}
-use Rattle.md_registry.specs.Resolving.{lines_joined}
-use Rattle.md_registry.specs.Resolving.{resolved}
+use Rattle.md_registry.specs.Resolving.{lines_joined, resolved}
 use Rattle.md_frame.specs.Row.{Row, ending_of, last_row, span_by}
 use Rattle.md_table_rooms.specs.Headed.{headed_row, headed_unread}
 use Rattle.md_rows.specs.BlockList.{tabled_group, tabled_groups}
@@ -20,10 +19,9 @@ use Rattle.md_rows.specs.Rows.{Group, Headed, LeafLines, Lines, Single, Turned, 
 use Rattle.md_rows.specs.Unread.{spanned_group, turned_groups, unread_groups}
 use Rattle.md_frame.proofs.FrontNames.{HasFront}
 use Rattle.md_frame.proofs.LinedFacts.{AreLined, lined-gaps}
-use Rattle.md_table_rooms.proofs.GfmTable.TableUnread.{lined-free}
+use Rattle.md_table_rooms.proofs.GfmTable.TableUnread.{lined-free, table-apart}
 use Rattle.md_frame.proofs.SpannedFacts.{AreUnspanned}
 use Rattle.md_container_rooms.proofs.GroupedBlocks.{no-table}
-use Rattle.md_table_rooms.proofs.GfmTable.TableUnread.{table-apart}
 use Rattle.md_rows.proofs.GroupLines.{AreGroups, AreSpan, Begins, IsHead, span-begins}
 use Rattle.md_rows.proofs.GroupsAre.{groups-are}
 use Rattle.md_rows.proofs.GroupsSet.{leaves-set}

@@ -30,8 +30,7 @@ use Rattle.md_seam.specs.Events.Spelled.{without_last}
 use Rattle.md_tables.specs.GfmTable.{may_head}
 use Rattle.md_tables.specs.GfmTableLine.{are_columns}
 use Rattle.md_table_rooms.specs.Leaf.GfmTable.{table_leaf}
-use Rattle.md_leaf_rooms.specs.Leaf.HeadingSetext.{depth_of}
-use Rattle.md_leaf_rooms.specs.Leaf.HeadingSetext.{setext_leaf}
+use Rattle.md_leaf_rooms.specs.Leaf.HeadingSetext.{depth_of, setext_leaf}
 use Rattle.md_frame.specs.Leaf.Paragraph.{open_lines}
 use Rattle.md_content_rooms.specs.Defined.{then_front}
 use Rattle.md_frame.specs.LeafName.{GfmTable, HeadingSetext, LeafName}

@@ -21,13 +21,9 @@ use Rattle.md_frame.specs.ContainerNames.{container_name}
 use Rattle.md_registry.specs.Registry.{leaf}
 use Rattle.md_frame.specs.Change.{ends_of}
 use Rattle.md_rows.specs.Rows.{Headed, LeafLines, Turned, final_row, first_row, group_ending, is_further, onto_leaf}
-use Rattle.md_frame.specs.Row.{LeafRow}
-use Rattle.md_rows.specs.Rows.{takes_head}
-use Rattle.md_frame.specs.Row.{BlankRow, Row, RowKind, TextRow, behind_row}
-use Rattle.md_rows.specs.Rows.{Group, Lines, Single}
-use Rattle.md_frame.specs.Row.{ending_events, last_row}
-use Rattle.md_rows.specs.Rows.{goes_on as joins_on, groups, is_last, onto_groups}
+use Rattle.md_rows.specs.Rows.{takes_head, Group, Lines, Single, goes_on as joins_on, groups, is_last, onto_groups}
 use Rattle.md_rows.specs.Rows.{tail_events}
+use Rattle.md_frame.specs.Row.{LeafRow, BlankRow, Row, RowKind, TextRow, behind_row, ending_events, last_row}
 use Rattle.md_rows.specs.BlockList.{group_unread, tabled_group, tabled_groups}
 use Rattle.md_rows.proofs.JoinedLemmas.{behind-is, behind-none}
 use Rattle.md_frame.proofs.PiecesLemmas.{Follows, Covered, follows-append, follows-tiled, tiled-append, tiled-none}

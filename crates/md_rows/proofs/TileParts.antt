@@ -13,14 +13,13 @@ use Rattle.md_meaning.specs.State.{Container}
 use Rattle.md_seam.specs.Events.Tiles.{chunks_stand, part_kind, parts_stand}
 use Rattle.md_frame.specs.EndingName.{ending_name}
 use Rattle.md_frame.specs.Change.{ends_of}
-use Rattle.md_frame.specs.Row.{Row}
-use Rattle.md_rows.specs.Rows.{final_row, first_row, front_done, Group}
-use Rattle.md_frame.specs.Row.{ending_events}
-use Rattle.md_rows.specs.Rows.{groups, tail_events}
+use Rattle.md_frame.specs.Row.{Row, ending_events}
+use Rattle.md_rows.specs.Rows.{final_row, first_row, front_done, Group, groups, tail_events, group_ending}
+use Rattle.md_rows.specs.Rows.{is_blank_group}
 use Rattle.md_rows.specs.BlockList.{group_unread, tabled_group, tabled_groups}
 use Rattle.md_rows.proofs.GroupLines.{AreGroups}
 use Rattle.md_rows.proofs.GroupsAre.{groups-are}
-use Rattle.md_frame.proofs.FrontNames.{HasFront}
+use Rattle.md_frame.proofs.FrontNames.{HasFront, ends-no_parts, ends-unlinked}
 use Rattle.md_rows.proofs.JoinedLemmas.{EachNoContent}
 use Rattle.md_frame.proofs.NestedEvents.{Onward, Under, under-none}
 use Rattle.md_rows.proofs.NestedRows.{ByGroups, rows-hold, under-group}
@@ -28,9 +27,7 @@ use Rattle.md_rows.proofs.GroupFacts.{group-front, group-leaf, more-groups}
 use Rattle.md_frame.proofs.ReadAs.{read_as-stands}
 use Rattle.md_rows.proofs.RowFacts.{AreRows}
 use Rattle.md_frame.proofs.PartsStand.{PartsWhole, stands-append, stands-outside}
-use Rattle.md_frame.proofs.FrontNames.{ends-no_parts, ends-unlinked}
 use Rattle.md_rows.proofs.TextProgress.{IsShut}
-use Rattle.md_rows.specs.Rows.{group_ending, is_blank_group}
 use Rattle.md_rows.proofs.Begun.{front-nested}
 use Rattle.md_frame.proofs.SpanLemmas.{Nested_in}
 

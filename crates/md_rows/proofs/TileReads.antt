@@ -1,9 +1,9 @@
 -- The events of a text are its block list, with what the plain layer reads in the place of each chunk.
 use Rattle.md_engine.specs.declared.tokenizer.held_leaf.HeldLeaf.TheVariants as held_leaf
 use Rattle.md_engine.specs.declared.tokenizer.held_leaf.HeldLeaf.{HeldLeaf}
-use Rattle.std.proofs.Common.{◌≡◌, ℕ, suc, false, List, [], ◌∷◌, ◌++◌, length, refl, ap, sym, ◌∙◌}
+use Rattle.std.proofs.Common.{◌≡◌, ℕ, suc, false, List, [], ◌∷◌, ◌++◌, length, refl, ap, sym, ◌∙◌, subst, append-nil}
+use Rattle.std.proofs.Common.{◌≤◌, ◌<◌, ◌^◌, arith}
 use Rattle.md_registry.specs.Registry.{asked_first, bars_containers}
-use Rattle.std.proofs.Common.{subst, append-nil}
 use Rattle.std.specs.Prelude.{Option, Some, None}
 use Rattle.md_engine.specs.declared.configuration.ParseOptions.{ParseOptions}
 use Rattle.md_engine.specs.declared.event.Event.{Event}
@@ -15,16 +15,15 @@ use Rattle.md_seam.specs.Events.Nested.{pair}
 use Rattle.md_meaning.specs.State.{Container}
 use Rattle.md_seam.specs.Events.Tiles.{EachRead, filled, filled_from, part_kind, parts, plain_lists, plain_read}
 use Rattle.md_frame.specs.Change.{ends_of}
-use Rattle.md_rows.specs.TextRows.{text_cells, text_rows}
+use Rattle.md_rows.specs.TextRows.{text_cells, text_rows, text_setting}
 use Rattle.md_frame.specs.ReadsPlain.{reads_plain}
-use Rattle.md_frame.specs.Row.{Row}
-use Rattle.md_rows.specs.Rows.{final_row, first_row, front_done, group_done, Group}
-use Rattle.md_frame.specs.Row.{ending_events}
-use Rattle.md_rows.specs.Rows.{group_events, groups, groups_events, held_at, tail_events}
+use Rattle.md_frame.specs.Row.{Row, ending_events}
+use Rattle.md_rows.specs.Rows.{final_row, first_row, front_done, group_done, Group, group_events, groups, groups_events}
+use Rattle.md_rows.specs.Rows.{held_at, tail_events, group_ending, is_blank_group, rows_at}
 use Rattle.md_rows.specs.BlockList.{group_unread, tabled_group, tabled_groups}
 use Rattle.md_rows.proofs.GroupLines.{AreGroups}
 use Rattle.md_rows.proofs.GroupsAre.{groups-are}
-use Rattle.md_frame.proofs.FrontNames.{HasFront}
+use Rattle.md_frame.proofs.FrontNames.{HasFront, ends-no_parts, ends-unlinked}
 use Rattle.md_rows.proofs.JoinedLemmas.{EachNoContent, rows_at-no_content}
 use Rattle.md_rows.proofs.GroupFacts.{group-front, group-leaf, more-groups}
 use Rattle.md_frame.proofs.ReadAs.{read_as-fill}
@@ -32,13 +31,8 @@ use Rattle.md_rows.proofs.RowFacts.{AreRows}
 use Rattle.md_rows.proofs.TextProgress.{IsShut}
 use Rattle.md_rows.proofs.TileParts.{ending-no_part}
 use Rattle.md_frame.proofs.FillFacts.{PartsRead, fill-append, fill-same}
-use Rattle.md_frame.proofs.FrontNames.{ends-no_parts, ends-unlinked}
-use Rattle.md_rows.specs.Rows.{group_ending, is_blank_group}
-use Rattle.std.proofs.Common.{◌≤◌, ◌<◌, ◌^◌, arith}
 use Rattle.md_seam.proofs.FeedLines.{feed-none}
 use Rattle.md_front_rooms.specs.Front.{body_point, front_events, text_front}
-use Rattle.md_rows.specs.Rows.{rows_at}
-use Rattle.md_rows.specs.TextRows.{text_setting}
 
 -- events that are those of a block list, with what is read in the place of each chunk
 pub record IsFilled (bytes : List ℕ) (blocks events : List Event) : Type 0 where

@@ -27,12 +27,10 @@ use Rattle.md_content_rooms.specs.Defined.{defined_unread}
 use Rattle.md_frame.specs.Row.{ending_of, is_blank_by, last_row, span_by}
 use Rattle.md_table_rooms.specs.Headed.{headed_row}
 use Rattle.md_frame.specs.TextLines.{text_leaf}
-use Rattle.md_registry.specs.Registry.{turn_leaf}
+use Rattle.md_registry.specs.Registry.{turn_leaf, leaf}
 use Rattle.md_frame.specs.UnreadText.{linked_lines}
-use Rattle.md_registry.specs.Registry.{leaf}
 use Rattle.md_rows.specs.BlockList.{heading_unread, lines_unread, tabled_group, tabled_row_by, text_unread}
-use Rattle.md_rows.specs.BlockList.{turned_unread}
-use Rattle.md_rows.specs.BlockList.{unread_lines}
+use Rattle.md_rows.specs.BlockList.{turned_unread, unread_lines}
 use Rattle.md_rows.specs.Rows.{Group, Headed, LeafLines, Lines, Single, Turned, groups, leaf_events, leaf_unread}
 use Rattle.md_rows.specs.Rows.{row_events, tail_events, text_done, turned_done}
 use Rattle.md_rows.specs.Unread.{set_groups, spanned_group, turned_groups, unread_group}
@@ -65,8 +63,7 @@ use Rattle.md_rows.proofs.Text.Cuts.{cut-is}
 use Rattle.md_rows.proofs.Text.Names.{between-of, defined-of, unturned-of}
 use Rattle.md_rows.proofs.Text.Stands.{last-behind}
 use Rattle.md_rows.proofs.TextProgress.{IsShut}
-use Rattle.md_rows.proofs.Turned.Cut.{IsCutHeading, heading-cut, left-remains}
-use Rattle.md_rows.proofs.Turned.Cut.{IsCutHeading as cut_heading}
+use Rattle.md_rows.proofs.Turned.Cut.{IsCutHeading, heading-cut, left-remains, IsCutHeading as cut_heading}
 use Rattle.md_rows.proofs.Turned.Under.{under-is}
 
 -- Events that pass.

@@ -8,13 +8,10 @@ use Rattle.md_engine.specs.declared.event.Point.{Point}
 use Rattle.md_seam.specs.Events.Nested.{around, exit}
 use Rattle.md_rows.specs.BlockList.{heading_unread, lines_unread, turned_unread}
 use Rattle.md_frame.specs.TextLines.{text_leaf}
-use Rattle.md_registry.specs.Registry.{turn_leaf}
-use Rattle.md_registry.specs.Registry.{leaf}
-use Rattle.md_frame.specs.Row.{BlankRow, LeafRow, Row, RowKind, TextRow}
-use Rattle.md_rows.specs.Rows.{Lines, Turned}
-use Rattle.md_frame.specs.Row.{blank_line, ending_events, ending_of, last_row}
+use Rattle.md_registry.specs.Registry.{turn_leaf, leaf}
+use Rattle.md_frame.specs.Row.{BlankRow, LeafRow, Row, RowKind, TextRow, blank_line, ending_events, ending_of, last_row}
+use Rattle.md_rows.specs.Rows.{Lines, Turned, leaf_unread, row_events, tail_events, text_done, turned_done}
 use Rattle.md_content_rooms.specs.Defined.{defined_unread}
-use Rattle.md_rows.specs.Rows.{leaf_unread, row_events, tail_events, text_done, turned_done}
 use Rattle.md_rows.specs.Unread.{unread_group}
 use Rattle.md_frame.specs.UnreadText.{linked_lines}
 use Rattle.md_rows.specs.BlockList.{tabled_group, tabled_row_by, text_unread, unread_lines}
@@ -33,8 +30,7 @@ use Rattle.md_rows.proofs.SpanJoined.{tail-unspanned}
 use Rattle.md_rows.proofs.Text.Cut.{between}
 use Rattle.md_rows.proofs.Text.Cuts.{cut-is}
 use Rattle.md_rows.proofs.Text.Names.{between-of, cut-of, defined-of, unspanned-of}
-use Rattle.md_rows.proofs.Turned.Cut.{IsCutHeading, heading-cut, left-remains}
-use Rattle.md_rows.proofs.Turned.Cut.{IsCutHeading as cut_heading}
+use Rattle.md_rows.proofs.Turned.Cut.{IsCutHeading, heading-cut, left-remains, IsCutHeading as cut_heading}
 use Rattle.md_rows.proofs.Underlines.{under-unspanned}
 
 -- Lines that are no text, as their states leave them, and once they are set.

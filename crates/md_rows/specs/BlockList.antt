@@ -16,10 +16,9 @@ use Rattle.md_containers.specs.Listed.{listed}
 use Rattle.md_seam.specs.Events.Nested.{around}
 use Rattle.md_front_rooms.specs.Front.{body_point, front_events}
 use Rattle.md_frame.specs.TextLines.{text_leaf}
-use Rattle.md_frame.specs.Row.{Row, RowKind, turned_by, span_by, ending_of}
+use Rattle.md_frame.specs.Row.{Row, RowKind, turned_by, span_by, ending_of, last_row}
 use Rattle.md_table_rooms.specs.Headed.{headed_unread}
 use Rattle.md_content_rooms.specs.Defined.{defined_unread}
-use Rattle.md_frame.specs.Row.{last_row}
 use Rattle.md_registry.specs.Registry.{turn_leaf}
 use Rattle.md_rows.specs.Rows.{Group, Headed, Lines, LeafLines, Turned, final_row, first_row, Single, cut_at_most}
 use Rattle.md_rows.specs.Rows.{group_ending, groups, leaf_unread, tail_events}

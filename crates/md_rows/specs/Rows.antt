@@ -31,11 +31,10 @@ use Rattle.md_frame.specs.LeafName.{LeafName, first_of}
 use Rattle.md_frame.specs.TextLines.{text_leaf}
 use Rattle.md_registry.specs.Registry.{goes_at, asked_first, leaf, opens_at, bars_containers, trials, turn_leaf}
 use Rattle.md_frame.specs.Change.{Change, change_by, ends_of, interrupts, is_none, against, open_behind, others_of}
-use Rattle.md_frame.specs.Row.{BlankRow, LeafRow, Row, RowKind, TextRow, chunks_of}
+use Rattle.md_frame.specs.Row.{BlankRow, LeafRow, Row, RowKind, TextRow, chunks_of, ending_events, ending_of}
+use Rattle.md_frame.specs.Row.{is_blank_by, last_row, read_lines, row_line, span_done, turned_by}
 use Rattle.md_content_rooms.specs.Defined.{defined_unread}
-use Rattle.md_frame.specs.Row.{ending_events, ending_of, is_blank_by, last_row}
 use Rattle.md_table_rooms.specs.Headed.{headed_done}
-use Rattle.md_frame.specs.Row.{read_lines, row_line, span_done, turned_by}
 
 -- a leaf, if one takes the line, and else text
 abbrev pub kind_of : Option LeafName → RowKind

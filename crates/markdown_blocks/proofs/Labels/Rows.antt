@@ -1,7 +1,6 @@
 -- The labels of a text: those among the events of its groups are those of the blocks that these are read as.
 use Rattle.std.proofs.Common.{◌≡◌, ◌≢◌, ℕ, Bool, true, false, List, [], ◌∷◌, ◌++◌, length, refl, ap, sym, ◌∙◌}
-use Rattle.std.proofs.Common.{append_assoc}
-use Rattle.std.proofs.Common.{append-nil, subst, subst₂}
+use Rattle.std.proofs.Common.{append_assoc, append-nil, subst, subst₂}
 use Rattle.std.specs.Prelude.{Option, Some, None, not}
 use Rattle.md_engine.specs.declared.configuration.ParseOptions.{ParseOptions}
 use Rattle.md_engine.specs.declared.event.Event.{Event}
@@ -18,26 +17,18 @@ use Rattle.md_seam.specs.Events.Nested.{exit, pair}
 use Rattle.md_seam.specs.Events.Spelled.{OpenContainer, Reading, add_block, read, role, spelled, unread}
 use Rattle.md_seam.proofs.PlacesLemmas.{all-append}
 use Rattle.md_seam.proofs.SpelledLemmas.{Between, QuietOrEnding, read-between, read-from, roles-append, unmarked-append}
-use Rattle.md_rows.specs.BlockList.{lines_unread, text_unread, turned_unread}
+use Rattle.md_rows.specs.BlockList.{lines_unread, text_unread, turned_unread, unread_lines}
 use Rattle.md_frame.specs.Closed.{close_containers}
 use Rattle.md_frame.specs.EndingName.{ending_name}
 use Rattle.md_frame.specs.TextLines.{text_leaf}
 use Rattle.md_registry.specs.Registry.{further_of, leaf}
-use Rattle.md_rows.specs.Rows.{front_done}
-use Rattle.md_frame.specs.Row.{BlankRow, LeafRow, Row, RowKind, TextRow}
-use Rattle.md_rows.specs.Rows.{Group, Headed, Lines, Single, LeafLines}
-use Rattle.md_rows.specs.Rows.{Turned}
-use Rattle.md_frame.specs.Row.{is_blank_by, span_done}
-use Rattle.md_rows.specs.Rows.{defined_done, group_events, leaf_done, leaf_events}
-use Rattle.md_frame.specs.Row.{ending_of, last_row}
+use Rattle.md_rows.specs.Rows.{front_done, Group, Headed, Lines, Single, LeafLines, Turned, defined_done, group_events}
+use Rattle.md_rows.specs.Rows.{leaf_done, leaf_events, groups_events, lines_done, heading_done, row_events, rows_events}
+use Rattle.md_rows.specs.Rows.{tail_events, text_done, turned_done}
+use Rattle.md_frame.specs.Row.{BlankRow, LeafRow, Row, RowKind, TextRow, is_blank_by, span_done, ending_of, last_row}
 use Rattle.md_content_rooms.specs.Defined.{defined_unread}
-use Rattle.md_rows.specs.Rows.{groups_events, lines_done}
-use Rattle.md_rows.specs.Rows.{heading_done}
 use Rattle.md_table_rooms.specs.Headed.{headed_done}
-use Rattle.md_rows.specs.Rows.{row_events, rows_events, tail_events}
-use Rattle.md_rows.specs.Rows.{text_done, turned_done}
 use Rattle.md_rows.specs.Unread.{headed_lines, unread_group, unread_groups}
-use Rattle.md_rows.specs.BlockList.{unread_lines}
 use Rattle.md_frame.proofs.ContentFacts.{content-alone, no_content-label}
 use Rattle.md_content_rooms.proofs.Defined.Facts.{defined-facts}
 use Rattle.md_content_rooms.proofs.Defined.Form.{form_block, form_done}
@@ -45,18 +36,16 @@ use Rattle.md_content_rooms.proofs.Defined.Is.{IsDefined}
 use Rattle.md_frame.proofs.FrontFacts.{LinePrefix}
 use Rattle.md_frame.proofs.FrontNames.{HasFront, fronts-unmarked}
 use Rattle.md_rows.proofs.GroupFacts.{span-block}
-use Rattle.md_rows.proofs.GroupLines.{AreGroups, AreLines}
+use Rattle.md_rows.proofs.GroupLines.{AreGroups, AreLines, AreSpan, Begins, IsHead, IsLeft, IsSingle, IsUnder}
+use Rattle.md_rows.proofs.GroupLines.{behind-first, line-further, line-of, span-begins, kept-of}
 use Rattle.md_rows.proofs.GroupLemmas.{headed-quiet, spans-quiet, under-quiet}
-use Rattle.md_rows.proofs.GroupLines.{AreSpan, Begins, IsHead, IsLeft, IsSingle, IsUnder, behind-first}
-use Rattle.md_rows.proofs.GroupLines.{line-further, line-of, span-begins}
 use Rattle.md_rows.proofs.HeadedTable.{IsHeaded, headed-facts, headed-is, headed_block}
 use Rattle.md_rows.proofs.JoinedLemmas.{EachNoContent, HasNoContent, ending-other, has_front-no_content}
 use Rattle.md_rows.proofs.JoinedLemmas.{tail-no_content}
 use Rattle.md_content_rooms.proofs.Labels.Groups.{form-label, front-none}
 use Rattle.md_rows.proofs.Labels.Leaves.{line-unlabelled, lines-unlabelled, shut-unlabelled}
 use Rattle.md_content_rooms.proofs.Labels.Reading.{labels-added, labels-closed, labels-enters, labels-shown}
-use Rattle.md_content_rooms.proofs.Labels.Reading.{read_labels}
-use Rattle.md_content_rooms.proofs.Labels.Reading.{outer_labels, shown_labels}
+use Rattle.md_content_rooms.proofs.Labels.Reading.{read_labels, outer_labels, shown_labels}
 use Rattle.md_content_rooms.proofs.Labels.Trees.{defined_by, defined_in}
 use Rattle.md_frame.proofs.LeafFacts.{shown}
 use Rattle.md_registry.proofs.SpanLeaves.{span-laws}
@@ -69,7 +58,6 @@ use Rattle.markdown_blocks.proofs.SpelledPaths.{close_containers-between}
 use Rattle.md_rows.proofs.Text.Cut.{IsCutText, between}
 use Rattle.md_rows.proofs.Text.Cut.IsCutText.{Defines, Follows, Remains}
 use Rattle.md_rows.proofs.Text.Cuts.{cut-is}
-use Rattle.md_rows.proofs.GroupLines.{kept-of}
 use Rattle.md_rows.proofs.Text.Facts.{text-facts}
 use Rattle.md_rows.proofs.Text.Stands.{done-is}
 use Rattle.md_rows.proofs.Turned.Cut as headings

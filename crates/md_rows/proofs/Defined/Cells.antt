@@ -30,11 +30,10 @@ use Rattle.md_frame.specs.RestLine.{rest_line}
 use Rattle.md_frame.specs.LeafName.{first_of as first_leaf}
 use Rattle.md_registry.specs.Registry.{leaf, trials}
 use Rattle.md_frame.specs.Row.{BlankRow, Row, TextRow, behind_row, chunks_of, last_row}
-use Rattle.md_rows.specs.Rows.{kind_of}
+use Rattle.md_rows.specs.Rows.{kind_of, lines_cells}
 use Rattle.md_content_rooms.proofs.Defined.Along.{GoesOn, IsTurn, Stands, Steps, Turn, Walks}
 use Rattle.md_content_rooms.proofs.Defined.Along.{cells-white, goes-on, no_line}
 use Rattle.md_content_rooms.proofs.Defined.Form.{IsBreak}
-use Rattle.md_rows.specs.Rows.{lines_cells}
 use Rattle.md_content_rooms.proofs.Defined.Takes.{Walk}
 use Rattle.md_frame.proofs.FrontPlaces.{fronts-grow, fronts-line}
 use Rattle.md_rows.proofs.GroupLines.{AreLines}
@@ -42,9 +41,8 @@ use Rattle.md_rows.proofs.GroupLemmas.{row-line}
 use Rattle.md_rows.proofs.JoinedLemmas.{behind-is}
 use Rattle.md_rows.proofs.KindLemmas.{kind-text}
 use Rattle.md_frame.proofs.LineTexts.{piece}
-use Rattle.md_rows.proofs.ParagraphReads.{AreRead, begun-next, drop-next, ending-leads, ends-grow, first-is}
-use Rattle.md_rows.proofs.ParagraphReads.{first-row, firsts, get-at, last-within, next-line, part-read}
-use Rattle.md_rows.proofs.ParagraphReads.{row-within, skips-here}
+use Rattle.md_rows.proofs.ParagraphReads.{AreRead, begun-next, drop-next, ending-leads, ends-grow, first-is, first-row}
+use Rattle.md_rows.proofs.ParagraphReads.{firsts, get-at, last-within, next-line, part-read, row-within, skips-here}
 use Rattle.md_rows.proofs.RowFacts.{IsRow}
 
 -- The cells, row by row.

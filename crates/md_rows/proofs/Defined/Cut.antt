@@ -1,8 +1,7 @@
 -- A definition that lines of a text begin with takes some of these lines, over which it has a form, and behind it stand
 -- the others.
-use Rattle.std.proofs.Common.{◌≡◌, inl, inr, ℕ, ◌+◌, ◌^◌, ◌<◌, ◌≤◌, true, false, nat_eq, List}
-use Rattle.std.proofs.Common.{[], ◌∷◌, ◌++◌, length, take, drop, refl, sym, ap, ◌∙◌, subst, arith, append-nil}
-use Rattle.std.proofs.Common.{Some}
+use Rattle.std.proofs.Common.{◌≡◌, inl, inr, ℕ, ◌+◌, ◌^◌, ◌<◌, ◌≤◌, true, false, nat_eq, List, [], ◌∷◌, ◌++◌, length}
+use Rattle.std.proofs.Common.{take, drop, refl, sym, ap, ◌∙◌, subst, arith, append-nil, Some}
 use Rattle.md_engine.specs.declared.configuration.ParseOptions.{ParseOptions}
 use Rattle.md_engine.specs.declared.event.Event.{Event}
 use Rattle.md_engine.specs.declared.event.Point.{Point}
@@ -15,12 +14,11 @@ use Rattle.md_seam.specs.Look.{first_seen}
 use Rattle.md_seam.specs.Spaces.{ends_line}
 use Rattle.md_seam.proofs.FeedLines.{cell}
 use Rattle.md_frame.specs.Laid.{LineBreak, laid}
-use Rattle.md_frame.specs.Row.{Row, behind_row, last_row}
+use Rattle.md_frame.specs.Row.{Row, behind_row, last_row, breaks_of}
 use Rattle.md_content_rooms.proofs.Defined.Along.{IsCell, IsTurn, Turn, Walks, breaks}
 use Rattle.md_rows.proofs.Defined.Cells.{lines-walk, turns_of}
 use Rattle.md_content_rooms.proofs.Defined.Form.{form_unread}
 use Rattle.md_content_rooms.proofs.Defined.Is.{IsDefined}
-use Rattle.md_frame.specs.Row.{breaks_of}
 use Rattle.md_content_rooms.specs.Defined.{defined_unread}
 use Rattle.md_rows.specs.Rows.{further_lines, lines_cells}
 use Rattle.md_content_rooms.proofs.Defined.Parts.{DefinitionAre, DefinitionOf, definition-are, definition-of}

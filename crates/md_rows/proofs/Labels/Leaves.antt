@@ -2,9 +2,8 @@
 use Rattle.std.proofs.Common.{◌≡◌, ℕ, Bool, true, false, cond, List, [], ◌∷◌, ◌++◌, refl, ap, ◌∙◌, append-nil}
 use Rattle.std.specs.Prelude.{◌==◌, nat_lt, length, Option, Some, None}
 use Rattle.md_engine.specs.declared.configuration.ParseOptions.{ParseOptions}
-use Rattle.md_meaning.specs.Html.{HtmlKind}
+use Rattle.md_meaning.specs.Html.{HtmlKind, html_ends}
 use Rattle.md_meaning.specs.Ascii.{dollar}
-use Rattle.md_meaning.specs.Html.{html_ends}
 use Rattle.md_meaning.specs.Leaves.{LeafResult, Finished, Opened, closes, fence_goes_on, html_line}
 use Rattle.md_meaning.specs.Rest.{Rest, line_of, lose}
 use Rattle.md_meaning.specs.State.{Leaf, NoLeaf, OpenCode, OpenFence, OpenHtml, OpenParagraph, OpenTable, Opening}

@@ -1,8 +1,7 @@
 -- Definitions are cut from the front of the lines of a text.
 use Rattle.std.proofs.Common.{◌≡◌, ℕ, zero, suc, ◌^◌, ◌<◌, Bool, true, false, cond, List, [], ◌∷◌, ◌++◌, length, take}
-use Rattle.std.proofs.Common.{drop}
-use Rattle.std.proofs.Common.{Option, Some, None, refl, ap, sym, ◌∙◌, append_assoc, subst, subst₂, append-nil, arith}
-use Rattle.std.proofs.Common.{length-drop}
+use Rattle.std.proofs.Common.{drop, Option, Some, None, refl, ap, sym, ◌∙◌, append_assoc, subst, subst₂, append-nil}
+use Rattle.std.proofs.Common.{arith, length-drop}
 use Rattle.std.proofs.lemmas.List.{take-append-drop}
 use Rattle.md_engine.specs.declared.configuration.ParseOptions.{ParseOptions}
 use Rattle.md_engine.specs.declared.event.Event.{Event}
@@ -11,10 +10,9 @@ use Rattle.md_engine.specs.Meaning.{Cell}
 use Rattle.md_content.specs.ContentRule.{definition_in}
 use Rattle.md_link_definitions.specs.DefinitionRule.{DefinitionParts, definition_parts}
 use Rattle.md_rows.specs.BlockList.{lines_unread, text_unread}
-use Rattle.md_frame.specs.Row.{Row, ending_events}
+use Rattle.md_frame.specs.Row.{Row, ending_events, last_row}
 use Rattle.md_content_rooms.specs.Defined.{defined_unread}
 use Rattle.md_rows.specs.Rows.{behind_cut, cut_at_most, cut_by, defined_done}
-use Rattle.md_frame.specs.Row.{last_row}
 use Rattle.md_rows.specs.Rows.{further_lines, lines_cells, lines_done, text_done}
 use Rattle.md_rows.proofs.ContentCut.{lines-split}
 use Rattle.md_rows.proofs.Defined.Cut.{lines-cut}

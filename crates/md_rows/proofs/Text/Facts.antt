@@ -6,22 +6,20 @@ use Rattle.md_engine.specs.declared.event.Event.{Event}
 use Rattle.md_engine.specs.declared.event.Point.{Point}
 use Rattle.md_seam.specs.declared.inline.PartKind.TheVariants.{Text}
 use Rattle.md_seam.specs.Events.Grammar.{blocks, plain_text, unread_text}
-use Rattle.md_seam.specs.Events.Spelled.{AsParagraph, byte_at}
+use Rattle.md_seam.specs.Events.Spelled.{AsParagraph, byte_at, Role, role}
 use Rattle.md_meaning.specs.State.{texts}
 use Rattle.md_seam.proofs.EndingsLemmas.{leaf-leads}
 use Rattle.md_seam.proofs.GrammarLemmas.{leads-around}
 use Rattle.md_seam.proofs.SpelledLemmas.{Between}
 use Rattle.md_outline.specs.Between.{is_between}
 use Rattle.md_frame.specs.TextLines.{text_leaf}
-use Rattle.md_rows.specs.BlockList.{lines_unread}
+use Rattle.md_rows.specs.BlockList.{lines_unread, unread_lines}
 use Rattle.md_frame.specs.Row.{Row, last_row, read_lines}
 use Rattle.md_rows.specs.Rows.{lines_done}
-use Rattle.md_rows.specs.BlockList.{unread_lines}
-use Rattle.md_rows.proofs.GroupLines.{AreLines}
+use Rattle.md_rows.proofs.GroupLines.{AreLines, kept-of}
 use Rattle.md_rows.proofs.GroupLemmas.{chunks-lines}
-use Rattle.md_rows.proofs.GroupLines.{kept-of}
 use Rattle.md_frame.proofs.LeafFacts.{LeafFacts}
-use Rattle.md_frame.proofs.PartedFacts.{clear}
+use Rattle.md_frame.proofs.PartedFacts.{clear, PrefixesAtLineStart}
 use Rattle.md_frame.proofs.PlainFacts.{plain-around}
 use Rattle.md_registry.proofs.Registry.{text-laws}
 use Rattle.md_frame.proofs.ParagraphLines.{IsRead}
@@ -34,11 +32,9 @@ use Rattle.md_rows.proofs.Text.Pieces.{linked-starts, read-starts}
 use Rattle.md_rows.proofs.Text.Words.{linked-word, read-word}
 use Rattle.md_engine.specs.declared.event.Name.{Name}
 use Rattle.md_seam.specs.Events.Nested.{around}
-use Rattle.md_seam.specs.Events.Spelled.{Role, role}
 use Rattle.md_seam.specs.Events.Tiles.{part_kind}
 use Rattle.md_frame.proofs.EventNames.{NoContainer, part-no_container}
 use Rattle.md_frame.proofs.LeafStands.{between-part}
-use Rattle.md_frame.proofs.PartedFacts.{PrefixesAtLineStart}
 use Rattle.md_frame.proofs.Stretch.{Stretch}
 use Rattle.md_frame.proofs.TextInside.{stretch-part}
 

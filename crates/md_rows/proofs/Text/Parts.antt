@@ -1,17 +1,15 @@
 -- The lines of a text are the chunks of a part, and are read in their places: what is known of them.
-use Rattle.std.proofs.Common.{◌≡◌, ℕ, true, List, [], ◌∷◌, refl, sym}
+use Rattle.std.proofs.Common.{◌≡◌, ℕ, true, List, [], ◌∷◌, refl, sym, subst}
 use Rattle.md_engine.specs.declared.configuration.ParseOptions.{ParseOptions}
 use Rattle.md_engine.specs.declared.event.Point.{Point}
 use Rattle.md_seam.specs.Events.Tiles.{begins_at}
 use Rattle.md_seam.proofs.InlineLemmas.{same-refl}
 use Rattle.md_frame.specs.TextLines.{text_leaf}
-use Rattle.md_frame.specs.Row.{Row, behind_row, chunks_of, read_lines}
+use Rattle.md_frame.specs.Row.{Row, behind_row, chunks_of, read_lines, last_row}
 use Rattle.md_rows.specs.BlockList.{unread_lines}
 use Rattle.md_rows.proofs.GroupLines.{AreLines}
 use Rattle.md_seam.specs.declared.inline.PartKind.TheVariants.{Text}
-use Rattle.std.proofs.Common.{subst}
 use Rattle.md_seam.specs.Events.Inline.{line_end}
-use Rattle.md_frame.specs.Row.{last_row}
 use Rattle.md_rows.proofs.JoinedLemmas.{behind-is}
 use Rattle.md_rows.proofs.Text.Order.{line-order, line-before, next-front}
 use Rattle.md_rows.proofs.GroupLemmas.{line_end-alone, line_end-ended}

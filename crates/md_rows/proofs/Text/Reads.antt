@@ -30,9 +30,8 @@ use Rattle.md_seam.specs.Spaces.{any_size}
 use Rattle.md_seam.proofs.FeedLines.{cell, past_text-whole}
 use Rattle.md_seam.proofs.RestCells.{Cut, past_cut, past_rest, rest-end, rest_cells}
 use Rattle.md_seam.proofs.SpelledLemmas.{Between, QuietOrEnding, read-between, read-from, roles-append, unmarked-append}
-use Rattle.md_frame.specs.Row.{Row, ending_events}
+use Rattle.md_frame.specs.Row.{Row, ending_events, last_row}
 use Rattle.md_rows.specs.Rows.{behind_cut, cut_at_most, cut_by, defined_done, further_lines}
-use Rattle.md_frame.specs.Row.{last_row}
 use Rattle.md_rows.specs.Rows.{lines_cells, lines_done, text_done}
 use Rattle.md_rows.proofs.Defined.Cells.{lines-are, lines-small, lines_are}
 use Rattle.md_rows.proofs.Defined.Cut.{IsBehind, IsCut, lines-cut}
@@ -40,13 +39,12 @@ use Rattle.md_content_rooms.proofs.Defined.Facts.{defined-done, defined-facts}
 use Rattle.md_content_rooms.proofs.Defined.Form.{Titled, form_block, target_text, text_lines}
 use Rattle.md_content_rooms.proofs.Defined.Is.{IsDefined}
 use Rattle.md_frame.proofs.FrontFacts.{LinePrefix}
-use Rattle.md_rows.proofs.GroupLines.{AreLines}
+use Rattle.md_rows.proofs.GroupLines.{AreLines, kept-of}
 use Rattle.md_frame.proofs.LeafStands.{ending-roles}
 use Rattle.md_frame.proofs.FrontNames.{fronts-unmarked}
 use Rattle.md_frame.proofs.ParagraphLines.{fronts-between}
 use Rattle.md_frame.proofs.Unmarked.{inline-unmarked}
 use Rattle.md_rows.proofs.SpelledParagraphs.{read-lines, text-filled}
-use Rattle.md_rows.proofs.GroupLines.{kept-of}
 use Rattle.md_rows.proofs.Text.Facts.{lines-read}
 
 -- the setting says nothing of the line

@@ -18,12 +18,10 @@ use Rattle.md_link_definitions.proofs.ProgressLemmas.{progress-cut}
 use Rattle.md_link_definitions.proofs.DefinitionLines.{cut_of}
 use Rattle.md_link_definitions.proofs.LineCells.{further}
 use Rattle.md_rows.specs.BlockList.{heading_unread, lines_unread, text_unread, turned_unread}
-use Rattle.md_frame.specs.Row.{Row}
+use Rattle.md_frame.specs.Row.{Row, ending_events, last_row}
 use Rattle.md_content_rooms.specs.Defined.{defined_unread}
-use Rattle.md_rows.specs.Rows.{behind_cut, cut_at_most, cut_by, defined_done}
-use Rattle.md_frame.specs.Row.{ending_events, last_row}
-use Rattle.md_rows.specs.Rows.{heading_done}
-use Rattle.md_rows.specs.Rows.{further_lines, lines_cells, turned_done}
+use Rattle.md_rows.specs.Rows.{behind_cut, cut_at_most, cut_by, defined_done, heading_done, further_lines, lines_cells}
+use Rattle.md_rows.specs.Rows.{turned_done}
 use Rattle.md_rows.proofs.ContentCut.{lines-split}
 use Rattle.md_rows.proofs.Defined.Cut.{IsBehind, lines-cut}
 use Rattle.md_content_rooms.proofs.Defined.Is.{IsDefined}

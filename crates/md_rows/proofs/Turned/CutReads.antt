@@ -20,15 +20,12 @@ use Rattle.md_link_definitions.proofs.LineCells.{further}
 use Rattle.md_seam.specs.Events.Spelled.{Reading, add_block, read}
 use Rattle.md_seam.proofs.SpelledLemmas.{read-from}
 use Rattle.md_registry.specs.Registry.{turn_leaf}
-use Rattle.md_frame.specs.Row.{Row, ending_events}
-use Rattle.md_rows.specs.Rows.{behind_cut, cut_at_most, cut_by, defined_done, further_lines}
-use Rattle.md_frame.specs.Row.{last_row}
-use Rattle.md_rows.specs.Rows.{heading_done}
-use Rattle.md_rows.specs.Rows.{lines_cells, turned_done}
+use Rattle.md_frame.specs.Row.{Row, ending_events, last_row}
+use Rattle.md_rows.specs.Rows.{behind_cut, cut_at_most, cut_by, defined_done, further_lines, heading_done, lines_cells}
+use Rattle.md_rows.specs.Rows.{turned_done}
 use Rattle.md_rows.proofs.Defined.Cut.{IsBehind, IsCut, lines-cut}
-use Rattle.md_rows.proofs.GroupLines.{AreLines, IsLeft, IsUnder}
+use Rattle.md_rows.proofs.GroupLines.{AreLines, IsLeft, IsUnder, kept-of}
 use Rattle.md_seam.proofs.FeedLines.{IsEnding}
-use Rattle.md_rows.proofs.GroupLines.{kept-of}
 use Rattle.md_rows.proofs.Text.Facts.{lines-read}
 use Rattle.md_rows.proofs.Text.Reads.{IsMore, defined-reads, defined_block, defined_of, further-behind}
 use Rattle.md_rows.proofs.Text.Reads.{lines-behind, lines-definition, none-behind, read-gap, text-small}

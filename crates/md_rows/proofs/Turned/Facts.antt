@@ -11,19 +11,17 @@ use Rattle.md_seam.specs.Events.Grammar.{Nothing}
 use Rattle.md_seam.specs.Events.Nested.{around}
 use Rattle.md_seam.specs.Events.Spelled.{OfHeadingSetext, fresh}
 use Rattle.md_seam.proofs.EndingsLemmas.{filling-append}
-use Rattle.md_rows.specs.BlockList.{heading_unread}
+use Rattle.md_rows.specs.BlockList.{heading_unread, unread_lines}
 use Rattle.md_registry.specs.Registry.{turn_leaf}
 use Rattle.md_frame.specs.Row.{Row, last_row, read_lines}
 use Rattle.md_rows.specs.Rows.{heading_done}
-use Rattle.md_rows.specs.BlockList.{unread_lines}
 use Rattle.md_frame.proofs.BetweenFacts.{ending-before, ending-behind}
 use Rattle.md_frame.proofs.FrontStands.{fronts-between}
-use Rattle.md_rows.proofs.GroupLines.{AreLines, IsUnder}
+use Rattle.md_rows.proofs.GroupLines.{AreLines, IsUnder, kept-of}
 use Rattle.md_frame.proofs.LeafFacts.{LeafFacts}
 use Rattle.md_frame.proofs.PlainFacts.{known-around}
 use Rattle.md_frame.proofs.LeafLines.Inside.{InsideFacts, inside-append}
 use Rattle.md_rows.proofs.Text.Facts.{end-clear, lines-read}
-use Rattle.md_rows.proofs.GroupLines.{kept-of}
 use Rattle.md_rows.proofs.Turned.Events.{gap_events, heading_left, inside_events, line_left, so_far}
 use Rattle.md_rows.proofs.Turned.Events.{text_events, turned-is}
 use Rattle.md_rows.proofs.Turned.Gap.{gap-inside}

@@ -20,14 +20,13 @@ use Rattle.md_frame.proofs.PlainFacts.{known-around}
 use Rattle.md_frame.proofs.LeafLines.Inside.{InsideFacts}
 use Rattle.md_frame.proofs.ParagraphLines.{IsRead}
 use Rattle.md_rows.proofs.Text.Endings.{linked-filling, read-filling}
-use Rattle.md_rows.proofs.Text.Facts.{end-clear, lines-read}
+use Rattle.md_rows.proofs.Text.Facts.{end-clear, lines-read, lines-stretch}
 use Rattle.md_rows.proofs.Text.Parted.{text-sits}
 use Rattle.md_rows.proofs.Text.Parts.{lines-inside}
 use Rattle.md_rows.proofs.Text.Words.{linked-word, read-word}
 use Rattle.md_rows.proofs.Turned.Events.{heading_left, so_far, text_events, under_left}
 use Rattle.md_rows.proofs.Turned.TextReads.{text-reads}
 use Rattle.md_frame.proofs.LeafStands.{between-part}
-use Rattle.md_rows.proofs.Text.Facts.{lines-stretch}
 
 -- it fills the line on which it ends
 text-stays : (p q : Point) (text : List Event) → Filling text → Stays (text_events p q text)

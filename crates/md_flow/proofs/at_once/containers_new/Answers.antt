@@ -17,8 +17,7 @@ use Rattle.md_seam.specs.Transition.{Transition}
 use Rattle.md_registry.specs.AtOnce.{opens_none, openers_passed}
 use Rattle.md_registry.specs.Registry.{asked_first, opener_at, opener_front, openers}
 use Rattle.md_registry.specs.States.{FlowStep}
-use Rattle.md_registry.proofs.LinesAtOnce.{ends-with, passes-front, tried-opener-leaves}
-use Rattle.md_registry.proofs.LinesAtOnce.{passes-openers, runs-on}
+use Rattle.md_registry.proofs.LinesAtOnce.{ends-with, passes-front, tried-opener-leaves, passes-openers, runs-on}
 use Rattle.md_flow.proofs.at_once.containers_new.Goals as goal
 
 -- where the leaf that is open is asked first
