@@ -23,7 +23,7 @@ use Rattle.md_literal_rooms.proofs.FenceFurther.Definition.{held_of}
 use Rattle.md_literal_rooms.proofs.FenceFurther.Grammar.{further-leads, further-stays, further_left, in_line, left_by}
 use Rattle.md_literal_rooms.proofs.FenceFurther.Inside.{further-stretch}
 use Rattle.md_literal_rooms.proofs.FenceFurther.Joined.{further-empty, nothing-open, nothing_from}
-use Rattle.md_frame.proofs.IndentRemoved.Places.{FurtherAt}
+use Rattle.md_frame.proofs.IndentRemoved.Places.{FurtherAt, line-over}
 use Rattle.md_literal_rooms.proofs.FenceFurther.Reads.{further-closing-read, further-line-read}
 use Rattle.md_literal_rooms.proofs.FenceFurther.Shown.{further-known}
 use Rattle.md_literal_rooms.proofs.FenceSpan.Open.{AreMarks, behind-same, closing-told, kind_of, leaf_of, line-same}
