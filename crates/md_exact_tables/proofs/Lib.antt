@@ -1,0 +1,6 @@
+pub mod FirstCell
+pub mod CellContent
+pub mod Cells
+pub mod DelimiterPieces
+pub mod RowLines
+pub mod Tables
