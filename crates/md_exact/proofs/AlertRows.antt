@@ -20,7 +20,7 @@ use Rattle.md_meaning.specs.Leaves.{html_goes_on, starts, table_goes_on, underli
 use Rattle.md_meaning.specs.Step.{fresh_line, text_line, all_continued, stopped}
 use Rattle.md_seam.specs.Events.Nested.{around, pair}
 use Rattle.md_exact.specs.Blocks.{exact}
-use Rattle.md_exact.proofs.RowParts.{at, within_tab, chunk}
+use Rattle.md_seam.proofs.EventRowParts.{at, within_tab, chunk}
 
 -- "> [!tip] \n> a"
 abbrev alert_text : List ℕ

@@ -1,5 +1,5 @@
 -- Small texts of leaf blocks, each with its exact list.
-use Rattle.std.proofs.Common.{◌≡◌, ℕ, List, [], ◌∷◌, ◌++◌, codes, refl}
+use Rattle.std.proofs.Common.{◌≡◌, List, ◌++◌, refl}
 use Rattle.md_engine.specs.declared.configuration.TheConstants.ParseOptions as given
 use Rattle.md_engine.specs.declared.event.Event.{Event}
 use Rattle.md_engine.specs.declared.event.Name.TheVariants as n
@@ -20,39 +20,16 @@ use Rattle.md_meaning.specs.Leaves.{html_goes_on, starts, table_goes_on, underli
 use Rattle.md_meaning.specs.Step.{fresh_line, text_line, all_continued, stopped}
 use Rattle.md_seam.specs.Events.Nested.{around, pair}
 use Rattle.md_exact.specs.Blocks.{exact}
-use Rattle.md_exact.proofs.RowParts.{at, chunk, string_chunk}
-
--- ""
-abbrev empty_text : List ℕ
-empty_text = []
-
-abbrev empty_events : List Event
-empty_events =
-    []
-
--- " \n"
-abbrev blank_text : List ℕ
-blank_text = codes " " ++ 10 ∷ []
-
-abbrev blank_events : List Event
-blank_events =
-    pair n.SpaceOrTab (at 1 1 0) (at 1 2 1)
-    ++ pair n.BlankLineEnding (at 1 2 1) (at 2 1 2)
-
--- "(mark)a"
-abbrev mark_text : List ℕ
-mark_text = 239 ∷ 187 ∷ 191 ∷ codes "a"
-
-abbrev mark_events : List Event
-mark_events =
-    pair n.ByteOrderMark (at 1 1 0) (at 1 4 3)
-    ++ around n.Paragraph (at 1 4 3) (at 1 5 4)
-    (chunk (at 1 4 3) (at 1 5 4))
+use Rattle.md_seam.proofs.EventRowParts.{at, chunk, string_chunk}
+use Rattle.md_seam.proofs.EventRows.{empty_text, empty_events, blank_text, blank_events, mark_text, mark_events}
+use Rattle.md_seam.proofs.EventRows.{paragraph_text, break_text, break_events, heading_text, heading_events}
+use Rattle.md_seam.proofs.EventRows.{empty_heading_text, empty_heading_events, underlined_text, underlined_events}
+use Rattle.md_seam.proofs.EventRows.{fence_text, fence_events, open_fence_text, open_fence_events, code_text}
+use Rattle.md_seam.proofs.EventRows.{code_events, html_text, math_text, math_events, frontmatter_text}
+use Rattle.md_seam.proofs.EventRows.{frontmatter_events, empty_parts_text, empty_parts_events, empty_lines_text}
+use Rattle.md_seam.proofs.EventRows.{table_text, table_events}
 
 -- "  a\n b \n"
-abbrev paragraph_text : List ℕ
-paragraph_text = codes "  a" ++ 10 ∷ codes " b " ++ 10 ∷ []
-
 abbrev paragraph_events : List Event
 paragraph_events =
     around n.Paragraph (at 1 1 0) (at 2 4 7)
@@ -60,112 +37,7 @@ paragraph_events =
     ++ chunk (at 2 1 4) (at 2 4 7))
     ++ pair n.LineEnding (at 2 4 7) (at 3 1 8)
 
--- "* **"
-abbrev break_text : List ℕ
-break_text = codes "* **"
-
-abbrev break_events : List Event
-break_events =
-    around n.ThematicBreak (at 1 1 0) (at 1 5 4)
-    (pair n.ThematicBreakSequence (at 1 1 0) (at 1 2 1)
-    ++ pair n.SpaceOrTab (at 1 2 1) (at 1 3 2)
-    ++ pair n.ThematicBreakSequence (at 1 3 2) (at 1 5 4))
-
--- "# a b ##"
-abbrev heading_text : List ℕ
-heading_text = codes "# a b ##"
-
-abbrev heading_events : List Event
-heading_events =
-    around n.HeadingAtx (at 1 1 0) (at 1 9 8)
-    (pair n.HeadingAtxSequence (at 1 1 0) (at 1 2 1)
-    ++ pair n.SpaceOrTab (at 1 2 1) (at 1 3 2)
-    ++ around n.HeadingAtxText (at 1 3 2) (at 1 6 5)
-    (chunk (at 1 3 2) (at 1 6 5))
-    ++ pair n.SpaceOrTab (at 1 6 5) (at 1 7 6)
-    ++ pair n.HeadingAtxSequence (at 1 7 6) (at 1 9 8))
-
--- "##"
-abbrev empty_heading_text : List ℕ
-empty_heading_text = codes "##"
-
-abbrev empty_heading_events : List Event
-empty_heading_events =
-    around n.HeadingAtx (at 1 1 0) (at 1 3 2)
-    (pair n.HeadingAtxSequence (at 1 1 0) (at 1 3 2))
-
--- "a\r\nb\n---\n"
-abbrev underlined_text : List ℕ
-underlined_text = codes "a" ++ 13 ∷ 10 ∷ codes "b" ++ 10 ∷ codes "---" ++ 10 ∷ []
-
-abbrev underlined_events : List Event
-underlined_events =
-    around n.HeadingSetext (at 1 1 0) (at 3 4 8)
-    (around n.HeadingSetextText (at 1 1 0) (at 2 2 4)
-    (chunk (at 1 1 0) (at 2 1 3)
-    ++ chunk (at 2 1 3) (at 2 2 4))
-    ++ pair n.LineEnding (at 2 2 4) (at 3 1 5)
-    ++ around n.HeadingSetextUnderline (at 3 1 5) (at 3 4 8)
-    (pair n.HeadingSetextUnderlineSequence (at 3 1 5) (at 3 4 8)))
-    ++ pair n.LineEnding (at 3 4 8) (at 4 1 9)
-
--- "```r x y\na\n\n b\n```\n"
-abbrev fence_text : List ℕ
-fence_text = codes "```r x y" ++ 10 ∷ codes "a" ++ 10 ∷ 10 ∷ codes " b" ++ 10 ∷ codes "```" ++ 10 ∷ []
-
-abbrev fence_events : List Event
-fence_events =
-    around n.CodeFenced (at 1 1 0) (at 5 4 18)
-    (around n.CodeFencedFence (at 1 1 0) (at 1 9 8)
-    (pair n.CodeFencedFenceSequence (at 1 1 0) (at 1 4 3)
-    ++ around n.CodeFencedFenceInfo (at 1 4 3) (at 1 5 4)
-    (string_chunk (at 1 4 3) (at 1 5 4))
-    ++ pair n.SpaceOrTab (at 1 5 4) (at 1 6 5)
-    ++ around n.CodeFencedFenceMeta (at 1 6 5) (at 1 9 8)
-    (string_chunk (at 1 6 5) (at 1 9 8)))
-    ++ pair n.LineEnding (at 1 9 8) (at 2 1 9)
-    ++ pair n.CodeFlowChunk (at 2 1 9) (at 2 2 10)
-    ++ pair n.LineEnding (at 2 2 10) (at 3 1 11)
-    ++ pair n.LineEnding (at 3 1 11) (at 4 1 12)
-    ++ pair n.CodeFlowChunk (at 4 1 12) (at 4 3 14)
-    ++ pair n.LineEnding (at 4 3 14) (at 5 1 15)
-    ++ around n.CodeFencedFence (at 5 1 15) (at 5 4 18)
-    (pair n.CodeFencedFenceSequence (at 5 1 15) (at 5 4 18)))
-    ++ pair n.LineEnding (at 5 4 18) (at 6 1 19)
-
--- "~~~\na\n"
-abbrev open_fence_text : List ℕ
-open_fence_text = codes "~~~" ++ 10 ∷ codes "a" ++ 10 ∷ []
-
-abbrev open_fence_events : List Event
-open_fence_events =
-    around n.CodeFenced (at 1 1 0) (at 3 1 6)
-    (around n.CodeFencedFence (at 1 1 0) (at 1 4 3)
-    (pair n.CodeFencedFenceSequence (at 1 1 0) (at 1 4 3))
-    ++ pair n.LineEnding (at 1 4 3) (at 2 1 4)
-    ++ pair n.CodeFlowChunk (at 2 1 4) (at 2 2 5)
-    ++ pair n.LineEnding (at 2 2 5) (at 3 1 6))
-
--- "    a\n  \n      b\n"
-abbrev code_text : List ℕ
-code_text = codes "    a" ++ 10 ∷ codes "  " ++ 10 ∷ codes "      b" ++ 10 ∷ []
-
-abbrev code_events : List Event
-code_events =
-    around n.CodeIndented (at 1 1 0) (at 3 8 16)
-    (pair n.SpaceOrTab (at 1 1 0) (at 1 5 4)
-    ++ pair n.CodeFlowChunk (at 1 5 4) (at 1 6 5)
-    ++ pair n.LineEnding (at 1 6 5) (at 2 1 6)
-    ++ pair n.SpaceOrTab (at 2 1 6) (at 2 3 8)
-    ++ pair n.LineEnding (at 2 3 8) (at 3 1 9)
-    ++ pair n.SpaceOrTab (at 3 1 9) (at 3 5 13)
-    ++ pair n.CodeFlowChunk (at 3 5 13) (at 3 8 16))
-    ++ pair n.LineEnding (at 3 8 16) (at 4 1 17)
-
 -- " <?\n\n x\n"
-abbrev html_text : List ℕ
-html_text = codes " <?" ++ 10 ∷ 10 ∷ codes " x" ++ 10 ∷ []
-
 abbrev html_events : List Event
 html_events =
     around n.HtmlFlow (at 1 1 0) (at 4 1 8)
@@ -175,71 +47,7 @@ html_events =
     ++ pair n.HtmlFlowData (at 3 1 5) (at 3 3 7)
     ++ pair n.LineEnding (at 3 3 7) (at 4 1 8))
 
--- "$$ m\na\n$$"
-abbrev math_text : List ℕ
-math_text = codes "$$ m" ++ 10 ∷ codes "a" ++ 10 ∷ codes "$$"
-
-abbrev math_events : List Event
-math_events =
-    around n.MathFlow (at 1 1 0) (at 3 3 9)
-    (around n.MathFlowFence (at 1 1 0) (at 1 5 4)
-    (pair n.MathFlowFenceSequence (at 1 1 0) (at 1 3 2)
-    ++ pair n.SpaceOrTab (at 1 3 2) (at 1 4 3)
-    ++ around n.MathFlowFenceMeta (at 1 4 3) (at 1 5 4)
-    (string_chunk (at 1 4 3) (at 1 5 4)))
-    ++ pair n.LineEnding (at 1 5 4) (at 2 1 5)
-    ++ pair n.MathFlowChunk (at 2 1 5) (at 2 2 6)
-    ++ pair n.LineEnding (at 2 2 6) (at 3 1 7)
-    ++ around n.MathFlowFence (at 3 1 7) (at 3 3 9)
-    (pair n.MathFlowFenceSequence (at 3 1 7) (at 3 3 9)))
-
--- "+++\nx\n\n+++ \na"
-abbrev frontmatter_text : List ℕ
-frontmatter_text = codes "+++" ++ 10 ∷ codes "x" ++ 10 ∷ 10 ∷ codes "+++ " ++ 10 ∷ codes "a"
-
-abbrev frontmatter_events : List Event
-frontmatter_events =
-    around n.Frontmatter (at 1 1 0) (at 4 5 11)
-    (around n.FrontmatterFence (at 1 1 0) (at 1 4 3)
-    (pair n.FrontmatterSequence (at 1 1 0) (at 1 4 3))
-    ++ pair n.LineEnding (at 1 4 3) (at 2 1 4)
-    ++ pair n.FrontmatterChunk (at 2 1 4) (at 2 2 5)
-    ++ pair n.LineEnding (at 2 2 5) (at 3 1 6)
-    ++ pair n.LineEnding (at 3 1 6) (at 4 1 7)
-    ++ around n.FrontmatterFence (at 4 1 7) (at 4 5 11)
-    (pair n.FrontmatterSequence (at 4 1 7) (at 4 4 10)
-    ++ pair n.SpaceOrTab (at 4 4 10) (at 4 5 11)))
-    ++ pair n.LineEnding (at 4 5 11) (at 5 1 12)
-    ++ around n.Paragraph (at 5 1 12) (at 5 2 13)
-    (chunk (at 5 1 12) (at 5 2 13))
-
--- "[a\n]: <> ''"
-abbrev empty_parts_text : List ℕ
-empty_parts_text = codes "[a" ++ 10 ∷ codes "]: <> ''"
-
-abbrev empty_parts_events : List Event
-empty_parts_events =
-    around n.Definition (at 1 1 0) (at 2 9 11)
-    (around n.DefinitionLabel (at 1 1 0) (at 2 2 4)
-    (pair n.DefinitionLabelMarker (at 1 1 0) (at 1 2 1)
-    ++ around n.DefinitionLabelString (at 1 2 1) (at 2 1 3)
-    (string_chunk (at 1 2 1) (at 2 1 3))
-    ++ pair n.DefinitionLabelMarker (at 2 1 3) (at 2 2 4))
-    ++ pair n.DefinitionMarker (at 2 2 4) (at 2 3 5)
-    ++ pair n.SpaceOrTab (at 2 3 5) (at 2 4 6)
-    ++ around n.DefinitionDestination (at 2 4 6) (at 2 6 8)
-    (around n.DefinitionDestinationLiteral (at 2 4 6) (at 2 6 8)
-    (pair n.DefinitionDestinationLiteralMarker (at 2 4 6) (at 2 5 7)
-    ++ pair n.DefinitionDestinationLiteralMarker (at 2 5 7) (at 2 6 8)))
-    ++ pair n.SpaceOrTab (at 2 6 8) (at 2 7 9)
-    ++ around n.DefinitionTitle (at 2 7 9) (at 2 9 11)
-    (pair n.DefinitionTitleMarker (at 2 7 9) (at 2 8 10)
-    ++ pair n.DefinitionTitleMarker (at 2 8 10) (at 2 9 11)))
-
 -- "[\n a]: b '\n c'"
-abbrev empty_lines_text : List ℕ
-empty_lines_text = codes "[" ++ 10 ∷ codes " a]: b '" ++ 10 ∷ codes " c'"
-
 abbrev empty_lines_events : List Event
 empty_lines_events =
     around n.Definition (at 1 1 0) (at 3 4 14)
@@ -262,43 +70,6 @@ empty_lines_events =
     (string_chunk (at 2 9 10) (at 3 1 11)
     ++ string_chunk (at 3 1 11) (at 3 3 13))
     ++ pair n.DefinitionTitleMarker (at 3 3 13) (at 3 4 14)))
-
--- "| a | b\n:-|-\n|\n"
-abbrev table_text : List ℕ
-table_text = codes "| a | b" ++ 10 ∷ codes ":-|-" ++ 10 ∷ codes "|" ++ 10 ∷ []
-
-abbrev table_events : List Event
-table_events =
-    around n.GfmTable (at 1 1 0) (at 3 2 14)
-    (around n.GfmTableHead (at 1 1 0) (at 2 5 12)
-    (around n.GfmTableRow (at 1 1 0) (at 1 8 7)
-    (around n.GfmTableCell (at 1 1 0) (at 1 5 4)
-    (pair n.GfmTableCellDivider (at 1 1 0) (at 1 2 1)
-    ++ pair n.SpaceOrTab (at 1 2 1) (at 1 3 2)
-    ++ around n.GfmTableCellText (at 1 3 2) (at 1 4 3)
-    (chunk (at 1 3 2) (at 1 4 3))
-    ++ pair n.SpaceOrTab (at 1 4 3) (at 1 5 4))
-    ++ around n.GfmTableCell (at 1 5 4) (at 1 8 7)
-    (pair n.GfmTableCellDivider (at 1 5 4) (at 1 6 5)
-    ++ pair n.SpaceOrTab (at 1 6 5) (at 1 7 6)
-    ++ around n.GfmTableCellText (at 1 7 6) (at 1 8 7)
-    (chunk (at 1 7 6) (at 1 8 7))))
-    ++ pair n.LineEnding (at 1 8 7) (at 2 1 8)
-    ++ around n.GfmTableDelimiterRow (at 2 1 8) (at 2 5 12)
-    (around n.GfmTableDelimiterCell (at 2 1 8) (at 2 3 10)
-    (around n.GfmTableDelimiterCellValue (at 2 1 8) (at 2 3 10)
-    (pair n.GfmTableDelimiterMarker (at 2 1 8) (at 2 2 9)
-    ++ pair n.GfmTableDelimiterFiller (at 2 2 9) (at 2 3 10)))
-    ++ around n.GfmTableDelimiterCell (at 2 3 10) (at 2 5 12)
-    (pair n.GfmTableCellDivider (at 2 3 10) (at 2 4 11)
-    ++ around n.GfmTableDelimiterCellValue (at 2 4 11) (at 2 5 12)
-    (pair n.GfmTableDelimiterFiller (at 2 4 11) (at 2 5 12)))))
-    ++ pair n.LineEnding (at 2 5 12) (at 3 1 13)
-    ++ around n.GfmTableBody (at 3 1 13) (at 3 2 14)
-    (around n.GfmTableRow (at 3 1 13) (at 3 2 14)
-    (around n.GfmTableCell (at 3 1 13) (at 3 2 14)
-    (pair n.GfmTableCellDivider (at 3 1 13) (at 3 2 14)))))
-    ++ pair n.LineEnding (at 3 2 14) (at 4 1 15)
 
 record AreLeaves : Type 0 where
   empty : exact given.ALL empty_text ≡ empty_events

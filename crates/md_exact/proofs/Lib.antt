@@ -2,7 +2,6 @@ pub mod PlaceLemmas
 pub mod OnLine
 pub mod PieceLemmas
 pub mod WholePlaces
-pub mod RowParts
 mod LeafRows
 mod TextRows
 mod ContainerRows

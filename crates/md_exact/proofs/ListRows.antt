@@ -20,38 +20,10 @@ use Rattle.md_meaning.specs.Leaves.{html_goes_on, starts, table_goes_on, underli
 use Rattle.md_meaning.specs.Step.{fresh_line, text_line, all_continued, stopped}
 use Rattle.md_seam.specs.Events.Nested.{around, pair}
 use Rattle.md_exact.specs.Blocks.{exact}
-use Rattle.md_exact.proofs.RowParts.{at, within_tab, chunk, string_chunk}
-
--- ">     a\n>\t\t\n>     b"
-abbrev blank_code_text : List ℕ
-blank_code_text = codes ">     a" ++ 10 ∷ codes ">" ++ 9 ∷ 9 ∷ 10 ∷ codes ">     b"
-
-abbrev blank_code_events : List Event
-blank_code_events =
-    around n.BlockQuote (at 1 1 0) (at 3 8 19)
-    (around n.BlockQuotePrefix (at 1 1 0) (at 1 3 2)
-    (pair n.BlockQuoteMarker (at 1 1 0) (at 1 2 1)
-    ++ pair n.SpaceOrTab (at 1 2 1) (at 1 3 2))
-    ++ around n.CodeIndented (at 1 3 2) (at 3 8 19)
-    (pair n.SpaceOrTab (at 1 3 2) (at 1 7 6)
-    ++ pair n.CodeFlowChunk (at 1 7 6) (at 1 8 7)
-    ++ pair n.LineEnding (at 1 8 7) (at 2 1 8)
-    ++ around n.BlockQuotePrefix (at 2 1 8) (within_tab 2 3 9 1)
-    (pair n.BlockQuoteMarker (at 2 1 8) (at 2 2 9)
-    ++ pair n.SpaceOrTab (at 2 2 9) (within_tab 2 3 9 1))
-    ++ pair n.SpaceOrTab (within_tab 2 3 9 1) (within_tab 2 7 10 2)
-    ++ pair n.CodeFlowChunk (within_tab 2 7 10 2) (at 2 9 11)
-    ++ pair n.LineEnding (at 2 9 11) (at 3 1 12)
-    ++ around n.BlockQuotePrefix (at 3 1 12) (at 3 3 14)
-    (pair n.BlockQuoteMarker (at 3 1 12) (at 3 2 13)
-    ++ pair n.SpaceOrTab (at 3 2 13) (at 3 3 14))
-    ++ pair n.SpaceOrTab (at 3 3 14) (at 3 7 18)
-    ++ pair n.CodeFlowChunk (at 3 7 18) (at 3 8 19)))
+use Rattle.md_seam.proofs.EventRowParts.{at, within_tab, chunk, string_chunk}
+use Rattle.md_seam.proofs.ContainerRows.{blank_code_text, blank_code_events, cut_html_text}
 
 -- ">\t<a>"
-abbrev cut_html_text : List ℕ
-cut_html_text = codes ">" ++ 9 ∷ codes "<a>"
-
 abbrev cut_html_events : List Event
 cut_html_events =
     around n.BlockQuote (at 1 1 0) (at 1 8 5)

@@ -13,7 +13,7 @@ use Rattle.md_seam.proofs.EventRowParts.{at, within_tab, chunk, string_chunk, li
 abbrev pub lazy_text : List ℕ
 lazy_text = codes "> a" ++ 10 ∷ codes "b"
 
-abbrev lazy_events : List Event
+abbrev pub lazy_events : List Event
 lazy_events =
     around n.BlockQuote (at 1 1 0) (at 2 2 5)
     (around n.BlockQuotePrefix (at 1 1 0) (at 1 3 2)
@@ -28,29 +28,13 @@ lazy_tree = t.More (t.Quote None (t.More (t.Paragraph (codes "a" ∷ codes "b" �
 
 row-lazy : Row lazy_text lazy_events lazy_tree
 unfolding spelled keeps_grammar kind_at
-row-lazy = record {
-  placed = refl;
-  before = refl;
-  after = refl;
-  nested = search rules;
-  lines = refl;
-  chunks = refl;
-  grammar = refl;
-  grammar_after = refl;
-  pieces_are = refl;
-  pieces_after = refl;
-  endings = refl;
-  endings_after = refl;
-  covers = search rules;
-  each = search rules;
-  empty = search rules;
-}
+row-lazy = (refl, refl, refl, search rules, search rules, search rules, search rules)
 
 -- a quote whose second line has the prefix, behind a space: "> a\n > b"
 abbrev pub prefix_text : List ℕ
 prefix_text = codes "> a" ++ 10 ∷ codes " > b"
 
-abbrev prefix_events : List Event
+abbrev pub prefix_events : List Event
 prefix_events =
     around n.BlockQuote (at 1 1 0) (at 2 5 8)
     (around n.BlockQuotePrefix (at 1 1 0) (at 1 3 2)
@@ -69,29 +53,13 @@ prefix_tree = t.More (t.Quote None (t.More (t.Paragraph (codes "a" ∷ codes "b"
 
 row-prefix : Row prefix_text prefix_events prefix_tree
 unfolding spelled keeps_grammar kind_at
-row-prefix = record {
-  placed = refl;
-  before = refl;
-  after = refl;
-  nested = search rules;
-  lines = refl;
-  chunks = refl;
-  grammar = refl;
-  grammar_after = refl;
-  pieces_are = refl;
-  pieces_after = refl;
-  endings = refl;
-  endings_after = refl;
-  covers = search rules;
-  each = search rules;
-  empty = search rules;
-}
+row-prefix = (refl, refl, refl, search rules, search rules, search rules, search rules)
 
 -- an ordered list, with the digits as written: "01) a\n7) b"
 abbrev pub ordered_text : List ℕ
 ordered_text = codes "01) a" ++ 10 ∷ codes "7) b"
 
-abbrev ordered_events : List Event
+abbrev pub ordered_events : List Event
 ordered_events =
     around n.ListOrdered (at 1 1 0) (at 2 5 10)
     (around n.ListItem (at 1 1 0) (at 1 6 5)
@@ -119,29 +87,13 @@ ordered_tree =
 
 row-ordered : Row ordered_text ordered_events ordered_tree
 unfolding spelled keeps_grammar kind_at
-row-ordered = record {
-  placed = refl;
-  before = refl;
-  after = refl;
-  nested = search rules;
-  lines = refl;
-  chunks = refl;
-  grammar = refl;
-  grammar_after = refl;
-  pieces_are = refl;
-  pieces_after = refl;
-  endings = refl;
-  endings_after = refl;
-  covers = search rules;
-  each = search rules;
-  empty = search rules;
-}
+row-ordered = (refl, refl, refl, search rules, search rules, search rules, search rules)
 
 -- items before they are grouped into lists: "- a\n+ b"
 abbrev pub items_text : List ℕ
 items_text = codes "- a" ++ 10 ∷ codes "+ b"
 
-abbrev items_events : List Event
+abbrev pub items_events : List Event
 items_events =
     around n.ListItem (at 1 1 0) (at 1 4 3)
     (around n.ListItemPrefix (at 1 1 0) (at 1 3 2)
@@ -170,7 +122,7 @@ row-items = refl
 abbrev pub nested_text : List ℕ
 nested_text = codes "> - a" ++ 10 ∷ codes ">" ++ 10 ∷ codes ">   b" ++ 10 ∷ codes "> -"
 
-abbrev nested_events : List Event
+abbrev pub nested_events : List Event
 nested_events =
     around n.BlockQuote (at 1 1 0) (at 4 4 17)
     (around n.BlockQuotePrefix (at 1 1 0) (at 1 3 2)
@@ -212,29 +164,13 @@ nested_tree =
 
 row-nested : Row nested_text nested_events nested_tree
 unfolding spelled keeps_grammar kind_at
-row-nested = record {
-  placed = refl;
-  before = refl;
-  after = refl;
-  nested = search rules;
-  lines = refl;
-  chunks = refl;
-  grammar = refl;
-  grammar_after = refl;
-  pieces_are = refl;
-  pieces_after = refl;
-  endings = refl;
-  endings_after = refl;
-  covers = search rules;
-  each = search rules;
-  empty = search rules;
-}
+row-nested = (refl, refl, refl, search rules, search rules, search rules, search rules)
 
 -- an open fence whose container ends behind a blank line: "- ```\n\nb"
 abbrev pub left_fence_text : List ℕ
 left_fence_text = codes "- ```" ++ 10 ∷ 10 ∷ codes "b"
 
-abbrev left_fence_events : List Event
+abbrev pub left_fence_events : List Event
 left_fence_events =
     around n.ListUnordered (at 1 1 0) (at 2 1 6)
     (around n.ListItem (at 1 1 0) (at 2 1 6)
@@ -256,29 +192,13 @@ left_fence_tree =
 
 row-left-fence : Row left_fence_text left_fence_events left_fence_tree
 unfolding spelled keeps_grammar kind_at
-row-left-fence = record {
-  placed = refl;
-  before = refl;
-  after = refl;
-  nested = search rules;
-  lines = refl;
-  chunks = refl;
-  grammar = refl;
-  grammar_after = refl;
-  pieces_are = refl;
-  pieces_after = refl;
-  endings = refl;
-  endings_after = refl;
-  covers = search rules;
-  each = search rules;
-  empty = search rules;
-}
+row-left-fence = (refl, refl, refl, search rules, search rules, search rules, search rules)
 
 -- a tab that a prefix, the indent of a fence and a line share: ">  ~~~\n>\ta"
 abbrev pub shared_tab_text : List ℕ
 shared_tab_text = codes ">  ~~~" ++ 10 ∷ codes ">" ++ 9 ∷ codes "a"
 
-abbrev shared_tab_events : List Event
+abbrev pub shared_tab_events : List Event
 shared_tab_events =
     around n.BlockQuote (at 1 1 0) (at 2 6 10)
     (around n.BlockQuotePrefix (at 1 1 0) (at 1 3 2)
@@ -300,29 +220,13 @@ shared_tab_tree = t.More (t.Quote None (t.More (t.Fence 126 None None (line 1 (c
 
 row-shared-tab : Row shared_tab_text shared_tab_events shared_tab_tree
 unfolding spelled keeps_grammar kind_at
-row-shared-tab = record {
-  placed = refl;
-  before = refl;
-  after = refl;
-  nested = search rules;
-  lines = refl;
-  chunks = refl;
-  grammar = refl;
-  grammar_after = refl;
-  pieces_are = refl;
-  pieces_after = refl;
-  endings = refl;
-  endings_after = refl;
-  covers = search rules;
-  each = search rules;
-  empty = search rules;
-}
+row-shared-tab = (refl, refl, refl, search rules, search rules, search rules, search rules)
 
 -- code behind tabs that are cut: ">\t\ta"
 abbrev pub tabs_text : List ℕ
 tabs_text = codes ">" ++ 9 ∷ 9 ∷ codes "a"
 
-abbrev tabs_events : List Event
+abbrev pub tabs_events : List Event
 tabs_events =
     around n.BlockQuote (at 1 1 0) (at 1 10 4)
     (around n.BlockQuotePrefix (at 1 1 0) (within_tab 1 3 1 1)
@@ -337,29 +241,13 @@ tabs_tree = t.More (t.Quote None (t.More (t.Code (line 2 (codes "a") ∷ [])) t.
 
 row-tabs : Row tabs_text tabs_events tabs_tree
 unfolding spelled keeps_grammar kind_at
-row-tabs = record {
-  placed = refl;
-  before = refl;
-  after = refl;
-  nested = search rules;
-  lines = refl;
-  chunks = refl;
-  grammar = refl;
-  grammar_after = refl;
-  pieces_are = refl;
-  pieces_after = refl;
-  endings = refl;
-  endings_after = refl;
-  covers = search rules;
-  each = search rules;
-  empty = search rules;
-}
+row-tabs = (refl, refl, refl, search rules, search rules, search rules, search rules)
 
 -- a definition over four lines of a quote: "> [a\n> b]: c\n> 'd\n>e'"
 abbrev pub definition_text : List ℕ
 definition_text = codes "> [a" ++ 10 ∷ codes "> b]: c" ++ 10 ∷ codes "> 'd" ++ 10 ∷ codes ">e'"
 
-abbrev definition_events : List Event
+abbrev pub definition_events : List Event
 definition_events =
     around n.BlockQuote (at 1 1 0) (at 4 4 21)
     (around n.BlockQuotePrefix (at 1 1 0) (at 1 3 2)
@@ -403,29 +291,13 @@ definition_tree =
 
 row-definition : Row definition_text definition_events definition_tree
 unfolding spelled keeps_grammar kind_at
-row-definition = record {
-  placed = refl;
-  before = refl;
-  after = refl;
-  nested = search rules;
-  lines = refl;
-  chunks = refl;
-  grammar = refl;
-  grammar_after = refl;
-  pieces_are = refl;
-  pieces_after = refl;
-  endings = refl;
-  endings_after = refl;
-  covers = search rules;
-  each = search rules;
-  empty = search rules;
-}
+row-definition = (refl, refl, refl, search rules, search rules, search rules, search rules)
 
 -- a footnote definition with two paragraphs: "[^a]: b\n\n    c"
 abbrev pub footnote_text : List ℕ
 footnote_text = codes "[^a]: b" ++ 10 ∷ 10 ∷ codes "    c"
 
-abbrev footnote_events : List Event
+abbrev pub footnote_events : List Event
 footnote_events =
     around n.GfmFootnoteDefinition (at 1 1 0) (at 3 6 14)
     (around n.GfmFootnoteDefinitionPrefix (at 1 1 0) (at 1 7 6)
@@ -452,29 +324,13 @@ footnote_tree =
 
 row-footnote : Row footnote_text footnote_events footnote_tree
 unfolding spelled keeps_grammar kind_at
-row-footnote = record {
-  placed = refl;
-  before = refl;
-  after = refl;
-  nested = search rules;
-  lines = refl;
-  chunks = refl;
-  grammar = refl;
-  grammar_after = refl;
-  pieces_are = refl;
-  pieces_after = refl;
-  endings = refl;
-  endings_after = refl;
-  covers = search rules;
-  each = search rules;
-  empty = search rules;
-}
+row-footnote = (refl, refl, refl, search rules, search rules, search rules, search rules)
 
 -- a line of a paragraph that begins within the tab of its item's indent: "- a\n\tb"
 abbrev pub cut_chunk_text : List ℕ
 cut_chunk_text = codes "- a" ++ 10 ∷ 9 ∷ codes "b"
 
-abbrev cut_chunk_events : List Event
+abbrev pub cut_chunk_events : List Event
 cut_chunk_events =
     around n.ListUnordered (at 1 1 0) (at 2 6 6)
     (around n.ListItem (at 1 1 0) (at 2 6 6)
@@ -492,29 +348,13 @@ cut_chunk_tree =
 
 row-cut-chunk : Row cut_chunk_text cut_chunk_events cut_chunk_tree
 unfolding spelled keeps_grammar kind_at
-row-cut-chunk = record {
-  placed = refl;
-  before = refl;
-  after = refl;
-  nested = search rules;
-  lines = refl;
-  chunks = refl;
-  grammar = refl;
-  grammar_after = refl;
-  pieces_are = refl;
-  pieces_after = refl;
-  endings = refl;
-  endings_after = refl;
-  covers = search rules;
-  each = search rules;
-  empty = search rules;
-}
+row-cut-chunk = (refl, refl, refl, search rules, search rules, search rules, search rules)
 
 -- a setext heading behind a definition in a quote: "> [a]: b\n> c\n> ="
 abbrev pub behind_definition_text : List ℕ
 behind_definition_text = codes "> [a]: b" ++ 10 ∷ codes "> c" ++ 10 ∷ codes "> ="
 
-abbrev behind_definition_events : List Event
+abbrev pub behind_definition_events : List Event
 behind_definition_events =
     around n.BlockQuote (at 1 1 0) (at 3 4 16)
     (around n.BlockQuotePrefix (at 1 1 0) (at 1 3 2)
@@ -555,29 +395,13 @@ behind_definition_tree =
 
 row-behind-definition : Row behind_definition_text behind_definition_events behind_definition_tree
 unfolding spelled keeps_grammar kind_at
-row-behind-definition = record {
-  placed = refl;
-  before = refl;
-  after = refl;
-  nested = search rules;
-  lines = refl;
-  chunks = refl;
-  grammar = refl;
-  grammar_after = refl;
-  pieces_are = refl;
-  pieces_after = refl;
-  endings = refl;
-  endings_after = refl;
-  covers = search rules;
-  each = search rules;
-  empty = search rules;
-}
+row-behind-definition = (refl, refl, refl, search rules, search rules, search rules, search rules)
 
 -- a table behind a paragraph in a quote, its head a lazy line: "> a\nb|c\n> -|-"
 abbrev pub lazy_head_text : List ℕ
 lazy_head_text = codes "> a" ++ 10 ∷ codes "b|c" ++ 10 ∷ codes "> -|-"
 
-abbrev lazy_head_events : List Event
+abbrev pub lazy_head_events : List Event
 lazy_head_events =
     around n.BlockQuote (at 1 1 0) (at 3 6 13)
     (around n.BlockQuotePrefix (at 1 1 0) (at 1 3 2)
@@ -618,29 +442,13 @@ lazy_head_tree =
 
 row-lazy-head : Row lazy_head_text lazy_head_events lazy_head_tree
 unfolding spelled keeps_grammar kind_at
-row-lazy-head = record {
-  placed = refl;
-  before = refl;
-  after = refl;
-  nested = search rules;
-  lines = refl;
-  chunks = refl;
-  grammar = refl;
-  grammar_after = refl;
-  pieces_are = refl;
-  pieces_after = refl;
-  endings = refl;
-  endings_after = refl;
-  covers = search rules;
-  each = search rules;
-  empty = search rules;
-}
+row-lazy-head = (refl, refl, refl, search rules, search rules, search rules, search rules)
 
 -- indented code in a quote, with a line that is blank but for what is left of two tabs: ">     a\n>\t\t\n>     b"
 abbrev pub blank_code_text : List ℕ
 blank_code_text = codes ">     a" ++ 10 ∷ codes ">" ++ 9 ∷ 9 ∷ 10 ∷ codes ">     b"
 
-abbrev blank_code_events : List Event
+abbrev pub blank_code_events : List Event
 blank_code_events =
     around n.BlockQuote (at 1 1 0) (at 3 8 19)
     (around n.BlockQuotePrefix (at 1 1 0) (at 1 3 2)
@@ -668,29 +476,13 @@ blank_code_tree =
 
 row-blank-code : Row blank_code_text blank_code_events blank_code_tree
 unfolding spelled keeps_grammar kind_at
-row-blank-code = record {
-  placed = refl;
-  before = refl;
-  after = refl;
-  nested = search rules;
-  lines = refl;
-  chunks = refl;
-  grammar = refl;
-  grammar_after = refl;
-  pieces_are = refl;
-  pieces_after = refl;
-  endings = refl;
-  endings_after = refl;
-  covers = search rules;
-  each = search rules;
-  empty = search rules;
-}
+row-blank-code = (refl, refl, refl, search rules, search rules, search rules, search rules)
 
 -- HTML in a quote, its first line in two pieces, of which one begins within a tab: ">\t<a>"
 abbrev pub cut_html_text : List ℕ
 cut_html_text = codes ">" ++ 9 ∷ codes "<a>"
 
-abbrev cut_html_events : List Event
+abbrev pub cut_html_events : List Event
 cut_html_events =
     around n.BlockQuote (at 1 1 0) (at 1 8 5)
     (around n.BlockQuotePrefix (at 1 1 0) (within_tab 1 3 1 1)
@@ -705,20 +497,4 @@ cut_html_tree = t.More (t.Quote None (t.More (t.Html (line 2 (codes "<a>") ∷ [
 
 row-cut-html : Row cut_html_text cut_html_events cut_html_tree
 unfolding spelled keeps_grammar kind_at
-row-cut-html = record {
-  placed = refl;
-  before = refl;
-  after = refl;
-  nested = search rules;
-  lines = refl;
-  chunks = refl;
-  grammar = refl;
-  grammar_after = refl;
-  pieces_are = refl;
-  pieces_after = refl;
-  endings = refl;
-  endings_after = refl;
-  covers = search rules;
-  each = search rules;
-  empty = search rules;
-}
+row-cut-html = (refl, refl, refl, search rules, search rules, search rules, search rules)

@@ -1,6 +1,6 @@
 -- What a small text with its events is tried by, and how its events are written.
 use Rattle.std.proofs.Common.{◌≡◌, ℕ, List, [], ◌∷◌}
-use Rattle.std.specs.Prelude.{false, Some, IsTrue}
+use Rattle.std.specs.Prelude.{Bool, ◌&&◌, false, Some, IsTrue}
 use Rattle.md_engine.specs.declared.event.Point.{Point}
 use Rattle.md_engine.specs.declared.event.Event.{Event}
 use Rattle.md_engine.specs.declared.event.Kind.TheVariants.{Enter}
@@ -54,22 +54,21 @@ plain_lists bytes (part ∷ parts) = plain_chunks bytes part.chunks ∷ plain_li
 abbrev pub plain : List ℕ → List Event → List Event
 plain bytes blocks = filled blocks (together (plain_lists bytes (parts blocks)))
 
--- What holds of each text: its events stand at points of the text and spell out its tree, also once the plain layer has
--- read the text parts, and then they tile the text.
-pub record Row (bytes : List ℕ) (blocks : List Event) (tree : t.Blocks) : Type 0 where
-  pub placed : IsTrue (are_placed bytes blocks)
-  pub before : spelled blocks bytes ≡ tree
-  pub after : spelled (plain bytes blocks) bytes ≡ tree
-  pub nested : Nested blocks
-  pub lines : IsTrue (parts_stand bytes blocks)
-  pub chunks : IsTrue (chunks_stand 0 blocks)
-  pub grammar : IsTrue (keeps_grammar unread_text blocks)
-  pub grammar_after : IsTrue (keeps_grammar plain_text (plain bytes blocks))
-  pub pieces_are : IsTrue (pieces_stand bytes (pieces blocks))
-  pub pieces_after : IsTrue (pieces_stand bytes (pieces (plain bytes blocks)))
-  pub endings : IsTrue (endings_stand blocks)
-  pub endings_after : IsTrue (endings_stand (plain bytes blocks))
-  pub covers : Covers first_point (pieces blocks) (end_point bytes)
-  pub each : EachRead (λ part events. events ≡ plain_events bytes part) (parts blocks)
-      (plain_lists bytes (parts blocks))
-  pub empty : bytes ≡ [] → plain bytes blocks ≡ []
+-- What can be decided of the events of a text: they stand at its points, keep the grammar, and each piece, chunk, part and
+-- ending is what its name says, also once the plain layer has read the text parts.
+abbrev pub list_stands : List ℕ → List Event → Bool
+list_stands bytes blocks =
+    let events = plain bytes blocks in
+    are_placed bytes blocks && parts_stand bytes blocks && chunks_stand 0 blocks
+    && keeps_grammar unread_text blocks && keeps_grammar plain_text events
+    && pieces_stand bytes (pieces blocks) && pieces_stand bytes (pieces events)
+    && endings_stand blocks && endings_stand events
+
+-- What holds of each text: that, its events spell out its tree, before and behind the plain layer, they nest and tile the
+-- text, each part is read as it should be, and an empty text has none.
+abbrev pub Row : List ℕ → List Event → t.Blocks → Type 0
+Row bytes blocks tree =
+    IsTrue (list_stands bytes blocks) × (spelled blocks bytes ≡ tree) × (spelled (plain bytes blocks) bytes ≡ tree)
+    × Nested blocks × Covers first_point (pieces blocks) (end_point bytes)
+    × EachRead (λ part events. events ≡ plain_events bytes part) (parts blocks) (plain_lists bytes (parts blocks))
+    × (bytes ≡ [] → plain bytes blocks ≡ [])

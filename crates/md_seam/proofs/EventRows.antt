@@ -13,7 +13,7 @@ use Rattle.md_seam.proofs.EventRowParts.{at, chunk, string_chunk, line, Row}
 abbrev pub empty_text : List ℕ
 empty_text = []
 
-abbrev empty_events : List Event
+abbrev pub empty_events : List Event
 empty_events =
     []
 
@@ -22,29 +22,13 @@ empty_tree = t.End
 
 row-empty : Row empty_text empty_events empty_tree
 unfolding spelled keeps_grammar
-row-empty = record {
-  placed = refl;
-  before = refl;
-  after = refl;
-  nested = search rules;
-  lines = refl;
-  chunks = refl;
-  grammar = refl;
-  grammar_after = refl;
-  pieces_are = refl;
-  pieces_after = refl;
-  endings = refl;
-  endings_after = refl;
-  covers = search rules;
-  each = search rules;
-  empty = search rules;
-}
+row-empty = (refl, refl, refl, search rules, search rules, search rules, search rules)
 
 -- a blank line: " \n"
 abbrev pub blank_text : List ℕ
 blank_text = codes " " ++ 10 ∷ []
 
-abbrev blank_events : List Event
+abbrev pub blank_events : List Event
 blank_events =
     pair n.SpaceOrTab (at 1 1 0) (at 1 2 1)
     ++ pair n.BlankLineEnding (at 1 2 1) (at 2 1 2)
@@ -54,29 +38,13 @@ blank_tree = t.End
 
 row-blank : Row blank_text blank_events blank_tree
 unfolding spelled keeps_grammar
-row-blank = record {
-  placed = refl;
-  before = refl;
-  after = refl;
-  nested = search rules;
-  lines = refl;
-  chunks = refl;
-  grammar = refl;
-  grammar_after = refl;
-  pieces_are = refl;
-  pieces_after = refl;
-  endings = refl;
-  endings_after = refl;
-  covers = search rules;
-  each = search rules;
-  empty = search rules;
-}
+row-blank = (refl, refl, refl, search rules, search rules, search rules, search rules)
 
 -- a byte order mark before a paragraph: "(mark)a"
 abbrev pub mark_text : List ℕ
 mark_text = 239 ∷ 187 ∷ 191 ∷ codes "a"
 
-abbrev mark_events : List Event
+abbrev pub mark_events : List Event
 mark_events =
     pair n.ByteOrderMark (at 1 1 0) (at 1 4 3)
     ++ around n.Paragraph (at 1 4 3) (at 1 5 4)
@@ -87,29 +55,13 @@ mark_tree = t.More (t.Paragraph (codes "a" ∷ [])) t.End
 
 row-mark : Row mark_text mark_events mark_tree
 unfolding spelled keeps_grammar
-row-mark = record {
-  placed = refl;
-  before = refl;
-  after = refl;
-  nested = search rules;
-  lines = refl;
-  chunks = refl;
-  grammar = refl;
-  grammar_after = refl;
-  pieces_are = refl;
-  pieces_after = refl;
-  endings = refl;
-  endings_after = refl;
-  covers = search rules;
-  each = search rules;
-  empty = search rules;
-}
+row-mark = (refl, refl, refl, search rules, search rules, search rules, search rules)
 
 -- a paragraph of two lines, which lose their leading spaces: "  a\n b \n"
 abbrev pub paragraph_text : List ℕ
 paragraph_text = codes "  a" ++ 10 ∷ codes " b " ++ 10 ∷ []
 
-abbrev paragraph_events : List Event
+abbrev pub paragraph_events : List Event
 paragraph_events =
     pair n.SpaceOrTab (at 1 1 0) (at 1 3 2)
     ++ around n.Paragraph (at 1 3 2) (at 2 4 7)
@@ -122,29 +74,13 @@ paragraph_tree = t.More (t.Paragraph (codes "a" ∷ codes "b " ∷ [])) t.End
 
 row-paragraph : Row paragraph_text paragraph_events paragraph_tree
 unfolding spelled keeps_grammar
-row-paragraph = record {
-  placed = refl;
-  before = refl;
-  after = refl;
-  nested = search rules;
-  lines = refl;
-  chunks = refl;
-  grammar = refl;
-  grammar_after = refl;
-  pieces_are = refl;
-  pieces_after = refl;
-  endings = refl;
-  endings_after = refl;
-  covers = search rules;
-  each = search rules;
-  empty = search rules;
-}
+row-paragraph = (refl, refl, refl, search rules, search rules, search rules, search rules)
 
 -- a thematic break: "* **"
 abbrev pub break_text : List ℕ
 break_text = codes "* **"
 
-abbrev break_events : List Event
+abbrev pub break_events : List Event
 break_events =
     around n.ThematicBreak (at 1 1 0) (at 1 5 4)
     (pair n.ThematicBreakSequence (at 1 1 0) (at 1 2 1)
@@ -156,29 +92,13 @@ break_tree = t.More (t.Break) t.End
 
 row-break : Row break_text break_events break_tree
 unfolding spelled keeps_grammar
-row-break = record {
-  placed = refl;
-  before = refl;
-  after = refl;
-  nested = search rules;
-  lines = refl;
-  chunks = refl;
-  grammar = refl;
-  grammar_after = refl;
-  pieces_are = refl;
-  pieces_after = refl;
-  endings = refl;
-  endings_after = refl;
-  covers = search rules;
-  each = search rules;
-  empty = search rules;
-}
+row-break = (refl, refl, refl, search rules, search rules, search rules, search rules)
 
 -- an ATX heading with a closing sequence: "# a b ##"
 abbrev pub heading_text : List ℕ
 heading_text = codes "# a b ##"
 
-abbrev heading_events : List Event
+abbrev pub heading_events : List Event
 heading_events =
     around n.HeadingAtx (at 1 1 0) (at 1 9 8)
     (pair n.HeadingAtxSequence (at 1 1 0) (at 1 2 1)
@@ -193,29 +113,13 @@ heading_tree = t.More (t.Heading 1 (codes "a b" ∷ [])) t.End
 
 row-heading : Row heading_text heading_events heading_tree
 unfolding spelled keeps_grammar
-row-heading = record {
-  placed = refl;
-  before = refl;
-  after = refl;
-  nested = search rules;
-  lines = refl;
-  chunks = refl;
-  grammar = refl;
-  grammar_after = refl;
-  pieces_are = refl;
-  pieces_after = refl;
-  endings = refl;
-  endings_after = refl;
-  covers = search rules;
-  each = search rules;
-  empty = search rules;
-}
+row-heading = (refl, refl, refl, search rules, search rules, search rules, search rules)
 
 -- an ATX heading without text: "##"
 abbrev pub empty_heading_text : List ℕ
 empty_heading_text = codes "##"
 
-abbrev empty_heading_events : List Event
+abbrev pub empty_heading_events : List Event
 empty_heading_events =
     around n.HeadingAtx (at 1 1 0) (at 1 3 2)
     (pair n.HeadingAtxSequence (at 1 1 0) (at 1 3 2))
@@ -225,29 +129,13 @@ empty_heading_tree = t.More (t.Heading 2 []) t.End
 
 row-empty-heading : Row empty_heading_text empty_heading_events empty_heading_tree
 unfolding spelled keeps_grammar
-row-empty-heading = record {
-  placed = refl;
-  before = refl;
-  after = refl;
-  nested = search rules;
-  lines = refl;
-  chunks = refl;
-  grammar = refl;
-  grammar_after = refl;
-  pieces_are = refl;
-  pieces_after = refl;
-  endings = refl;
-  endings_after = refl;
-  covers = search rules;
-  each = search rules;
-  empty = search rules;
-}
+row-empty-heading = (refl, refl, refl, search rules, search rules, search rules, search rules)
 
 -- a setext heading of two lines: "a\r\nb\n---\n"
 abbrev pub underlined_text : List ℕ
 underlined_text = codes "a" ++ 13 ∷ 10 ∷ codes "b" ++ 10 ∷ codes "---" ++ 10 ∷ []
 
-abbrev underlined_events : List Event
+abbrev pub underlined_events : List Event
 underlined_events =
     around n.HeadingSetext (at 1 1 0) (at 3 4 8)
     (around n.HeadingSetextText (at 1 1 0) (at 2 2 4)
@@ -263,29 +151,13 @@ underlined_tree = t.More (t.Heading 2 (codes "a" ∷ codes "b" ∷ [])) t.End
 
 row-underlined : Row underlined_text underlined_events underlined_tree
 unfolding spelled keeps_grammar
-row-underlined = record {
-  placed = refl;
-  before = refl;
-  after = refl;
-  nested = search rules;
-  lines = refl;
-  chunks = refl;
-  grammar = refl;
-  grammar_after = refl;
-  pieces_are = refl;
-  pieces_after = refl;
-  endings = refl;
-  endings_after = refl;
-  covers = search rules;
-  each = search rules;
-  empty = search rules;
-}
+row-underlined = (refl, refl, refl, search rules, search rules, search rules, search rules)
 
 -- a closed fence with info, meta and an empty line: "```r x y\na\n\n b\n```\n"
 abbrev pub fence_text : List ℕ
 fence_text = codes "```r x y" ++ 10 ∷ codes "a" ++ 10 ∷ 10 ∷ codes " b" ++ 10 ∷ codes "```" ++ 10 ∷ []
 
-abbrev fence_events : List Event
+abbrev pub fence_events : List Event
 fence_events =
     around n.CodeFenced (at 1 1 0) (at 5 4 18)
     (around n.CodeFencedFence (at 1 1 0) (at 1 9 8)
@@ -313,29 +185,13 @@ fence_tree =
 
 row-fence : Row fence_text fence_events fence_tree
 unfolding spelled keeps_grammar
-row-fence = record {
-  placed = refl;
-  before = refl;
-  after = refl;
-  nested = search rules;
-  lines = refl;
-  chunks = refl;
-  grammar = refl;
-  grammar_after = refl;
-  pieces_are = refl;
-  pieces_after = refl;
-  endings = refl;
-  endings_after = refl;
-  covers = search rules;
-  each = search rules;
-  empty = search rules;
-}
+row-fence = (refl, refl, refl, search rules, search rules, search rules, search rules)
 
 -- an open fence, whose last line ending opens no line: "~~~\na\n"
 abbrev pub open_fence_text : List ℕ
 open_fence_text = codes "~~~" ++ 10 ∷ codes "a" ++ 10 ∷ []
 
-abbrev open_fence_events : List Event
+abbrev pub open_fence_events : List Event
 open_fence_events =
     around n.CodeFenced (at 1 1 0) (at 3 1 6)
     (around n.CodeFencedFence (at 1 1 0) (at 1 4 3)
@@ -349,29 +205,13 @@ open_fence_tree = t.More (t.Fence 126 None None (line 0 (codes "a") ∷ []) fals
 
 row-open-fence : Row open_fence_text open_fence_events open_fence_tree
 unfolding spelled keeps_grammar
-row-open-fence = record {
-  placed = refl;
-  before = refl;
-  after = refl;
-  nested = search rules;
-  lines = refl;
-  chunks = refl;
-  grammar = refl;
-  grammar_after = refl;
-  pieces_are = refl;
-  pieces_after = refl;
-  endings = refl;
-  endings_after = refl;
-  covers = search rules;
-  each = search rules;
-  empty = search rules;
-}
+row-open-fence = (refl, refl, refl, search rules, search rules, search rules, search rules)
 
 -- indented code with a blank line inside: "    a\n  \n      b\n"
 abbrev pub code_text : List ℕ
 code_text = codes "    a" ++ 10 ∷ codes "  " ++ 10 ∷ codes "      b" ++ 10 ∷ []
 
-abbrev code_events : List Event
+abbrev pub code_events : List Event
 code_events =
     around n.CodeIndented (at 1 1 0) (at 3 8 16)
     (pair n.SpaceOrTab (at 1 1 0) (at 1 5 4)
@@ -388,29 +228,13 @@ code_tree = t.More (t.Code (line 0 (codes "a") ∷ line 0 ([]) ∷ line 0 (codes
 
 row-code : Row code_text code_events code_tree
 unfolding spelled keeps_grammar
-row-code = record {
-  placed = refl;
-  before = refl;
-  after = refl;
-  nested = search rules;
-  lines = refl;
-  chunks = refl;
-  grammar = refl;
-  grammar_after = refl;
-  pieces_are = refl;
-  pieces_after = refl;
-  endings = refl;
-  endings_after = refl;
-  covers = search rules;
-  each = search rules;
-  empty = search rules;
-}
+row-code = (refl, refl, refl, search rules, search rules, search rules, search rules)
 
 -- HTML, its first line in two pieces, and a blank line in it: " <?\n\n x\n"
 abbrev pub html_text : List ℕ
 html_text = codes " <?" ++ 10 ∷ 10 ∷ codes " x" ++ 10 ∷ []
 
-abbrev html_events : List Event
+abbrev pub html_events : List Event
 html_events =
     around n.HtmlFlow (at 1 1 0) (at 4 1 8)
     (pair n.HtmlFlowData (at 1 1 0) (at 1 2 1)
@@ -425,29 +249,13 @@ html_tree = t.More (t.Html (line 0 (codes " <?") ∷ line 0 ([]) ∷ line 0 (cod
 
 row-html : Row html_text html_events html_tree
 unfolding spelled keeps_grammar
-row-html = record {
-  placed = refl;
-  before = refl;
-  after = refl;
-  nested = search rules;
-  lines = refl;
-  chunks = refl;
-  grammar = refl;
-  grammar_after = refl;
-  pieces_are = refl;
-  pieces_after = refl;
-  endings = refl;
-  endings_after = refl;
-  covers = search rules;
-  each = search rules;
-  empty = search rules;
-}
+row-html = (refl, refl, refl, search rules, search rules, search rules, search rules)
 
 -- closed math with meta: "$$ m\na\n$$"
 abbrev pub math_text : List ℕ
 math_text = codes "$$ m" ++ 10 ∷ codes "a" ++ 10 ∷ codes "$$"
 
-abbrev math_events : List Event
+abbrev pub math_events : List Event
 math_events =
     around n.MathFlow (at 1 1 0) (at 3 3 9)
     (around n.MathFlowFence (at 1 1 0) (at 1 5 4)
@@ -466,29 +274,13 @@ math_tree = t.More (t.Math (Some (codes "m")) (line 0 (codes "a") ∷ []) true) 
 
 row-math : Row math_text math_events math_tree
 unfolding spelled keeps_grammar
-row-math = record {
-  placed = refl;
-  before = refl;
-  after = refl;
-  nested = search rules;
-  lines = refl;
-  chunks = refl;
-  grammar = refl;
-  grammar_after = refl;
-  pieces_are = refl;
-  pieces_after = refl;
-  endings = refl;
-  endings_after = refl;
-  covers = search rules;
-  each = search rules;
-  empty = search rules;
-}
+row-math = (refl, refl, refl, search rules, search rules, search rules, search rules)
 
 -- frontmatter with an empty line, and a paragraph: "+++\nx\n\n+++ \na"
 abbrev pub frontmatter_text : List ℕ
 frontmatter_text = codes "+++" ++ 10 ∷ codes "x" ++ 10 ∷ 10 ∷ codes "+++ " ++ 10 ∷ codes "a"
 
-abbrev frontmatter_events : List Event
+abbrev pub frontmatter_events : List Event
 frontmatter_events =
     around n.Frontmatter (at 1 1 0) (at 4 5 11)
     (around n.FrontmatterFence (at 1 1 0) (at 1 4 3)
@@ -509,29 +301,13 @@ frontmatter_tree = t.More (t.Frontmatter 43 (codes "x" ∷ [] ∷ [])) (t.More (
 
 row-frontmatter : Row frontmatter_text frontmatter_events frontmatter_tree
 unfolding spelled keeps_grammar
-row-frontmatter = record {
-  placed = refl;
-  before = refl;
-  after = refl;
-  nested = search rules;
-  lines = refl;
-  chunks = refl;
-  grammar = refl;
-  grammar_after = refl;
-  pieces_are = refl;
-  pieces_after = refl;
-  endings = refl;
-  endings_after = refl;
-  covers = search rules;
-  each = search rules;
-  empty = search rules;
-}
+row-frontmatter = (refl, refl, refl, search rules, search rules, search rules, search rules)
 
 -- a definition with an empty last line of its label, an empty destination and an empty title: "[a\n]: <> ''"
 abbrev pub empty_parts_text : List ℕ
 empty_parts_text = codes "[a" ++ 10 ∷ codes "]: <> ''"
 
-abbrev empty_parts_events : List Event
+abbrev pub empty_parts_events : List Event
 empty_parts_events =
     around n.Definition (at 1 1 0) (at 2 9 11)
     (around n.DefinitionLabel (at 1 1 0) (at 2 2 4)
@@ -555,29 +331,13 @@ empty_parts_tree = t.More (t.Definition (codes "a" ∷ [] ∷ []) [] (Some ([] �
 
 row-empty-parts : Row empty_parts_text empty_parts_events empty_parts_tree
 unfolding spelled keeps_grammar
-row-empty-parts = record {
-  placed = refl;
-  before = refl;
-  after = refl;
-  nested = search rules;
-  lines = refl;
-  chunks = refl;
-  grammar = refl;
-  grammar_after = refl;
-  pieces_are = refl;
-  pieces_after = refl;
-  endings = refl;
-  endings_after = refl;
-  covers = search rules;
-  each = search rules;
-  empty = search rules;
-}
+row-empty-parts = (refl, refl, refl, search rules, search rules, search rules, search rules)
 
 -- a definition with empty first lines of its label and its title: "[\n a]: b '\n c'"
 abbrev pub empty_lines_text : List ℕ
 empty_lines_text = codes "[" ++ 10 ∷ codes " a]: b '" ++ 10 ∷ codes " c'"
 
-abbrev empty_lines_events : List Event
+abbrev pub empty_lines_events : List Event
 empty_lines_events =
     around n.Definition (at 1 1 0) (at 3 4 14)
     (around n.DefinitionLabel (at 1 1 0) (at 2 4 5)
@@ -606,29 +366,13 @@ empty_lines_tree = t.More (t.Definition ([] ∷ codes "a" ∷ []) (codes "b") (S
 
 row-empty-lines : Row empty_lines_text empty_lines_events empty_lines_tree
 unfolding spelled keeps_grammar
-row-empty-lines = record {
-  placed = refl;
-  before = refl;
-  after = refl;
-  nested = search rules;
-  lines = refl;
-  chunks = refl;
-  grammar = refl;
-  grammar_after = refl;
-  pieces_are = refl;
-  pieces_after = refl;
-  endings = refl;
-  endings_after = refl;
-  covers = search rules;
-  each = search rules;
-  empty = search rules;
-}
+row-empty-lines = (refl, refl, refl, search rules, search rules, search rules, search rules)
 
 -- a table with a row of one empty cell: "| a | b\n:-|-\n|\n"
 abbrev pub table_text : List ℕ
 table_text = codes "| a | b" ++ 10 ∷ codes ":-|-" ++ 10 ∷ codes "|" ++ 10 ∷ []
 
-abbrev table_events : List Event
+abbrev pub table_events : List Event
 table_events =
     around n.GfmTable (at 1 1 0) (at 3 2 14)
     (around n.GfmTableHead (at 1 1 0) (at 2 5 12)
@@ -666,20 +410,4 @@ table_tree = t.More (t.Table (codes ":-|-") ((codes "a" ∷ codes "b" ∷ []) �
 
 row-table : Row table_text table_events table_tree
 unfolding spelled keeps_grammar
-row-table = record {
-  placed = refl;
-  before = refl;
-  after = refl;
-  nested = search rules;
-  lines = refl;
-  chunks = refl;
-  grammar = refl;
-  grammar_after = refl;
-  pieces_are = refl;
-  pieces_after = refl;
-  endings = refl;
-  endings_after = refl;
-  covers = search rules;
-  each = search rules;
-  empty = search rules;
-}
+row-table = (refl, refl, refl, search rules, search rules, search rules, search rules)
