@@ -11,15 +11,13 @@ use Rattle.md_meaning.specs.declared.outline.Word.TheVariants as word
 use Rattle.md_meaning.specs.Lines.{begins_with, is_ending}
 use Rattle.md_meaning.specs.Outline.{Entry, block_entries, entries, entry, entry_with}
 use Rattle.md_meaning.specs.Rest.{is_blank}
-use Rattle.md_meaning.specs.State.{then_block}
 use Rattle.md_meaning.specs.Texts.{split_lines, trim_further}
-use Rattle.md_meaning.specs.Tree.{Block, Definition, Line}
+use Rattle.md_meaning.specs.Tree.{Definition, Line}
 use Rattle.md_seam.specs.Events.Places.{last_line}
 use Rattle.md_seam.specs.Events.Spelled.{AsDestination, AsLabel, AsTitle, DefinitionLeaf, DefinitionSoFar, IsPrefix}
-use Rattle.md_seam.specs.Events.Spelled.{IsTitle, OfDefinition, OpenLeaf, LeafRole, Reading, TextRole, Text}
-use Rattle.md_seam.specs.Events.Spelled.{after_prefix, at_ending, at_title, before_prefix, begun, behind_title}
-use Rattle.md_seam.specs.Events.Spelled.{byte_at, columns_left, finished, first_told, next_line, on_leaf, read_enter}
-use Rattle.md_seam.specs.Events.Spelled.{read_exit, text_to}
+use Rattle.md_seam.specs.Events.Spelled.{IsTitle, Reading, TextRole, Text, after_prefix, at_ending, at_title}
+use Rattle.md_seam.specs.Events.Spelled.{before_prefix, begun, behind_title, byte_at, columns_left, first_told}
+use Rattle.md_seam.specs.Events.Spelled.{read_enter, read_exit, text_to}
 use Rattle.md_seam.specs.Events.Spelled as spelled
 use Rattle.md_seam.proofs.PlacesLemmas.{Some_line, some-split}
 use Rattle.md_outline.specs.DefinitionState.{part_ended, part_parted, part_word}
@@ -35,54 +33,16 @@ use Rattle.md_outline.specs.declared.outline.lined.Form.TheVariants as form
 use Rattle.md_outline.specs.declared.outline.lined.Lined.{Lined}
 use Rattle.md_outline.specs.declared.outline.role.Purpose.TheVariants as purpose
 use Rattle.md_outline.specs.declared.outline.role.Role.TheVariants as role
-use Rattle.md_outline.proofs.ClosedTrees.{HaveWords, depth_of, shown, shown-then, words-then}
+use Rattle.md_outline.proofs.ClosedTrees.{shown}
+use Rattle.md_outline.proofs.LeavesOpen.{Known, Shows, known-next, known-told}
 use Rattle.md_outline.proofs.LinedLines.{end-taken}
-use Rattle.md_outline.proofs.OutlineAgrees.{Agrees, TextIs, text-lines}
-use Rattle.md_outline.proofs.RoleLemmas.{by-ending}
-use Rattle.md_outline.proofs.SiteTexts.{IsOpen, Keeps, NoText, TextFrom, begins-texts, from-here, text-ending}
-use Rattle.md_outline.proofs.SiteTexts.{text-ends, text-line}
+use Rattle.md_outline.proofs.SiteTexts.{NoText, TextFrom, from-here, text-ends, text-line}
 use Rattle.md_outline.proofs.TextCuts.{first-piece, piece-entries}
 use Rattle.md_outline.proofs.TextPieces.{begins-behind}
 
 -- What is known of one that is open, which has told its label or not.
-pub record Defined (definition : DefinitionSoFar) (is_told : Bool) (s : OutlineState) (r : Reading) : Type 0 where
-  opened : r.leaf ≡ Some (DefinitionLeaf definition)
-  depth : s.depth ≡ depth_of r.outer
-  words : HaveWords r.outer r.here
-  untold : s.untold ≡ None
-  leaf : s.leaf ≡ None
-  lined : s.lined
-      ≡ Some (record { place = length (shown r.outer r.here); is_fenced = is_told; form = form.Definition })
-
--- and of what was shown of it
-pub record Shows (definition : DefinitionSoFar) (is_told : Bool) (lines : ℕ → List Entry) (s : OutlineState)
-    (r : Reading) : Type 0 where
-  is : Defined definition is_told s r
-  all : s.lines ≡ shown r.outer r.here ++ lines s.depth
-
-defined-open : (definition : DefinitionSoFar) (is_told : Bool) (s : OutlineState) (r : Reading) →
-    Defined definition is_told s r → IsOpen s r
-defined-open definition is_told s r is = record {
-  leaf = DefinitionLeaf definition;
-  lined = record { place = length (shown r.outer r.here); is_fenced = is_told; form = form.Definition };
-  read = is.opened;
-  shows = is.lined;
-}
-
-defined-keeps : (definition : DefinitionSoFar) (is_told : Bool) → Keeps (Defined definition is_told)
-defined-keeps definition is_told s r span spaces text is = record {
-  opened = is.opened;
-  depth = is.depth;
-  words = is.words;
-  untold = is.untold;
-  leaf = is.leaf;
-  lined = is.lined;
-}
-
-shows-keeps : (definition : DefinitionSoFar) (is_told : Bool) (lines : ℕ → List Entry) →
-    Keeps (Shows definition is_told lines)
-shows-keeps definition is_told lines s r span spaces text h =
-    record { is = defined-keeps definition is_told s r span spaces text h.is; all = h.all }
+abbrev pub Defined : DefinitionSoFar → Bool → OutlineState → Reading → Type 0
+Defined definition is_told s r = Known (DefinitionLeaf definition) form.Definition is_told s r
 
 -- A part of several lines: whether the label is told, what is known by then, what is shown in front of it, and the word
 -- of its lines.
@@ -110,14 +70,8 @@ empty_part part label destination depth =
 abbrev pub AtText : Part → OutlineState → Reading → Type 0
 AtText part s r =
     (label : List (List ℕ)) × (destination : List ℕ) ×
-    Shows (part_known part label destination) (label_known part) (empty_part part label destination) s r
-
-pub at_text-keeps : (part : Part) → Keeps (AtText part)
-at_text-keeps part s r span spaces text h = (
-  h.0,
-  h.1,
-  shows-keeps (part_known part h.0 h.1) (label_known part) (empty_part part h.0 h.1) s r span spaces text h.2,
-)
+    Shows (DefinitionLeaf (part_known part label destination)) form.Definition (label_known part)
+    (empty_part part label destination) s r
 
 -- in its text, behind a prefix: the lines in front are shown, and what follows will be shown by its own lines
 abbrev PartIs : Word → List Entry → ℕ → List Entry → Option TextSpan → Option Text → Type 0
@@ -148,92 +102,28 @@ known_all label destination title = record { label = label; destination = destin
 abbrev all_lines : List (List ℕ) → List ℕ → Option (List (List ℕ)) → ℕ → List Entry
 all_lines label destination title depth = block_entries depth (Definition label destination title)
 
+-- with these parts, all of which are shown
+abbrev Whole : List (List ℕ) → List ℕ → Option (List (List ℕ)) → OutlineState → Reading → Type 0
+Whole label destination title s r =
+    Shows (DefinitionLeaf (known_all label destination title)) form.Definition true (all_lines label destination title)
+    s r
+
 abbrev pub Behind : Left → OutlineState → Reading → Type 0
 Behind left s r =
     (label : List (List ℕ)) × (destination : List ℕ) × (title : Option (List (List ℕ))) ×
-    HasLeft left destination title ×
-    Shows (known_all label destination title) true (all_lines label destination title) s r
-
-pub behind-keeps : (left : Left) → Keeps (Behind left)
-behind-keeps left s r span spaces text h = (
-  h.0,
-  h.1,
-  h.2,
-  h.3,
-  shows-keeps (known_all h.0 h.1 h.2) true (all_lines h.0 h.1 h.2) s r span spaces text h.4,
-)
+    HasLeft left destination title × Whole label destination title s r
 
 -- in its destination
 abbrev pub InDestinationText : OutlineState → Reading → Type 0
-InDestinationText s r =
-    (label : List (List ℕ)) × Shows (known_all label [] None) true (all_lines label [] None) s r
+InDestinationText s r = (label : List (List ℕ)) × Whole label [] None s r
 
 -- and in its title, behind its text
 abbrev pub BehindText : OutlineState → Reading → Type 0
 BehindText s r =
     (label : List (List ℕ)) × (destination : List ℕ) × (title : List (List ℕ)) × Some_line title ×
-    Shows (known_all label destination (Some title)) true (all_lines label destination (Some title)) s r
-
--- at each of these it is open
-pub at_text-open : (part : Part) (s : OutlineState) (r : Reading) → AtText part s r → IsOpen s r
-at_text-open part s r h = defined-open (part_known part h.0 h.1) (label_known part) s r h.2.is
-
-pub in_text-open : (part : Part) (s : OutlineState) (r : Reading) → InText part s r → IsOpen s r
-in_text-open part s r h = defined-open (part_known part h.0 h.1) (label_known part) s r h.2
-
-pub behind-open : (left : Left) (s : OutlineState) (r : Reading) → Behind left s r → IsOpen s r
-behind-open left s r h = defined-open (known_all h.0 h.1 h.2) true s r h.4.is
-
-pub destination-open : (s : OutlineState) (r : Reading) → InDestinationText s r → IsOpen s r
-destination-open s r h = defined-open (known_all h.0 [] None) true s r h.1.is
-
-pub behind_text-open : (s : OutlineState) (r : Reading) → BehindText s r → IsOpen s r
-behind_text-open s r h = defined-open (known_all h.0 h.1 (Some h.2)) true s r h.4.is
-
--- It begins.
-
-pub definition-begins : (bytes : List ℕ) (p : Point) (s : OutlineState) (r : Reading) → s.text ≡ None → Agrees s r →
-    AtText LabelPart (state_enter bytes (role.Lined word.Definition) p s) (read_enter bytes (LeafRole OfDefinition) p r)
-    × NoText (state_enter bytes (role.Lined word.Definition) p s) (read_enter bytes (LeafRole OfDefinition) p r)
-definition-begins bytes p s r none is =
-    let text : r.text ≡ None = begins-texts s r none is in
-    let same : s.lines ≡ shown r.outer r.here =
-    text-lines (shown r.outer r.here) s.depth s.lines None None refl
-    (subst (λ span. TextIs (shown r.outer r.here) s.depth s.lines span None) none
-    (subst (λ t. TextIs (shown r.outer r.here) s.depth s.lines s.text t) text is.text)) in (
-      (
-        [],
-        [],
-        record {
-          is = record {
-            opened = refl;
-            depth = is.depth;
-            words = is.words;
-            untold = is.untold;
-            leaf = refl;
-            lined =
-                ap
-                (λ (es : List Entry).
-                Some (record { place = length es; is_fenced = false; form = form.Definition })) same;
-          };
-          all = ap (λ es. es ++ entry s.depth word.Definition ∷ entry (s.depth + 1) word.Label ∷ []) same;
-        },
-      ),
-      (none, text),
-    )
+    Whole label destination (Some title) s r
 
 -- Its texts.
-
--- one begins
-pub part-begins : (part : Part) (p : Point) (s : OutlineState) (r : Reading) → AtText part s r →
-    AtText part (record s { text = Some (record { from = byte_at p; is_parted = false }); spaces = columns_left p })
-    (record r { text = Some (begun p) })
-    × TextFrom p (record s { text = Some (record { from = byte_at p; is_parted = false }); spaces = columns_left p })
-    (record r { text = Some (begun p) })
-part-begins part p s r h = (
-  at_text-keeps part s r (Some (record { from = byte_at p; is_parted = false })) (columns_left p) (Some (begun p)) h,
-  from-here p s r,
-)
 
 -- the empty line is taken away
 front-left : (part : Part) (label : List (List ℕ)) (destination : List ℕ) (s : OutlineState) (r : Reading) →
@@ -271,8 +161,8 @@ part-parts bytes part q p s r some k h =
     (sym (ap (λ x. parts_by bytes Enter IsPrefix p x) h.1.span) ∙ k)).1 in
     let shows : lines ≡ before ++ first_full_as w (s.depth + 1) piece =
     piece-of part (is_titled s.lined || false) false s.depth piece s.lines (length (shown r.outer r.here)) s.lined
-    h.0.2.is.lined
-    ∙ ap (λ es. es ++ first_full_as w (s.depth + 1) piece) (front-left part h.0.0 h.0.1 s r h.0.2.all) in
+    h.0.2.0.lined
+    ∙ ap (λ es. es ++ first_full_as w (s.depth + 1) piece) (front-left part h.0.0 h.0.1 s r h.0.2.1) in
     subst
     (λ (x : Option TextSpan).
     InText part (parted_at bytes p.index x s) (record r { text = option_map (before_prefix bytes p) r.text }))
@@ -283,14 +173,7 @@ part-parts bytes part q p s r some k h =
     (sym h.1.text) (
       h.0.0,
       h.0.1,
-      record {
-        opened = h.0.2.is.opened;
-        depth = h.0.2.is.depth;
-        words = h.0.2.is.words;
-        untold = h.0.2.is.untold;
-        leaf = h.0.2.is.leaf;
-        lined = h.0.2.is.lined;
-      },
+      h.0.2.0,
       (
         refl,
         refl,
@@ -329,14 +212,7 @@ further-parts bytes part label destination p s r (Some span) (Some text) k is h 
     let full : List Entry = full_as w (s.depth + 1) piece in (
       label,
       destination,
-      record {
-        opened = is.opened;
-        depth = is.depth;
-        words = is.words;
-        untold = is.untold;
-        leaf = is.leaf;
-        lined = is.lined;
-      },
+      is,
       (
         refl,
         h.1,
@@ -371,22 +247,10 @@ part-from w p before depth lines _ _ h = absurd h
 pub part-on : (part : Part) (p : Point) (s : OutlineState) (r : Reading) → InText part s r →
     InText part (record s { text = option_map (λ (t : TextSpan). record t { from = byte_at p }) s.text })
     (record r { text = option_map (after_prefix p) r.text })
-part-on part p s r h = (
-  h.0,
-  h.1,
-  defined-keeps (part_known part h.0 h.1) (label_known part) s r
-      (option_map (λ (t : TextSpan). record t { from = byte_at p }) s.text) s.spaces
-      (option_map (after_prefix p) r.text) h.2,
-  part-from (shown_by part) p (front_lines part h.0 h.1 s r) s.depth s.lines s.text r.text h.3,
-)
+part-on part p s r h =
+    (h.0, h.1, h.2, part-from (shown_by part) p (front_lines part h.0 h.1 s r) s.depth s.lines s.text r.text h.3)
 
 -- a line ending is a part of it
-pub first-line : (bytes : List ℕ) (part : Part) (q p : Point) (s : OutlineState) (r : Reading) →
-    AtText part s r × TextFrom q s r →
-    AtText part (line_ended bytes p.index s.lined s.text s) (at_ending bytes p r.text r)
-    × TextFrom q (line_ended bytes p.index s.lined s.text s) (at_ending bytes p r.text r)
-first-line bytes part q p s r h = text-ending (λ s r. AtText part s r × TextFrom q s r) bytes q p s r h.1 h
-
 line-stays : (bytes : List ℕ) (part : Part) (p : Point) (s : OutlineState) (r : Reading) (w : Word)
     (before : List Entry) (span : Option TextSpan) (text : Option Text) → PartIs w before s.depth s.lines span text →
     InText part s r → InText part (line_ended bytes p.index s.lined span s) (at_ending bytes p text r)
@@ -443,20 +307,12 @@ label-told is_parted piece destination label line s r is lines =
         [],
         None,
         (refl, refl),
-        record {
-          is = record {
-            opened = ap (option_map (spelled.noted AsLabel line)) is.opened;
-            depth = is.depth;
-            words = is.words;
-            untold = is.untold;
-            leaf = is.leaf;
-            lined = ap now_told is.lined;
-          };
-          all =
-              ap (λ es. es ++ end) lines
+        (
+          known-told (spelled.noted AsLabel line) is refl is.leaf (ap now_told is.lined),
+          ap (λ es. es ++ end) lines
               ∙ append_assoc (before ++ head) labels end
-              ∙ append_assoc before head (labels ++ end);
-        },
+              ∙ append_assoc before head (labels ++ end),
+        ),
       ),
       (refl, refl),
     )
@@ -486,8 +342,8 @@ pub label-first : (bytes : List ℕ) (q p : Point) (s : OutlineState) (r : Readi
 label-first bytes q p s r h =
     let piece : List ℕ = slice_range bytes (byte_at q) p.index in
     text-ends (λ s r. Behind DestinationLeft s r × NoText s r) bytes q p AsLabel purpose.Label s r h.1
-    (label-told false piece h.0.1 h.0.0 (record { spaces = columns_left q; text = piece }) s r h.0.2.is
-    (first-ends LabelPart h.0.0 h.0.1 piece s r h.0.2.all))
+    (label-told false piece h.0.1 h.0.0 (record { spaces = columns_left q; text = piece }) s r h.0.2.0
+    (first-ends LabelPart h.0.0 h.0.1 piece s r h.0.2.1))
 
 -- and that of its title
 titled-lines : (label : List (List ℕ)) (destination : List ℕ) (title : List (List ℕ)) (depth : ℕ) →
@@ -518,21 +374,13 @@ title-told is_parted piece destination label line s r is lines =
         destination,
         title,
         some-further (split_lines line.text) (some-split line.text),
-        record {
-          is = record {
-            opened = ap (option_map (spelled.noted AsTitle line)) is.opened;
-            depth = is.depth;
-            words = is.words;
-            untold = is.untold;
-            leaf = is.leaf;
-            lined = is.lined;
-          };
-          all =
-              lines
+        (
+          known-next (spelled.noted AsTitle line) is refl,
+          lines
               ∙ append_assoc before (all_lines label destination None s.depth)
               (entries (s.depth + 1) word.Title title)
-              ∙ ap (λ es. before ++ es) (titled-lines label destination title s.depth);
-        },
+              ∙ ap (λ es. before ++ es) (titled-lines label destination title s.depth),
+        ),
       ),
       (refl, refl),
     )
@@ -562,59 +410,17 @@ pub title-first : (bytes : List ℕ) (q p : Point) (s : OutlineState) (r : Readi
 title-first bytes q p s r h =
     let piece : List ℕ = slice_range bytes (byte_at q) p.index in
     text-ends (λ s r. BehindText s r × NoText s r) bytes q p AsTitle purpose.DefinitionTitle s r h.1
-    (title-told false piece h.0.1 h.0.0 (record { spaces = columns_left q; text = piece }) s r h.0.2.is
-    (first-ends TitlePart h.0.0 h.0.1 piece s r h.0.2.all))
+    (title-told false piece h.0.1 h.0.0 (record { spaces = columns_left q; text = piece }) s r h.0.2.0
+    (first-ends TitlePart h.0.0 h.0.1 piece s r h.0.2.1))
 
 -- Behind its label.
-
--- a line ending opens no line of it
-behind-next : (left : Left) (s : OutlineState) (r : Reading) → Behind left s r → Behind left s (on_leaf next_line r)
-behind-next left s r h = (
-  h.0,
-  h.1,
-  h.2,
-  h.3,
-  record {
-    is = record {
-      opened = ap (option_map next_line) h.4.is.opened;
-      depth = h.4.is.depth;
-      words = h.4.is.words;
-      untold = h.4.is.untold;
-      leaf = h.4.is.leaf;
-      lined = h.4.is.lined;
-    };
-    all = h.4.all;
-  },
-)
-
-pub behind-line : (bytes : List ℕ) (left : Left) (p : Point) (s : OutlineState) (r : Reading) →
-    Behind left s r × NoText s r →
-    Behind left (line_ended bytes p.index s.lined s.text s) (at_ending bytes p r.text r)
-    × NoText (line_ended bytes p.index s.lined s.text s) (at_ending bytes p r.text r)
-behind-line bytes left p s r is =
-    subst
-    (λ (l : Option Lined).
-    Behind left (line_ended bytes p.index l s.text s) (at_ending bytes p r.text r)
-    × NoText (line_ended bytes p.index l s.text s) (at_ending bytes p r.text r))
-    (sym is.0.4.is.lined)
-    (subst
-    (λ (span : Option TextSpan).
-    Behind left (line_ended bytes p.index (Some head) span s) (at_ending bytes p r.text r)
-    × NoText (line_ended bytes p.index (Some head) span s) (at_ending bytes p r.text r))
-    (sym is.1.0)
-    (by-ending (λ now. Behind left s now × NoText s now) bytes p r.text r is (behind-next left s r is.0, is.1)))
-  where
-    head : Lined
-    head = record { place = length (shown r.outer r.here); is_fenced = true; form = form.Definition }
 
 -- with what is known to be there
 shows-known : (label : List (List ℕ)) (destination known : List ℕ) (title known_title : Option (List (List ℕ)))
     (s : OutlineState) (r : Reading) → destination ≡ known → title ≡ known_title →
-    Shows (known_all label destination title) true (all_lines label destination title) s r →
-    Shows (known_all label known known_title) true (all_lines label known known_title) s r
+    Whole label destination title s r → Whole label known known_title s r
 shows-known label destination known title known_title s r same same_title h =
-    subst (λ t. Shows (known_all label known t) true (all_lines label known t) s r) same_title
-    (subst (λ d. Shows (known_all label d title) true (all_lines label d title) s r) same h)
+    subst (λ t. Whole label known t s r) same_title (subst (λ d. Whole label d title s r) same h)
 
 -- its destination begins
 nothing-told : (left : Left) (destination : List ℕ) (title : Option (List (List ℕ))) → MayHaveDestination left →
@@ -632,19 +438,12 @@ pub destination-begins : (left : Left) (p : Point) (s : OutlineState) (r : Readi
     TextFrom q (record s { text = Some (record { from = byte_at p; is_parted = false }); spaces = columns_left p })
     (record r { text = Some (begun p) }))
 destination-begins left p s r may h =
-    let none = nothing-told left h.1 h.2 may h.3 in (
-      (
-        h.0,
-        shows-keeps (known_all h.0 [] None) true (all_lines h.0 [] None) s r
-            (Some (record { from = byte_at p; is_parted = false })) (columns_left p) (Some (begun p))
-            (shows-known h.0 h.1 [] h.2 None s r none.0 none.1 h.4),
-      ),
-      (p, from-here p s r),
-    )
+    let none = nothing-told left h.1 h.2 may h.3 in
+    ((h.0, shows-known h.0 h.1 [] h.2 None s r none.0 none.1 h.4), (p, from-here p s r))
 
 -- and ends
 destination-filled : (label : List (List ℕ)) (line : Line) (s : OutlineState) (r : Reading) →
-    Shows (known_all label [] None) true (all_lines label [] None) s r →
+    Whole label [] None s r →
     Behind TitleLeft (told purpose.Destination false line.text (record s { text = None }))
     (spelled.told AsDestination line (record r { text = None }))
     × NoText (told purpose.Destination false line.text (record s { text = None }))
@@ -659,20 +458,12 @@ destination-filled label line s r h =
         line.text,
         None,
         refl,
-        record {
-          is = record {
-            opened = ap (option_map (spelled.noted AsDestination line)) h.is.opened;
-            depth = h.is.depth;
-            words = h.is.words;
-            untold = h.is.untold;
-            leaf = h.is.leaf;
-            lined = h.is.lined;
-          };
-          all =
-              ap (λ es. without_end es ++ end) (h.all ∙ sym (append_assoc before front (none ∷ [])))
+        (
+          known-next (spelled.noted AsDestination line) h.0 refl,
+          ap (λ es. without_end es ++ end) (h.1 ∙ sym (append_assoc before front (none ∷ [])))
               ∙ ap (λ es. es ++ end) (end-taken (before ++ front) none)
-              ∙ append_assoc before front end;
-        },
+              ∙ append_assoc before front end,
+        ),
       ),
       (refl, refl),
     )
@@ -703,19 +494,11 @@ title-begins bytes left p s r may h =
       (
         h.0.0,
         h.0.1,
-        record {
-          is = record {
-            opened = ap (option_map at_title) known.is.opened;
-            depth = known.is.depth;
-            words = known.is.words;
-            untold = known.is.untold;
-            leaf = known.is.leaf;
-            lined = known.is.lined;
-          };
-          all =
-              ap (λ es. es ++ line) known.all
-              ∙ append_assoc (shown r.outer r.here) (all_lines h.0.0 h.0.1 None s.depth) line;
-        },
+        (
+          known-next at_title known.0 refl,
+          ap (λ es. es ++ line) known.1
+              ∙ append_assoc (shown r.outer r.here) (all_lines h.0.0 h.0.1 None s.depth) line,
+        ),
       ),
       h.1,
     )
@@ -730,18 +513,10 @@ title-empty bytes p s r h = (
     h.0.1,
     Some ([] ∷ []),
     tt,
-    record {
-      is = record {
-        opened = ap (option_map behind_title) h.0.2.is.opened;
-        depth = h.0.2.is.depth;
-        words = h.0.2.is.words;
-        untold = h.0.2.is.untold;
-        leaf = h.0.2.is.leaf;
-        lined = h.0.2.is.lined;
-      };
-      all =
-          h.0.2.all ∙ ap (λ es. shown r.outer r.here ++ es) (titled-lines h.0.0 h.0.1 ([] ∷ []) s.depth);
-    },
+    (
+      known-next behind_title h.0.2.0 refl,
+      h.0.2.1 ∙ ap (λ es. shown r.outer r.here ++ es) (titled-lines h.0.0 h.0.1 ([] ∷ []) s.depth),
+    ),
   ),
   h.1,
 )
@@ -760,41 +535,11 @@ title-full bytes p s r h = (
     h.0.1,
     Some h.0.2,
     tt,
-    record {
-      is = record {
-        opened =
-            ap (option_map behind_title) h.0.4.is.opened
-            ∙ ap (λ t. Some (DefinitionLeaf (known_all h.0.0 h.0.1 (Some t)))) (stays-told h.0.2 ([] ∷ []) h.0.3);
-        depth = h.0.4.is.depth;
-        words = h.0.4.is.words;
-        untold = h.0.4.is.untold;
-        leaf = h.0.4.is.leaf;
-        lined = h.0.4.is.lined;
-      };
-      all = h.0.4.all;
-    },
+    (
+      known-next behind_title h.0.4.0
+          (ap (λ t. DefinitionLeaf (known_all h.0.0 h.0.1 (Some t))) (stays-told h.0.2 ([] ∷ []) h.0.3)),
+      h.0.4.1,
+    ),
   ),
   h.1,
 )
-
--- It ends.
-
-pub definition-ends : (left : Left) (s : OutlineState) (r : Reading) → Behind left s r → NoText s r →
-    Agrees (record s { lined = None }) (finished r.leaf r)
-definition-ends left s r h none =
-    let block : Block = Definition h.0 h.1 h.2 in
-    subst (λ (l : Option OpenLeaf). Agrees (record s { lined = None }) (finished l r)) (sym h.4.is.opened)
-    (record {
-      depth = h.4.is.depth;
-      words = words-then r.outer r.here block h.4.is.words;
-      untold = h.4.is.untold;
-      lined = refl;
-      leaf = h.4.is.leaf;
-      known = tt;
-      text =
-          subst (λ span. TextIs (shown r.outer (then_block r.here block)) s.depth s.lines span r.text) (sym none.0)
-          (subst (λ text. TextIs (shown r.outer (then_block r.here block)) s.depth s.lines None text) (sym none.1)
-          (h.4.all
-          ∙ ap (λ d. shown r.outer r.here ++ block_entries d block) h.4.is.depth
-          ∙ sym (shown-then r.outer r.here block h.4.is.words)));
-    })

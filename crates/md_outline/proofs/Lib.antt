@@ -9,6 +9,7 @@ pub mod FrontPass
 pub mod HeadingLemmas
 pub mod KindLemmas
 pub mod LayerOutlined
+pub mod LeavesOpen
 pub mod LinedLemmas
 pub mod LinedLines
 pub mod LinedSteps

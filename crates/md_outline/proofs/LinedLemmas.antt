@@ -1,5 +1,6 @@
 -- Leaf blocks of several lines: an outline shows their lines as they come. Of setext headings `TitledLemmas` has it, of
--- definitions `DefinedLemmas`, and of tables `TabledLemmas`; `LinedSteps` has all of them, event by event.
+-- definitions `DefinedLemmas`, and of tables `TabledLemmas`; `LeavesOpen` has what is the same for all, and `LinedSteps`
+-- has all of them, event by event.
 use Rattle.std.proofs.Common.{◌≡◌, ℕ, ◌+◌, Bool, true, false, cond, ◌==◌, List, [], ◌∷◌, ◌++◌, length}
 use Rattle.std.proofs.Common.{map, refl, sym, ◌∙◌, ap, subst, append_assoc, arith}
 use Rattle.std.specs.Prelude.{None, Option, Some, nat_lt, option_map}
@@ -9,21 +10,18 @@ use Rattle.md_engine.specs.declared.event.Point.{Point}
 use Rattle.md_meaning.specs.declared.outline.Word.{Word}
 use Rattle.md_meaning.specs.declared.outline.Word.TheVariants as word
 use Rattle.md_meaning.specs.Outline.{Entry, block_entries, entries, entry, entry_with, line_entry, part_entry}
-use Rattle.md_meaning.specs.State.{then_block}
 use Rattle.md_meaning.specs.Texts.{first_byte}
 use Rattle.md_meaning.specs.Tree.{Line}
 use Rattle.md_seam.specs.Events.Spelled.{AsInfo, AsLine, AsMarkers, AsMeta, CodeLeaf, FenceLeaf, FrontmatterLeaf}
 use Rattle.md_seam.specs.Events.Spelled.{HtmlLeaf, LeafKind, MathLeaf, OfCode, OfFence, OfFrontmatter, OfHtml, OfMath}
-use Rattle.md_seam.specs.Events.Spelled.{OpenLeaf, LeafRole, Reading, Text, at_ending, at_fence, block_of, empty_line}
-use Rattle.md_seam.specs.Events.Spelled.{finished, fresh, joined, next_line, on_last, on_leaf, read_enter, read_exit}
-use Rattle.md_seam.specs.Events.Spelled.{without_last}
+use Rattle.md_seam.specs.Events.Spelled.{OpenLeaf, LeafRole, Reading, at_ending, at_fence, block_of, empty_line}
+use Rattle.md_seam.specs.Events.Spelled.{finished, joined, next_line, on_last, on_leaf, read_exit, without_last}
 use Rattle.md_seam.specs.Events.Spelled as spelled
-use Rattle.md_outline.specs.LinedState.{begin_lines, closed_word, filled_line, form_of, has_own_lines, marked_word}
-use Rattle.md_outline.specs.LinedState.{shown_spaces, spaces_of, with_head, without_end}
+use Rattle.md_outline.specs.LinedState.{closed_word, filled_line, has_own_lines, marked_word, shown_spaces, spaces_of}
+use Rattle.md_outline.specs.LinedState.{with_head, without_end}
 use Rattle.md_outline.specs.LinesStand.{HasFences, HasInfo, HasLines, HasMeta}
-use Rattle.md_outline.specs.Outlined.{is_unparted}
-use Rattle.md_outline.specs.OutlineSteps.{OutlineState, fence_begun, head_marked, line_ended, state_enter, state_exit}
-use Rattle.md_outline.specs.OutlineSteps.{told, told_leaf}
+use Rattle.md_outline.specs.OutlineSteps.{OutlineState, fence_begun, head_marked, line_ended, state_exit, told}
+use Rattle.md_outline.specs.OutlineSteps.{told_leaf}
 use Rattle.md_outline.specs.Roles.{shown_as}
 use Rattle.md_outline.specs.declared.outline.TextSpan.{TextSpan}
 use Rattle.md_outline.specs.declared.outline.lined.Form.{Form}
@@ -31,11 +29,11 @@ use Rattle.md_outline.specs.declared.outline.lined.Form.TheVariants as form
 use Rattle.md_outline.specs.declared.outline.lined.Lined.{Lined}
 use Rattle.md_outline.specs.declared.outline.role.Note.TheVariants as note
 use Rattle.md_outline.specs.declared.outline.role.Purpose.TheVariants as purpose
-use Rattle.md_outline.specs.declared.outline.role.Role.TheVariants as role
-use Rattle.md_outline.proofs.ClosedTrees.{HaveWords, depth_of, shown, shown-then, words-then}
+use Rattle.md_outline.proofs.ClosedTrees.{shown}
+use Rattle.md_outline.proofs.LeavesOpen.{Shows, known-next, known-open, known-told, open-ends}
 use Rattle.md_outline.proofs.LinedLines.{end-taken, head-told, on-last}
-use Rattle.md_outline.proofs.OutlineAgrees.{Agrees, TextIs, text-lines}
-use Rattle.md_outline.proofs.SiteTexts.{IsOpen, Keeps, NoText}
+use Rattle.md_outline.proofs.OutlineAgrees.{Agrees}
+use Rattle.md_outline.proofs.SiteTexts.{IsOpen, NoText}
 
 -- Such a leaf block, and its lines.
 
@@ -95,42 +93,11 @@ lined-shown OfHtml depth markers info meta lines closed = refl
 lined-shown _ depth markers info meta lines closed = refl
 
 -- What an outline has shown of one that is open: its lines, as if it ended here.
-pub record Lining (kind : LeafKind) (markers : List ℕ) (info meta : Option (List ℕ)) (lines : List Line) (closed : Bool)
-    (fenced : Bool) (s : OutlineState) (r : Reading) : Type 0 where
-  opened : r.leaf ≡ Some (lined_leaf kind markers info meta lines closed)
-  depth : s.depth ≡ depth_of r.outer
-  words : HaveWords r.outer r.here
-  untold : s.untold ≡ None
-  leaf : s.leaf ≡ None
-  lined : s.lined
-      ≡ Some (record { place = length (shown r.outer r.here); is_fenced = fenced; form = lined_form kind })
-  all : s.lines ≡ shown r.outer r.here ++ lined_entries kind s.depth markers info meta lines closed
-
--- whatever text is read
-pub texted : (kind : LeafKind) (markers : List ℕ) (info meta : Option (List ℕ)) (lines : List Line) (closed : Bool)
-    (fenced : Bool) (s : OutlineState) (r : Reading) (span : Option TextSpan) (spaces : ℕ) (text : Option Text) →
-    Lining kind markers info meta lines closed fenced s r →
-    Lining kind markers info meta lines closed fenced (record s { text = span; spaces = spaces })
-    (record r { text = text })
-texted kind markers info meta lines closed fenced s r span spaces text is = record {
-  opened = is.opened;
-  depth = is.depth;
-  words = is.words;
-  untold = is.untold;
-  leaf = is.leaf;
-  lined = is.lined;
-  all = is.all;
-}
-
-pub lining-open : (kind : LeafKind) (markers : List ℕ) (info meta : Option (List ℕ)) (lines : List Line) (closed : Bool)
-    (fenced : Bool) (s : OutlineState) (r : Reading) → Lining kind markers info meta lines closed fenced s r →
-    IsOpen s r
-lining-open kind markers info meta lines closed fenced s r is = record {
-  leaf = lined_leaf kind markers info meta lines closed;
-  lined = record { place = length (shown r.outer r.here); is_fenced = fenced; form = lined_form kind };
-  read = is.opened;
-  shows = is.lined;
-}
+abbrev pub Lining : LeafKind → List ℕ → Option (List ℕ) → Option (List ℕ) → List Line → Bool → Bool → OutlineState →
+    Reading → Type 0
+Lining kind markers info meta lines closed fenced s r =
+    Shows (lined_leaf kind markers info meta lines closed) (lined_form kind) fenced
+    (λ depth. lined_entries kind depth markers info meta lines closed) s r
 
 -- a leaf block with fences has told its markers, if it is said to
 abbrev pub IsMarked : LeafKind → List ℕ → Bool → Type 0
@@ -140,27 +107,10 @@ IsMarked OfFrontmatter markers fenced = (fenced ≡ true) × ((first_byte marker
 IsMarked _ markers fenced = Unit {0}
 
 -- What is known of it behind its markers, if it has some.
-pub record Marked (kind : LeafKind) (info meta : Option (List ℕ)) (lines : List Line) (closed : Bool) (s : OutlineState)
-    (r : Reading) : Type 0 where
-  pub markers : List ℕ
-  pub fenced : Bool
-  pub marked : IsMarked kind markers fenced
-  pub is : Lining kind markers info meta lines closed fenced s r
-
-pub again : (kind : LeafKind) (info meta : Option (List ℕ)) (lines : List Line) (closed : Bool) (s : OutlineState)
-    (r : Reading) (span : Option TextSpan) (spaces : ℕ) (text : Option Text) → Marked kind info meta lines closed s r →
-    Marked kind info meta lines closed (record s { text = span; spaces = spaces }) (record r { text = text })
-again kind info meta lines closed s r span spaces text m = record {
-  markers = m.markers;
-  fenced = m.fenced;
-  marked = m.marked;
-  is = texted kind m.markers info meta lines closed m.fenced s r span spaces text m.is;
-}
-
-pub marked-open : (kind : LeafKind) (info meta : Option (List ℕ)) (lines : List Line) (closed : Bool) (s : OutlineState)
-    (r : Reading) → Marked kind info meta lines closed s r → IsOpen s r
-marked-open kind info meta lines closed s r m =
-    lining-open kind m.markers info meta lines closed m.fenced s r m.is
+abbrev pub Marked : LeafKind → Option (List ℕ) → Option (List ℕ) → List Line → Bool → OutlineState → Reading → Type 0
+Marked kind info meta lines closed s r =
+    (markers : List ℕ) × (fenced : Bool) × IsMarked kind markers fenced ×
+    Lining kind markers info meta lines closed fenced s r
 
 -- with a line that is empty yet, or with any
 abbrev pub OnLine : LeafKind → OutlineState → Reading → Type 0
@@ -180,40 +130,12 @@ InTextOf kind _ s r = ⊥
 
 pub text-open : (kind : LeafKind) (x : spelled.Purpose) (s : OutlineState) (r : Reading) → InTextOf kind x s r →
     IsOpen s r
-text-open kind AsInfo s r is = marked-open kind None None [] false s r is.1
-text-open kind AsMeta s r is = marked-open kind is.1.0 None [] false s r is.1.1
-text-open kind AsLine s r is = marked-open kind is.0 is.1 (is.2 ++ empty_line ∷ []) false s r is.3
+text-open kind AsInfo s r is = known-open s r is.1.3.0
+text-open kind AsMeta s r is = known-open s r is.1.1.3.0
+text-open kind AsLine s r is = known-open s r is.3.3.0
 text-open kind _ s r is = absurd is
 
--- It begins.
-
-pub lining-begins : (bytes : List ℕ) (kind : LeafKind) (w : Word) (lines : List Line) (p : Point) (s : OutlineState)
-    (r : Reading) → form_of w ≡ lined_form kind → fresh kind ≡ lined_leaf kind [] None None lines false →
-    begin_lines s.depth w ≡ lined_entries kind s.depth [] None None lines false → s.text ≡ None → Agrees s r →
-    Lining kind [] None None lines false false (state_enter bytes (role.Lined w) p s) (read_enter bytes (LeafRole kind) p r)
-lining-begins bytes kind w lines p s r other leaf begins none is =
-    let same : s.lines ≡ shown r.outer r.here =
-    text-lines (shown r.outer r.here) s.depth s.lines s.text r.text (ap is_unparted none) is.text in
-    record {
-      opened = ap Some leaf;
-      depth = is.depth;
-      words = is.words;
-      untold = is.untold;
-      leaf = refl;
-      lined =
-          ap
-          (λ (es : List Entry).
-          Some (record { place = length es; is_fenced = false; form = form_of w }))
-          same
-          ∙ ap
-          (λ x.
-          Some (record { place = length (shown r.outer r.here); is_fenced = false; form = x }))
-          other;
-      all =
-          ap (λ es. es ++ begin_lines s.depth w) same ∙ ap (λ es. shown r.outer r.here ++ es) begins;
-    }
-
--- a fence begins in front of its markers
+-- It begins: a fence does in front of its markers.
 first-leaf : (kind : LeafKind) →
     at_fence (lined_leaf kind [] None None [] false) ≡ lined_leaf kind [] None None [] false
 first-leaf OfFence = refl
@@ -225,16 +147,8 @@ first-leaf _ = refl
 pub fence-begins : (kind : LeafKind) (s : OutlineState) (r : Reading) → Lining kind [] None None [] false false s r →
     Lining kind [] None None [] false false (fence_begun s.lined s) (on_leaf at_fence r)
 fence-begins kind s r is =
-    subst (λ l. Lining kind [] None None [] false false (fence_begun l s) (on_leaf at_fence r)) (sym is.lined)
-    (record {
-      opened = ap (option_map at_fence) is.opened ∙ ap Some (first-leaf kind);
-      depth = is.depth;
-      words = is.words;
-      untold = is.untold;
-      leaf = is.leaf;
-      lined = is.lined;
-      all = is.all;
-    })
+    subst (λ l. Lining kind [] None None [] false false (fence_begun l s) (on_leaf at_fence r)) (sym is.0.lined)
+    (known-next at_fence is.0 (first-leaf kind), is.1)
 
 -- Its lines grow.
 
@@ -269,25 +183,18 @@ line-begins : (kind : LeafKind) (info meta : Option (List ℕ)) (lines : List Li
     Marked kind info meta lines false s r →
     Marked kind info meta (lines ++ empty_line ∷ []) false
     (record s { lines = s.lines ++ entry (s.depth + 1) word.Line ∷ [] }) (on_leaf next_line r)
-line-begins kind info meta lines s r m = record {
-  markers = m.markers;
-  fenced = m.fenced;
-  marked = m.marked;
-  is = record {
-    opened = ap (option_map next_line) m.is.opened ∙ ap Some (next-lined kind m.markers info meta lines false);
-    depth = m.is.depth;
-    words = m.is.words;
-    untold = m.is.untold;
-    leaf = m.is.leaf;
-    lined = m.is.lined;
-    all =
-        ap (λ es. es ++ entry (s.depth + 1) word.Line ∷ []) m.is.all
-        ∙ ap
-        (λ e. (shown r.outer r.here ++ lined_entries kind s.depth m.markers info meta lines false) ++ e ∷ [])
+line-begins kind info meta lines s r m = (
+  m.0,
+  m.1,
+  m.2,
+  (
+    known-next next_line m.3.0 (next-lined kind m.0 info meta lines false),
+    ap (λ es. es ++ entry (s.depth + 1) word.Line ∷ []) m.3.1
+        ∙ ap (λ e. (shown r.outer r.here ++ lined_entries kind s.depth m.0 info meta lines false) ++ e ∷ [])
         (sym (empty-line kind (s.depth + 1)))
-        ∙ sym (grown-lines (shown r.outer r.here) kind s.depth m.markers info meta lines false empty_line);
-  };
-}
+        ∙ sym (grown-lines (shown r.outer r.here) kind s.depth m.0 info meta lines false empty_line),
+  ),
+)
 
 -- a line ending
 own-lines : (kind : LeafKind) → has_own_lines (lined_form kind) ≡ true
@@ -301,8 +208,8 @@ pub ending-agrees : (P : Bool → OutlineState → Reading → Type 0) (bytes : 
 ending-agrees P bytes p kind s r e none opens stays =
     let further : Bool = nat_lt p.index (length bytes) in
     let lined : Lined =
-    record { place = length (shown r.outer r.here); is_fenced = e.3.fenced; form = lined_form kind } in
-    subst (λ l. P further (line_ended bytes p.index l s.text s) (at_ending bytes p r.text r)) (sym e.3.is.lined)
+    record { place = length (shown r.outer r.here); is_fenced = e.3.1; form = lined_form kind } in
+    subst (λ l. P further (line_ended bytes p.index l s.text s) (at_ending bytes p r.text r)) (sym e.3.3.0.lined)
     (subst (λ span. P further (line_ended bytes p.index (Some lined) span s) (at_ending bytes p r.text r)) (sym none.0)
     (subst (λ text. P further (line_ended bytes p.index (Some lined) None s) (at_ending bytes p text r)) (sym none.1)
     (subst (λ (own : Bool). P further (cond own (cond further opened s) s) (cond further (on_leaf next_line r) r))
@@ -356,27 +263,20 @@ markers-told kind line s r h some is =
     Marked kind None None [] false
     (head_marked lined line.text (told_leaf note.Markers line.text (record s { text = None })))
     (spelled.told AsMarkers line (record r { text = None })))
-    (sym is.lined)
-    (record {
-      markers = line.text;
-      fenced = true;
-      marked = is-marked kind line.text h some;
-      is = record {
-        opened = ap (option_map (spelled.noted AsMarkers line)) is.opened ∙ ap Some (marks-leaf kind line h);
-        depth = is.depth;
-        words = is.words;
-        untold = is.untold;
-        leaf =
-            ap (option_map (spelled.noted AsMarkers (record { spaces = 0; text = line.text }))) is.leaf;
-        lined = refl;
-        all =
-            ap (with_head (marked_word b) (length before)) is.all
-            ∙ head-told (marked_word b) before
-            (lined_parts kind (s.depth + 1) None None ++ []) (entry s.depth (lined_word kind 0 false))
+    (sym is.0.lined) (
+      line.text,
+      true,
+      is-marked kind line.text h some,
+      (
+        known-told (spelled.noted AsMarkers line) is.0 (marks-leaf kind line h)
+            (ap (option_map (spelled.noted AsMarkers (record { spaces = 0; text = line.text }))) is.0.leaf) refl,
+        ap (with_head (marked_word b) (length before)) is.1
+            ∙ head-told (marked_word b) before (lined_parts kind (s.depth + 1) None None ++ [])
+            (entry s.depth (lined_word kind 0 false))
             ∙ ap (λ w. before ++ entry s.depth w ∷ (lined_parts kind (s.depth + 1) None None ++ []))
-            (marks-word kind b h);
-      };
-    })
+            (marks-word kind b h),
+      ),
+    )
 
 -- what stands behind them: a text that tells the leaf one thing more, and is shown behind the others
 part-told : (w : Word) (tells : spelled.Purpose) (kind : LeafKind) (info meta info_new meta_new : Option (List ℕ))
@@ -391,24 +291,18 @@ part-told : (w : Word) (tells : spelled.Purpose) (kind : LeafKind) (info meta in
     Marked kind info_new meta_new [] false
     (told (purpose.Part w) false line.text (record s { text = None }))
     (record r { text = None; leaf = option_map (spelled.noted tells line) r.leaf })
-part-told w tells kind info meta info_new meta_new line s r leaf lines m = record {
-  markers = m.markers;
-  fenced = m.fenced;
-  marked = m.marked;
-  is = record {
-    opened = ap (option_map (spelled.noted tells line)) m.is.opened ∙ ap Some (leaf m.markers);
-    depth = m.is.depth;
-    words = m.is.words;
-    untold = m.is.untold;
-    leaf = m.is.leaf;
-    lined = m.is.lined;
-    all =
-        ap (λ es. es ++ entry_with (s.depth + 1) w line.text ∷ []) m.is.all
-        ∙ append_assoc (shown r.outer r.here) (lined_entries kind s.depth m.markers info meta [] false)
+part-told w tells kind info meta info_new meta_new line s r leaf lines m = (
+  m.0,
+  m.1,
+  m.2,
+  (
+    known-next (spelled.noted tells line) m.3.0 (leaf m.0),
+    ap (λ es. es ++ entry_with (s.depth + 1) w line.text ∷ []) m.3.1
+        ∙ append_assoc (shown r.outer r.here) (lined_entries kind s.depth m.0 info meta [] false)
         (entry_with (s.depth + 1) w line.text ∷ [])
-        ∙ ap (λ es. shown r.outer r.here ++ es) (lines s.depth m.markers);
-  };
-}
+        ∙ ap (λ es. shown r.outer r.here ++ es) (lines s.depth m.0),
+  ),
+)
 
 pub info-told : (kind : LeafKind) (line : Line) (s : OutlineState) (r : Reading) → HasInfo kind →
     Marked kind None None [] false s r →
@@ -473,35 +367,26 @@ pub line-told : (kind : LeafKind) (info meta : Option (List ℕ)) (lines : List 
 line-told kind info meta lines line s r spaces m =
     let none : 0 + line.spaces ≡ line.spaces = omega arith in
     let before : List Entry = shown r.outer r.here in
-    let front : List Entry = before ++ lined_entries kind s.depth m.markers info meta lines false in
-    record {
-      markers = m.markers;
-      fenced = m.fenced;
-      marked = m.marked;
-      is = record {
-        opened =
-            ap (option_map (spelled.noted AsLine line)) m.is.opened
-            ∙ ap Some (line-leaf kind m.markers info meta (lines ++ empty_line ∷ []) line)
-            ∙ ap (λ ls. Some (lined_leaf kind m.markers info meta ls false))
+    let front : List Entry = before ++ lined_entries kind s.depth m.0 info meta lines false in (
+      m.0,
+      m.1,
+      m.2,
+      (
+        known-next (spelled.noted AsLine line) m.3.0
+            (line-leaf kind m.0 info meta (lines ++ empty_line ∷ []) line
+            ∙ ap (λ ls. lined_leaf kind m.0 info meta ls false)
             (on-last (λ (l : Line). joined l line) lines empty_line)
-            ∙ ap
-            (λ n. Some (lined_leaf kind m.markers info meta (lines ++ record line { spaces = n } ∷ []) false)) none;
-        depth = m.is.depth;
-        words = m.is.words;
-        untold = m.is.untold;
-        leaf = m.is.leaf;
-        lined = m.is.lined;
-        all =
-            ap (λ es. without_end es ++ filled_line (s.depth + 1) (shown_spaces s.lined s.spaces) line.text ∷ [])
-            (m.is.all ∙ grown-lines before kind s.depth m.markers info meta lines false empty_line)
+            ∙ ap (λ n. lined_leaf kind m.0 info meta (lines ++ record line { spaces = n } ∷ []) false) none),
+        ap (λ es. without_end es ++ filled_line (s.depth + 1) (shown_spaces s.lined s.spaces) line.text ∷ [])
+            (m.3.1 ∙ grown-lines before kind s.depth m.0 info meta lines false empty_line)
             ∙ ap (λ es. es ++ filled_line (s.depth + 1) (shown_spaces s.lined s.spaces) line.text ∷ [])
             (end-taken front (lined_line kind (s.depth + 1) empty_line))
-            ∙ ap (λ l. front ++ filled_line (s.depth + 1) (shown_spaces l s.spaces) line.text ∷ []) m.is.lined
+            ∙ ap (λ l. front ++ filled_line (s.depth + 1) (shown_spaces l s.spaces) line.text ∷ []) m.3.0.lined
             ∙ ap (λ n. front ++ filled_line (s.depth + 1) (spaces_of (lined_form kind) n) line.text ∷ []) spaces
             ∙ ap (λ e. front ++ e ∷ []) (told-line kind (s.depth + 1) line)
-            ∙ sym (grown-lines before kind s.depth m.markers info meta lines false line);
-      };
-    }
+            ∙ sym (grown-lines before kind s.depth m.0 info meta lines false line),
+      ),
+    )
 
 -- A further fence.
 
@@ -540,40 +425,31 @@ pub fence-closes : (kind : LeafKind) (info meta : Option (List ℕ)) (lines : Li
     Marked kind info meta lines true (fence_begun s.lined s) (on_leaf at_fence r)
 fence-closes kind info meta lines s r h m =
     let before : List Entry = shown r.outer r.here in
-    let front : List Entry = before ++ lined_entries kind s.depth m.markers info meta lines false in
+    let front : List Entry = before ++ lined_entries kind s.depth m.0 info meta lines false in
     let lined : Bool → Lined = λ x.
     record { place = length before; is_fenced = x; form = lined_form kind } in
-    let fenced : m.fenced ≡ true = is-fenced kind m.markers m.fenced h m.marked in
     subst (λ l. Marked kind info meta lines true (fence_begun l s) (on_leaf at_fence r))
-    (sym (m.is.lined ∙ ap (λ x. Some (lined x)) fenced))
-    (record {
-      markers = m.markers;
-      fenced = m.fenced;
-      marked = m.marked;
-      is = record {
-        opened =
-            ap (option_map at_fence) m.is.opened
-            ∙ ap Some (closes-leaf kind m.markers m.fenced info meta (lines ++ empty_line ∷ []) h m.marked)
-            ∙ ap (λ ls. Some (lined_leaf kind m.markers info meta ls true)) (last-left lines empty_line);
-        depth = m.is.depth;
-        words = m.is.words;
-        untold = m.is.untold;
-        leaf = m.is.leaf;
-        lined = m.is.lined;
-        all =
-            ap (λ es. with_head closed_word (length before) (without_end es))
-            (m.is.all ∙ grown-lines before kind s.depth m.markers info meta lines false empty_line)
+    (sym (m.3.0.lined ∙ ap (λ x. Some (lined x)) (is-fenced kind m.0 m.1 h m.2))) (
+      m.0,
+      m.1,
+      m.2,
+      (
+        known-next at_fence m.3.0
+            (closes-leaf kind m.0 m.1 info meta (lines ++ empty_line ∷ []) h m.2
+            ∙ ap (λ ls. lined_leaf kind m.0 info meta ls true) (last-left lines empty_line)),
+        ap (λ es. with_head closed_word (length before) (without_end es))
+            (m.3.1 ∙ grown-lines before kind s.depth m.0 info meta lines false empty_line)
             ∙ ap (with_head closed_word (length before)) (end-taken front (lined_line kind (s.depth + 1) empty_line))
             ∙ head-told closed_word before
             (lined_parts kind (s.depth + 1) info meta ++ lined_lines kind (s.depth + 1) lines)
-            (entry s.depth (lined_word kind (first_byte m.markers) false))
+            (entry s.depth (lined_word kind (first_byte m.0) false))
             ∙ ap
             (λ w.
             before
             ++ entry s.depth w ∷ (lined_parts kind (s.depth + 1) info meta ++ lined_lines kind (s.depth + 1) lines))
-            (closes-word kind (first_byte m.markers) h);
-      };
-    })
+            (closes-word kind (first_byte m.0) h),
+      ),
+    )
 
 -- its markers are not told again
 stands-leaf : (kind : LeafKind) (markers : List ℕ) (fenced : Bool) (info meta : Option (List ℕ)) (lines : List Line)
@@ -600,23 +476,17 @@ markers-stand kind info meta lines line s r h m =
     Marked kind info meta lines true
     (head_marked l line.text (told_leaf note.Markers line.text (record s { text = None })))
     (spelled.told AsMarkers line (record r { text = None })))
-    (sym (m.is.lined ∙ ap (λ x. Some (lined x)) (is-fenced kind m.markers m.fenced h m.marked)))
-    (record {
-      markers = m.markers;
-      fenced = m.fenced;
-      marked = m.marked;
-      is = record {
-        opened =
-            ap (option_map (spelled.noted AsMarkers line)) m.is.opened
-            ∙ ap Some (stands-leaf kind m.markers m.fenced info meta lines line h m.marked);
-        depth = m.is.depth;
-        words = m.is.words;
-        untold = m.is.untold;
-        leaf = ap (option_map (spelled.noted AsMarkers (record { spaces = 0; text = line.text }))) m.is.leaf;
-        lined = m.is.lined;
-        all = m.is.all;
-      };
-    })
+    (sym (m.3.0.lined ∙ ap (λ x. Some (lined x)) (is-fenced kind m.0 m.1 h m.2))) (
+      m.0,
+      m.1,
+      m.2,
+      (
+        known-told (spelled.noted AsMarkers line) m.3.0 (stands-leaf kind m.0 m.1 info meta lines line h m.2)
+            (ap (option_map (spelled.noted AsMarkers (record { spaces = 0; text = line.text }))) m.3.0.leaf)
+            m.3.0.lined,
+        m.3.1,
+      ),
+    )
 
 -- It ends.
 
@@ -624,26 +494,8 @@ pub lining-ends : (kind : LeafKind) (info meta : Option (List ℕ)) (lines : Lis
     (r : Reading) → Marked kind info meta lines closed s r → NoText s r →
     Agrees (record s { lined = None }) (finished r.leaf r)
 lining-ends kind info meta lines closed s r m none =
-    let leaf : OpenLeaf = lined_leaf kind m.markers info meta lines closed in
-    subst (λ (l : Option OpenLeaf). Agrees (record s { lined = None }) (finished l r)) (sym m.is.opened)
-    (record {
-      depth = m.is.depth;
-      words = words-then r.outer r.here (block_of leaf) m.is.words;
-      untold = m.is.untold;
-      lined = refl;
-      leaf = m.is.leaf;
-      known = tt;
-      text =
-          subst
-          (λ span. TextIs (shown r.outer (then_block r.here (block_of leaf))) s.depth s.lines span r.text)
-          (sym none.0)
-          (subst (λ text. TextIs (shown r.outer (then_block r.here (block_of leaf))) s.depth s.lines None text)
-          (sym none.1)
-          (m.is.all
-          ∙ ap (λ es. shown r.outer r.here ++ es) (sym (lined-shown kind s.depth m.markers info meta lines closed))
-          ∙ ap (λ d. shown r.outer r.here ++ block_entries d (block_of leaf)) m.is.depth
-          ∙ sym (shown-then r.outer r.here (block_of leaf) m.is.words)));
-    })
+    open-ends s r m.3.0
+    (m.3.1 ∙ ap (λ es. shown r.outer r.here ++ es) (sym (lined-shown kind s.depth m.0 info meta lines closed))) none
 
 pub leaf-ends : (bytes : List ℕ) (x : LeafKind) (p : Point) (s : OutlineState) (r : Reading) → HasLines x →
     Agrees (record s { lined = None }) (finished r.leaf r) →
@@ -655,15 +507,7 @@ leaf-ends bytes OfHtml p s r h is = is
 leaf-ends bytes OfFrontmatter p s r h is = is
 leaf-ends bytes _ p s r h is = absurd h
 
--- Prefixes between its lines.
-
-pub ended-keeps : (kind : LeafKind) (closed : Bool) → Keeps (Ended kind closed)
-ended-keeps kind closed s r span spaces text is =
-    (is.0, is.1, is.2, again kind is.0 is.1 is.2 closed s r span spaces text is.3)
-
-pub line-keeps : (kind : LeafKind) → Keeps (OnLine kind)
-line-keeps kind s r span spaces text is =
-    (is.0, is.1, is.2, again kind is.0 is.1 (is.2 ++ empty_line ∷ []) false s r span spaces text is.3)
+-- A line that is empty yet is one of its lines.
 
 pub line-ended : (kind : LeafKind) (s : OutlineState) (r : Reading) → OnLine kind s r → Ended kind false s r
 line-ended kind s r is = (is.0, is.1, is.2 ++ empty_line ∷ [], is.3)

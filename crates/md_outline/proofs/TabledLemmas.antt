@@ -2,71 +2,38 @@
 -- fills, and the line of the table counts the cells of its head.
 use Rattle.std.proofs.Common.{◌≡◌, ℕ, ◌+◌, Bool, true, false, cond, List, [], ◌∷◌, ◌++◌, length, slice_range, refl, sym}
 use Rattle.std.proofs.Common.{◌∙◌, ap, subst, append_assoc}
-use Rattle.std.specs.Prelude.{Option, Some, None, option_map}
+use Rattle.std.specs.Prelude.{Option, Some, None}
 use Rattle.std.proofs.lemmas.List.{append-nil, length-append, map-append}
 use Rattle.md_engine.specs.declared.event.Kind.{Kind}
 use Rattle.md_engine.specs.declared.event.Kind.TheVariants.{Enter, Exit}
 use Rattle.md_engine.specs.declared.event.Point.{Point}
 use Rattle.md_meaning.specs.declared.outline.Word.TheVariants as word
-use Rattle.md_meaning.specs.Outline.{Entry, block_entries, entry, entry_with, row_entries, rows_entries, table_entries}
+use Rattle.md_meaning.specs.Outline.{Entry, entry, entry_with, row_entries, rows_entries, table_entries}
 use Rattle.md_meaning.specs.Rest.{trim}
-use Rattle.md_meaning.specs.State.{then_block}
-use Rattle.md_meaning.specs.Tree.{Block, Line, Table}
+use Rattle.md_meaning.specs.Tree.{Line}
 use Rattle.md_seam.specs.Events.Spelled.{AsCell, AsDelimiter, IsCell, IsEnding, IsPrefix, IsQuiet, IsQuoteMarker, IsRow}
-use Rattle.md_seam.specs.Events.Spelled.{OfTable, OpenLeaf, LeafRole, Reading, TableLeaf, TableSoFar, TextRole, at_cell}
-use Rattle.md_seam.specs.Events.Spelled.{at_ending, at_row, begun, byte_at, columns_left, finished, first_told}
-use Rattle.md_seam.specs.Events.Spelled.{next_line, on_last, on_leaf, read_by, read_enter}
+use Rattle.md_seam.specs.Events.Spelled.{OfTable, LeafRole, Reading, TableLeaf, TableSoFar, TextRole, at_cell, at_row}
+use Rattle.md_seam.specs.Events.Spelled.{byte_at, columns_left, first_told, next_line, on_last, on_leaf, read_by}
 use Rattle.md_seam.specs.Events.Spelled as spelled
 use Rattle.md_outline.specs.LinedState.{now_told, with_head, without_end}
-use Rattle.md_outline.specs.OutlineSteps.{OutlineState, cell_begun, counted_at, line_ended, state_by, state_enter}
-use Rattle.md_outline.specs.OutlineSteps.{told, told_at, with_empty}
+use Rattle.md_outline.specs.OutlineSteps.{OutlineState, cell_begun, counted_at, state_by, told, told_at, with_empty}
 use Rattle.md_outline.specs.Roles.{shown_as}
 use Rattle.md_outline.specs.TablePlaces.{AtCell, AtHead, BehindCell, BehindHead, BehindRow, BodyRow, HeadRow, InCell}
 use Rattle.md_outline.specs.TablePlaces.{InDelimiter, InRow, MayBe, Row, TablePlace, behind_row, spot_by}
 use Rattle.md_outline.specs.TableState.{counted_word, with_cell, with_delimiter, with_row}
-use Rattle.md_outline.specs.declared.outline.TextSpan.{TextSpan}
 use Rattle.md_outline.specs.declared.outline.lined.Form.TheVariants as form
 use Rattle.md_outline.specs.declared.outline.lined.Lined.{Lined}
 use Rattle.md_outline.specs.declared.outline.role.Purpose.TheVariants as purpose
-use Rattle.md_outline.specs.declared.outline.role.Role.TheVariants as role
-use Rattle.md_outline.proofs.ClosedTrees.{HaveWords, depth_of, shown, shown-then, words-then}
+use Rattle.md_outline.proofs.ClosedTrees.{shown}
+use Rattle.md_outline.proofs.LeavesOpen.{Shows, gap-line, known-next, known-open, known-told, open-ends}
 use Rattle.md_outline.proofs.LinedLines.{end-taken, head-told, on-last}
-use Rattle.md_outline.proofs.OutlineAgrees.{Agrees, TextIs, text-lines}
-use Rattle.md_outline.proofs.RoleLemmas.{by-ending}
-use Rattle.md_outline.proofs.SiteTexts.{IsOpen, Keeps, NoText, TextFrom, begins-texts, from-here, marker-within}
+use Rattle.md_outline.proofs.OutlineAgrees.{Agrees}
+use Rattle.md_outline.proofs.SiteTexts.{IsOpen, NoText, TextFrom, from-here, marker-within}
 use Rattle.md_outline.proofs.SiteTexts.{prefix-enter, prefix-exit, text-ending, text-ends}
 
 -- What is known of one that is open, which has told its delimiter row or not, and of what was shown of it.
-pub record Tabled (table : TableSoFar) (is_told : Bool) (lines : ℕ → List Entry) (s : OutlineState) (r : Reading)
-    : Type 0 where
-  opened : r.leaf ≡ Some (TableLeaf table)
-  depth : s.depth ≡ depth_of r.outer
-  words : HaveWords r.outer r.here
-  untold : s.untold ≡ None
-  leaf : s.leaf ≡ None
-  lined : s.lined ≡ Some (record { place = length (shown r.outer r.here); is_fenced = is_told; form = form.Table })
-  all : s.lines ≡ shown r.outer r.here ++ lines s.depth
-
-tabled-open : (table : TableSoFar) (is_told : Bool) (lines : ℕ → List Entry) (s : OutlineState) (r : Reading) →
-    Tabled table is_told lines s r → IsOpen s r
-tabled-open table is_told lines s r is = record {
-  leaf = TableLeaf table;
-  lined = record { place = length (shown r.outer r.here); is_fenced = is_told; form = form.Table };
-  read = is.opened;
-  shows = is.lined;
-}
-
--- whatever text is read
-tabled-keeps : (table : TableSoFar) (is_told : Bool) (lines : ℕ → List Entry) → Keeps (Tabled table is_told lines)
-tabled-keeps table is_told lines s r span spaces text is = record {
-  opened = is.opened;
-  depth = is.depth;
-  words = is.words;
-  untold = is.untold;
-  leaf = is.leaf;
-  lined = is.lined;
-  all = is.all;
-}
+abbrev Tabled : TableSoFar → Bool → (ℕ → List Entry) → OutlineState → Reading → Type 0
+Tabled table is_told lines s r = Shows (TableLeaf table) form.Table is_told lines s r
 
 abbrev grid : List ℕ → List (List (List ℕ)) → TableSoFar
 grid delimiter rows = record { delimiter = delimiter; rows = rows }
@@ -86,17 +53,6 @@ OnRow BodyRow cells s r =
     (delimiter : List ℕ) × (head : List (List ℕ)) × (rows : List (List (List ℕ))) ×
     Tabled (grid delimiter (head ∷ (rows ++ cells ∷ []))) true (all_lines delimiter (head ∷ (rows ++ cells ∷ []))) s r
 
-row-keeps : (row : Row) (cells : List (List ℕ)) → Keeps (OnRow row cells)
-row-keeps HeadRow cells s r span spaces text is =
-    tabled-keeps (grid [] (cells ∷ [])) false (head_lines (length cells) cells) s r span spaces text is
-row-keeps BodyRow cells s r span spaces text is = (
-  is.0,
-  is.1,
-  is.2,
-  tabled-keeps (grid is.0 (is.1 ∷ (is.2 ++ cells ∷ []))) true (all_lines is.0 (is.1 ∷ (is.2 ++ cells ∷ []))) s r span
-      spaces text is.3,
-)
-
 -- with some cells, and with one more, which is empty yet
 abbrev pub Filled : Row → OutlineState → Reading → Type 0
 Filled row s r = (cells : List (List ℕ)) × OnRow row cells s r
@@ -104,25 +60,11 @@ Filled row s r = (cells : List (List ℕ)) × OnRow row cells s r
 abbrev pub WithEmpty : Row → OutlineState → Reading → Type 0
 WithEmpty row s r = (cells : List (List ℕ)) × OnRow row (cells ++ [] ∷ []) s r
 
-filled-keeps : (row : Row) → Keeps (Filled row)
-filled-keeps row s r span spaces text is = (is.0, row-keeps row is.0 s r span spaces text is.1)
-
-empty-keeps : (row : Row) → Keeps (WithEmpty row)
-empty-keeps row s r span spaces text is = (is.0, row-keeps row (is.0 ++ [] ∷ []) s r span spaces text is.1)
-
 -- all rows that have begun have ended, and the delimiter row has
 abbrev pub Rows : OutlineState → Reading → Type 0
 Rows s r =
     (delimiter : List ℕ) × (head : List (List ℕ)) × (rows : List (List (List ℕ))) ×
     Tabled (grid delimiter (head ∷ rows)) true (all_lines delimiter (head ∷ rows)) s r
-
-rows-keep : Keeps Rows
-rows-keep s r span spaces text is = (
-  is.0,
-  is.1,
-  is.2,
-  tabled-keeps (grid is.0 (is.1 ∷ is.2)) true (all_lines is.0 (is.1 ∷ is.2)) s r span spaces text is.3,
-)
 
 -- in front of its head
 abbrev pub NoRow : OutlineState → Reading → Type 0
@@ -141,49 +83,23 @@ AgreesSpot BehindRow s r = Rows s r × NoText s r
 
 -- at each the table is open
 row-open : (row : Row) (cells : List (List ℕ)) (s : OutlineState) (r : Reading) → OnRow row cells s r → IsOpen s r
-row-open HeadRow cells s r is =
-    tabled-open (grid [] (cells ∷ [])) false (head_lines (length cells) cells) s r is
-row-open BodyRow cells s r is =
-    tabled-open (grid is.0 (is.1 ∷ (is.2 ++ cells ∷ []))) true (all_lines is.0 (is.1 ∷ (is.2 ++ cells ∷ []))) s r is.3
+row-open HeadRow cells s r is = known-open s r is.0
+row-open BodyRow cells s r is = known-open s r is.3.0
 
-spot-open : (spot : TablePlace) (s : OutlineState) (r : Reading) → AgreesSpot spot s r → IsOpen s r
-spot-open AtHead s r is = tabled-open (grid [] []) false (λ depth. entry depth (word.Table 0) ∷ []) s r is.0
+pub spot-open : (spot : TablePlace) (s : OutlineState) (r : Reading) → AgreesSpot spot s r → IsOpen s r
+spot-open AtHead s r is = known-open s r is.0.0
 spot-open (InRow row) s r is = row-open row is.0.0 s r is.0.1
 spot-open (AtCell row) s r is = row-open row (is.0.0 ++ [] ∷ []) s r is.0.1
 spot-open (InCell row) s r is = row-open row (is.0.0 ++ [] ∷ []) s r is.0.1
 spot-open (BehindCell row) s r is = row-open row is.0.0 s r is.0.1
 spot-open BehindHead s r is = row-open HeadRow is.0.0 s r is.0.1
 spot-open InDelimiter s r is = row-open HeadRow is.0.0 s r is.0.1
-spot-open BehindRow s r is =
-    tabled-open (grid is.0.0 (is.0.1 ∷ is.0.2)) true (all_lines is.0.0 (is.0.1 ∷ is.0.2)) s r is.0.3
+spot-open BehindRow s r is = known-open s r is.0.3.0
 
 -- and behind an event there
 abbrev pub AgreesBehind : Option TablePlace → OutlineState → Reading → Type 0
 AgreesBehind None s r = Agrees s r
 AgreesBehind (Some spot) s r = AgreesSpot spot s r
-
--- It begins.
-
-pub table-begins : (bytes : List ℕ) (p : Point) (s : OutlineState) (r : Reading) → s.text ≡ None → Agrees s r →
-    AgreesSpot AtHead (state_enter bytes (role.Lined (word.Table 0)) p s) (read_enter bytes (LeafRole OfTable) p r)
-table-begins bytes p s r none is =
-    let text : r.text ≡ None = begins-texts s r none is in
-    let same : s.lines ≡ shown r.outer r.here =
-    text-lines (shown r.outer r.here) s.depth s.lines None None refl
-    (subst (λ span. TextIs (shown r.outer r.here) s.depth s.lines span None) none
-    (subst (λ t. TextIs (shown r.outer r.here) s.depth s.lines s.text t) text is.text)) in (
-      record {
-        opened = refl;
-        depth = is.depth;
-        words = is.words;
-        untold = is.untold;
-        leaf = refl;
-        lined =
-            ap (λ (es : List Entry). Some (record { place = length es; is_fenced = false; form = form.Table })) same;
-        all = ap (λ es. es ++ entry s.depth (word.Table 0) ∷ []) same;
-      },
-      (none, text),
-    )
 
 -- Its lines, with one row or one cell more.
 
@@ -241,18 +157,12 @@ line-filled before front lines from to e f is efrom eto =
 
 head-begins : (s : OutlineState) (r : Reading) → NoRow s r →
     OnRow HeadRow [] (record s { lines = with_row s.depth s.lines }) (on_leaf at_row r)
-head-begins s r is = record {
-  opened = ap (option_map at_row) is.opened;
-  depth = is.depth;
-  words = is.words;
-  untold = is.untold;
-  leaf = is.leaf;
-  lined = is.lined;
-  all =
-      ap (with_row s.depth) is.all
+head-begins s r is = (
+  known-next at_row is.0 refl,
+  ap (with_row s.depth) is.1
       ∙ append_assoc (shown r.outer r.here) (entry s.depth (word.Table 0) ∷ [])
-      (entry (s.depth + 1) word.Row ∷ []);
-}
+      (entry (s.depth + 1) word.Row ∷ []),
+)
 
 -- or a further one
 further-begins : (s : OutlineState) (r : Reading) → Rows s r →
@@ -261,19 +171,13 @@ further-begins s r h = (
   h.0,
   h.1,
   h.2,
-  record {
-    opened = ap (option_map at_row) h.3.opened;
-    depth = h.3.depth;
-    words = h.3.words;
-    untold = h.3.untold;
-    leaf = h.3.leaf;
-    lined = h.3.lined;
-    all =
-        ap (with_row s.depth) h.3.all
+  (
+    known-next at_row h.3.0 refl,
+    ap (with_row s.depth) h.3.1
         ∙ append_assoc (shown r.outer r.here) (all_lines h.0 (h.1 ∷ h.2) s.depth)
         (entry (s.depth + 1) word.Row ∷ [])
-        ∙ ap (λ es. shown r.outer r.here ++ es) (sym (row-added s.depth h.0 h.1 h.2 []));
-  },
+        ∙ ap (λ es. shown r.outer r.here ++ es) (sym (row-added s.depth h.0 h.1 h.2 [])),
+  ),
 )
 
 -- A cell begins.
@@ -288,47 +192,32 @@ cell-begins HeadRow cells s r is =
     let columns : ℕ = length cells in
     let more : List Entry = entry ((s.depth + 1) + 1) word.Cell ∷ [] in
     subst (λ (l : Option Lined). OnRow HeadRow (cells ++ [] ∷ []) (with_empty (counted_at l s)) (on_leaf at_cell r))
-    (sym is.lined)
-    (record {
-      opened = ap (option_map at_cell) is.opened;
-      depth = is.depth;
-      words = is.words;
-      untold = is.untold;
-      leaf = is.leaf;
-      lined = is.lined;
-      all =
-          ap (λ es. with_cell s.depth (with_head counted_word (length before) es)) is.all
+    (sym is.0.lined) (
+      known-next at_cell is.0 refl,
+      ap (λ es. with_cell s.depth (with_head counted_word (length before) es)) is.1
           ∙ ap (with_cell s.depth)
           (head-told counted_word before (row_entries (s.depth + 1) cells) (entry s.depth (word.Table columns)))
           ∙ append_assoc before (head_lines (columns + 1) cells s.depth) more
           ∙ ap (λ es. before ++ es) (sym (head-cell s.depth (columns + 1) cells []))
-          ∙ ap (λ n. before ++ head_lines n (cells ++ [] ∷ []) s.depth) (sym (more-columns cells []));
-    })
+          ∙ ap (λ n. before ++ head_lines n (cells ++ [] ∷ []) s.depth) (sym (more-columns cells [])),
+    )
 cell-begins BodyRow cells s r h =
     let before : List Entry = shown r.outer r.here in
     let is = h.3 in
     let rows : List (List (List ℕ)) = h.1 ∷ h.2 in
     let more : List Entry = entry ((s.depth + 1) + 1) word.Cell ∷ [] in
     subst (λ (l : Option Lined). OnRow BodyRow (cells ++ [] ∷ []) (with_empty (counted_at l s)) (on_leaf at_cell r))
-    (sym is.lined) (
+    (sym is.0.lined) (
       h.0,
       h.1,
       h.2,
-      record {
-        opened =
-            ap (option_map at_cell) is.opened
-            ∙ ap (λ all. Some (TableLeaf (grid h.0 all)))
-            (on-last (λ (now : List (List ℕ)). now ++ [] ∷ []) rows cells);
-        depth = is.depth;
-        words = is.words;
-        untold = is.untold;
-        leaf = is.leaf;
-        lined = is.lined;
-        all =
-            ap (with_cell s.depth) is.all
+      (
+        known-next at_cell is.0
+            (ap (λ all. TableLeaf (grid h.0 all)) (on-last (λ (now : List (List ℕ)). now ++ [] ∷ []) rows cells)),
+        ap (with_cell s.depth) is.1
             ∙ append_assoc before (all_lines h.0 (h.1 ∷ (h.2 ++ cells ∷ [])) s.depth) more
-            ∙ ap (λ es. before ++ es) (sym (body-cell s.depth h.0 h.1 h.2 cells []));
-      },
+            ∙ ap (λ es. before ++ es) (sym (body-cell s.depth h.0 h.1 h.2 cells [])),
+      ),
     )
 
 -- Its text is told.
@@ -342,26 +231,17 @@ text-told : (row : Row) (cells : List (List ℕ)) (line : Line) (s : OutlineStat
     (spelled.told AsCell line (record r { text = None }))
 text-told HeadRow cells line s r is =
     let before : List Entry = shown r.outer r.here in
-    let columns : ℕ = length (cells ++ [] ∷ []) in
-    record {
-      opened =
-          ap (option_map (spelled.noted AsCell line)) is.opened
-          ∙ ap (λ row. Some (TableLeaf (grid [] (row ∷ []))))
-          (on-last (λ (cell : List ℕ). first_told cell line.text) cells []);
-      depth = is.depth;
-      words = is.words;
-      untold = is.untold;
-      leaf = is.leaf;
-      lined = is.lined;
-      all =
-          line-filled before (head_lines columns cells s.depth) s.lines
-          (head_lines columns (cells ++ [] ∷ []) s.depth)
+    let columns : ℕ = length (cells ++ [] ∷ []) in (
+      known-next (spelled.noted AsCell line) is.0
+          (ap (λ row. TableLeaf (grid [] (row ∷ [])))
+          (on-last (λ (cell : List ℕ). first_told cell line.text) cells [])),
+      line-filled before (head_lines columns cells s.depth) s.lines (head_lines columns (cells ++ [] ∷ []) s.depth)
           (head_lines columns (cells ++ line.text ∷ []) s.depth)
-          (entry ((s.depth + 1) + 1) word.Cell) (entry_with ((s.depth + 1) + 1) word.Cell line.text) is.all
+          (entry ((s.depth + 1) + 1) word.Cell) (entry_with ((s.depth + 1) + 1) word.Cell line.text) is.1
           (head-cell s.depth columns cells []) (head-cell s.depth columns cells line.text)
           ∙ ap (λ n. before ++ head_lines n (cells ++ line.text ∷ []) s.depth)
-          (more-columns cells [] ∙ sym (more-columns cells line.text));
-    }
+          (more-columns cells [] ∙ sym (more-columns cells line.text)),
+    )
 text-told BodyRow cells line s r h =
     let before : List Entry = shown r.outer r.here in
     let is = h.3 in
@@ -369,24 +249,17 @@ text-told BodyRow cells line s r h =
       h.0,
       h.1,
       h.2,
-      record {
-        opened =
-            ap (option_map (spelled.noted AsCell line)) is.opened
-            ∙ ap (λ all. Some (TableLeaf (grid h.0 all)))
+      (
+        known-next (spelled.noted AsCell line) is.0
+            (ap (λ all. TableLeaf (grid h.0 all))
             (on-last (with_text line.text) rows (cells ++ [] ∷ [])
-            ∙ ap (λ row. rows ++ row ∷ []) (on-last (λ (cell : List ℕ). first_told cell line.text) cells []));
-        depth = is.depth;
-        words = is.words;
-        untold = is.untold;
-        leaf = is.leaf;
-        lined = is.lined;
-        all =
-            line-filled before (all_lines h.0 (h.1 ∷ (h.2 ++ cells ∷ [])) s.depth) s.lines
+            ∙ ap (λ row. rows ++ row ∷ []) (on-last (λ (cell : List ℕ). first_told cell line.text) cells []))),
+        line-filled before (all_lines h.0 (h.1 ∷ (h.2 ++ cells ∷ [])) s.depth) s.lines
             (all_lines h.0 (h.1 ∷ (h.2 ++ (cells ++ [] ∷ []) ∷ [])) s.depth)
             (all_lines h.0 (h.1 ∷ (h.2 ++ (cells ++ line.text ∷ []) ∷ [])) s.depth)
-            (entry ((s.depth + 1) + 1) word.Cell) (entry_with ((s.depth + 1) + 1) word.Cell line.text) is.all
-            (body-cell s.depth h.0 h.1 h.2 cells []) (body-cell s.depth h.0 h.1 h.2 cells line.text);
-      },
+            (entry ((s.depth + 1) + 1) word.Cell) (entry_with ((s.depth + 1) + 1) word.Cell line.text) is.1
+            (body-cell s.depth h.0 h.1 h.2 cells []) (body-cell s.depth h.0 h.1 h.2 cells line.text),
+      ),
     )
 
 cell-ends : (bytes : List ℕ) (row : Row) (q p : Point) (s : OutlineState) (r : Reading) → WithEmpty row s r →
@@ -407,18 +280,12 @@ delimiter-told cells line s r is = (
   trim line.text,
   cells,
   [],
-  record {
-    opened = ap (option_map (spelled.noted AsDelimiter line)) is.opened;
-    depth = is.depth;
-    words = is.words;
-    untold = is.untold;
-    leaf = is.leaf;
-    lined = ap now_told is.lined;
-    all =
-        ap (with_delimiter s.depth line.text) is.all
+  (
+    known-told (spelled.noted AsDelimiter line) is.0 refl is.0.leaf (ap now_told is.0.lined),
+    ap (with_delimiter s.depth line.text) is.1
         ∙ append_assoc (shown r.outer r.here) (head_lines (length cells) cells s.depth)
-        (entry_with (s.depth + 1) word.Delimiter (trim line.text) ∷ []);
-  },
+        (entry_with (s.depth + 1) word.Delimiter (trim line.text) ∷ []),
+  ),
 )
 
 delimiter-ends : (bytes : List ℕ) (q p : Point) (s : OutlineState) (r : Reading) → Filled HeadRow s r →
@@ -430,78 +297,6 @@ delimiter-ends bytes q p s r h from =
       delimiter-told h.0 (record { spaces = columns_left q; text = slice_range bytes (byte_at q) p.index }) s r h.1,
       (refl, refl),
     )
-
--- Between its rows a line ending opens no line.
-
-next-stays : (table : TableSoFar) (is_told : Bool) (lines : ℕ → List Entry) (s : OutlineState) (r : Reading) →
-    Tabled table is_told lines s r → Tabled table is_told lines s (on_leaf next_line r)
-next-stays table is_told lines s r is = record {
-  opened = ap (option_map next_line) is.opened;
-  depth = is.depth;
-  words = is.words;
-  untold = is.untold;
-  leaf = is.leaf;
-  lined = is.lined;
-  all = is.all;
-}
-
-gap-line : (P : OutlineState → Reading → Type 0) (bytes : List ℕ) (p : Point) (place : ℕ) (is_told : Bool)
-    (s : OutlineState) (r : Reading) →
-    s.lined ≡ Some (record { place = place; is_fenced = is_told; form = form.Table }) → P s (on_leaf next_line r) →
-    P s r × NoText s r →
-    P (line_ended bytes p.index s.lined s.text s) (at_ending bytes p r.text r)
-    × NoText (line_ended bytes p.index s.lined s.text s) (at_ending bytes p r.text r)
-gap-line P bytes p place is_told s r lined next is =
-    subst
-    (λ (l : Option Lined).
-    P (line_ended bytes p.index l s.text s) (at_ending bytes p r.text r)
-    × NoText (line_ended bytes p.index l s.text s) (at_ending bytes p r.text r))
-    (sym lined)
-    (subst
-    (λ (span : Option TextSpan).
-    P (line_ended bytes p.index (Some head) span s) (at_ending bytes p r.text r)
-    × NoText (line_ended bytes p.index (Some head) span s) (at_ending bytes p r.text r))
-    (sym is.1.0) (by-ending (λ now. P s now × NoText s now) bytes p r.text r is (next, is.1)))
-  where
-    head : Lined
-    head = record { place = place; is_fenced = is_told; form = form.Table }
-
-head-line : (bytes : List ℕ) (p : Point) (s : OutlineState) (r : Reading) → Filled HeadRow s r × NoText s r →
-    Filled HeadRow (line_ended bytes p.index s.lined s.text s) (at_ending bytes p r.text r)
-    × NoText (line_ended bytes p.index s.lined s.text s) (at_ending bytes p r.text r)
-head-line bytes p s r is =
-    gap-line (Filled HeadRow) bytes p (length (shown r.outer r.here)) false s r is.0.1.lined
-    (is.0.0, next-stays (grid [] (is.0.0 ∷ [])) false (head_lines (length is.0.0) is.0.0) s r is.0.1) is
-
-rows-line : (bytes : List ℕ) (p : Point) (s : OutlineState) (r : Reading) → Rows s r × NoText s r →
-    Rows (line_ended bytes p.index s.lined s.text s) (at_ending bytes p r.text r)
-    × NoText (line_ended bytes p.index s.lined s.text s) (at_ending bytes p r.text r)
-rows-line bytes p s r is =
-    let h = is.0 in
-    gap-line Rows bytes p (length (shown r.outer r.here)) true s r h.3.lined
-    (h.0, h.1, h.2, next-stays (grid h.0 (h.1 ∷ h.2)) true (all_lines h.0 (h.1 ∷ h.2)) s r h.3) is
-
--- It ends.
-
-table-ends : (s : OutlineState) (r : Reading) → Rows s r → NoText s r →
-    Agrees (record s { lined = None }) (finished r.leaf r)
-table-ends s r h none =
-    let block : Block = Table h.0 (h.1 ∷ h.2) in
-    subst (λ (l : Option OpenLeaf). Agrees (record s { lined = None }) (finished l r)) (sym h.3.opened)
-    (record {
-      depth = h.3.depth;
-      words = words-then r.outer r.here block h.3.words;
-      untold = h.3.untold;
-      lined = refl;
-      leaf = h.3.leaf;
-      known = tt;
-      text =
-          subst (λ span. TextIs (shown r.outer (then_block r.here block)) s.depth s.lines span r.text) (sym none.0)
-          (subst (λ text. TextIs (shown r.outer (then_block r.here block)) s.depth s.lines None text) (sym none.1)
-          (h.3.all
-          ∙ ap (λ d. shown r.outer r.here ++ block_entries d block) h.3.depth
-          ∙ sym (shown-then r.outer r.here block h.3.words)));
-    })
 
 -- One event in it.
 
@@ -530,10 +325,8 @@ agrees-spot bytes AtHead Enter IsRow p s r may is = (([], head-begins s r is.0),
 agrees-spot bytes (InRow row) Enter IsCell p s r may is =
     ((is.0.0, cell-begins row is.0.0 s r is.0.1), (span-cell s ∙ is.1.0, is.1.1))
 agrees-spot bytes (InRow row) Exit IsRow p s r may is = row-ends row s r is
-agrees-spot bytes (AtCell row) Enter (TextRole AsCell) p s r may is = (
-  empty-keeps row s r (Some (record { from = byte_at p; is_parted = false })) (columns_left p) (Some (begun p)) is.0,
-  (p, from-here p s r),
-)
+agrees-spot bytes (AtCell HeadRow) Enter (TextRole AsCell) p s r may is = (is.0, (p, from-here p s r))
+agrees-spot bytes (AtCell BodyRow) Enter (TextRole AsCell) p s r may is = (is.0, (p, from-here p s r))
 agrees-spot bytes (AtCell row) Exit IsCell p s r may is = ((is.0.0 ++ [] ∷ [], is.0.1), is.1)
 agrees-spot bytes (InCell row) Enter IsEnding p s r may is = is
 agrees-spot bytes (InCell row) Exit IsEnding p s r may is =
@@ -541,23 +334,22 @@ agrees-spot bytes (InCell row) Exit IsEnding p s r may is =
 agrees-spot bytes (InCell row) Exit (TextRole AsCell) p s r may is = cell-ends bytes row is.1.0 p s r is.0 is.1.1
 agrees-spot bytes (BehindCell row) Exit IsCell p s r may is = is
 agrees-spot bytes BehindHead Enter IsPrefix p s r may is =
-    prefix-enter (Filled HeadRow) bytes p s r (filled-keeps HeadRow) is
+    prefix-enter (Filled HeadRow) bytes p s r (λ s r span spaces text is. is) is
 agrees-spot bytes BehindHead Exit IsPrefix p s r may is =
-    prefix-exit (Filled HeadRow) bytes p s r (filled-keeps HeadRow) is
+    prefix-exit (Filled HeadRow) bytes p s r (λ s r span spaces text is. is) is
 agrees-spot bytes BehindHead Enter IsEnding p s r may is = is
-agrees-spot bytes BehindHead Exit IsEnding p s r may is = head-line bytes p s r is
-agrees-spot bytes BehindHead Enter (TextRole AsDelimiter) p s r may is = (
-  filled-keeps HeadRow s r (Some (record { from = byte_at p; is_parted = false })) (columns_left p) (Some (begun p))
-      is.0,
-  (p, from-here p s r),
-)
+agrees-spot bytes BehindHead Exit IsEnding p s r may is =
+    gap-line (Filled HeadRow) bytes p s r is.0.1.0 refl (is.0.0, (known-next next_line is.0.1.0 refl, is.0.1.1)) is
+agrees-spot bytes BehindHead Enter (TextRole AsDelimiter) p s r may is = (is.0, (p, from-here p s r))
 agrees-spot bytes InDelimiter Exit (TextRole AsDelimiter) p s r may is = delimiter-ends bytes is.1.0 p s r is.0 is.1.1
-agrees-spot bytes BehindRow Enter IsPrefix p s r may is = prefix-enter Rows bytes p s r rows-keep is
-agrees-spot bytes BehindRow Exit IsPrefix p s r may is = prefix-exit Rows bytes p s r rows-keep is
+agrees-spot bytes BehindRow Enter IsPrefix p s r may is = prefix-enter Rows bytes p s r (λ s r span spaces text is. is) is
+agrees-spot bytes BehindRow Exit IsPrefix p s r may is = prefix-exit Rows bytes p s r (λ s r span spaces text is. is) is
 agrees-spot bytes BehindRow Enter IsEnding p s r may is = is
-agrees-spot bytes BehindRow Exit IsEnding p s r may is = rows-line bytes p s r is
+agrees-spot bytes BehindRow Exit IsEnding p s r may is =
+    gap-line Rows bytes p s r is.0.3.0 refl
+    (is.0.0, is.0.1, is.0.2, (known-next next_line is.0.3.0 refl, is.0.3.1)) is
 agrees-spot bytes BehindRow Enter IsRow p s r may is = (([], further-begins s r is.0), is.1)
-agrees-spot bytes BehindRow Exit (LeafRole OfTable) p s r may is = table-ends s r is.0 is.1
+agrees-spot bytes BehindRow Exit (LeafRole OfTable) p s r may is = open-ends s r is.0.3.0 is.0.3.1 is.1
 agrees-spot bytes _ Enter IsQuiet p s r may is = is
 agrees-spot bytes _ Exit IsQuiet p s r may is = is
 agrees-spot bytes spot Enter IsQuoteMarker p s r may is =

@@ -8,75 +8,38 @@ use Rattle.md_engine.specs.declared.event.Point.{Point}
 use Rattle.md_meaning.specs.declared.outline.Word.TheVariants as word
 use Rattle.md_meaning.specs.Outline.{Entry, block_entries, entries, entry}
 use Rattle.md_meaning.specs.Rest.{is_blank}
-use Rattle.md_meaning.specs.State.{then_block}
 use Rattle.md_meaning.specs.Texts.{first_byte, split_lines, trim_each}
-use Rattle.md_meaning.specs.Tree.{Block, Heading, Line}
+use Rattle.md_meaning.specs.Tree.{Heading, Line}
 use Rattle.md_seam.specs.Events.Places.{last_line}
-use Rattle.md_seam.specs.Events.Spelled.{AsHeading, AsMarkers, HeadingSetextLeaf, HeadingSoFar, IsPrefix}
-use Rattle.md_seam.specs.Events.Spelled.{OfHeadingSetext, OpenLeaf, LeafRole, Reading, TextRole, Text, after_prefix}
-use Rattle.md_seam.specs.Events.Spelled.{at_ending, before_prefix, begun, byte_at, columns_left, finished, next_line}
-use Rattle.md_seam.specs.Events.Spelled.{no_heading, on_leaf, read_enter, text_to, underline_depth}
+use Rattle.md_seam.specs.Events.Spelled.{AsHeading, AsMarkers, HeadingSetextLeaf, HeadingSoFar, IsPrefix, Reading}
+use Rattle.md_seam.specs.Events.Spelled.{TextRole, Text, after_prefix, at_ending, before_prefix, begun, byte_at}
+use Rattle.md_seam.specs.Events.Spelled.{columns_left, no_heading, text_to, underline_depth}
 use Rattle.md_seam.specs.Events.Spelled as spelled
 use Rattle.md_outline.specs.DefinitionState.{part_word}
 use Rattle.md_outline.specs.LinedState.{marked_word, with_head}
 use Rattle.md_outline.specs.Outlined.{begins_line, parts_by}
-use Rattle.md_outline.specs.OutlineSteps.{OutlineState, head_marked, is_titled, line_ended, parted_at, state_enter}
-use Rattle.md_outline.specs.OutlineSteps.{piece_shown, title_told, told, told_at, told_leaf}
+use Rattle.md_outline.specs.OutlineSteps.{OutlineState, head_marked, is_titled, line_ended, parted_at, piece_shown}
+use Rattle.md_outline.specs.OutlineSteps.{title_told, told, told_at, told_leaf}
 use Rattle.md_outline.specs.TextLines.{full_entries, text_entries}
 use Rattle.md_outline.specs.declared.outline.TextSpan.{TextSpan}
 use Rattle.md_outline.specs.declared.outline.lined.Form.TheVariants as form
 use Rattle.md_outline.specs.declared.outline.lined.Lined.{Lined}
 use Rattle.md_outline.specs.declared.outline.role.Note.TheVariants as note
 use Rattle.md_outline.specs.declared.outline.role.Purpose.TheVariants as purpose
-use Rattle.md_outline.specs.declared.outline.role.Role.TheVariants as role
-use Rattle.md_outline.proofs.ClosedTrees.{HaveWords, depth_of, shown, shown-then, words-then}
+use Rattle.md_outline.proofs.ClosedTrees.{shown}
+use Rattle.md_outline.proofs.LeavesOpen.{Known, Shows, known-next, known-told}
 use Rattle.md_outline.proofs.LinedLines.{head-told}
-use Rattle.md_outline.proofs.OutlineAgrees.{Agrees, TextIs, text-lines}
-use Rattle.md_outline.proofs.RoleLemmas.{by-ending}
-use Rattle.md_outline.proofs.SiteTexts.{IsOpen, Keeps, NoText, TextFrom, begins-texts, text-ends}
+use Rattle.md_outline.proofs.SiteTexts.{NoText, TextFrom, text-ends}
 use Rattle.md_outline.proofs.TextPieces.{Pieces, begun_by, pieces-last, pieces-next}
 
 -- What is known of one that is open, which has told its markers or not.
-pub record Titled (heading : HeadingSoFar) (marked : Bool) (s : OutlineState) (r : Reading) : Type 0 where
-  opened : r.leaf ≡ Some (HeadingSetextLeaf heading)
-  depth : s.depth ≡ depth_of r.outer
-  words : HaveWords r.outer r.here
-  untold : s.untold ≡ None
-  leaf : s.leaf ≡ None
-  lined : s.lined ≡ Some (record { place = length (shown r.outer r.here); is_fenced = marked; form = form.Heading })
+abbrev pub Titled : HeadingSoFar → Bool → OutlineState → Reading → Type 0
+Titled heading marked s r = Known (HeadingSetextLeaf heading) form.Heading marked s r
 
 -- and of what was shown of it: its lines, as if it ended here, with this depth
-pub record Headed (level : ℕ) (heading : HeadingSoFar) (marked : Bool) (s : OutlineState) (r : Reading) : Type 0 where
-  is : Titled heading marked s r
-  all : s.lines ≡ shown r.outer r.here ++ block_entries s.depth (Heading level heading.text)
-
-pub titled-open : (heading : HeadingSoFar) (marked : Bool) (s : OutlineState) (r : Reading) →
-    Titled heading marked s r → IsOpen s r
-titled-open heading marked s r is = record {
-  leaf = HeadingSetextLeaf heading;
-  lined = record { place = length (shown r.outer r.here); is_fenced = marked; form = form.Heading };
-  read = is.opened;
-  shows = is.lined;
-}
-
-pub headed-open : (level : ℕ) (heading : HeadingSoFar) (marked : Bool) (s : OutlineState) (r : Reading) →
-    Headed level heading marked s r → IsOpen s r
-headed-open level heading marked s r h = titled-open heading marked s r h.is
-
--- whatever text is read
-titled-keeps : (heading : HeadingSoFar) (marked : Bool) → Keeps (Titled heading marked)
-titled-keeps heading marked s r span spaces text is = record {
-  opened = is.opened;
-  depth = is.depth;
-  words = is.words;
-  untold = is.untold;
-  leaf = is.leaf;
-  lined = is.lined;
-}
-
-pub headed-keeps : (level : ℕ) (heading : HeadingSoFar) (marked : Bool) → Keeps (Headed level heading marked)
-headed-keeps level heading marked s r span spaces text h =
-    record { is = titled-keeps heading marked s r span spaces text h.is; all = h.all }
+abbrev pub Headed : ℕ → HeadingSoFar → Bool → OutlineState → Reading → Type 0
+Headed level heading marked s r =
+    Shows (HeadingSetextLeaf heading) form.Heading marked (λ depth. block_entries depth (Heading level heading.text)) s r
 
 -- with these lines, in front of its markers
 abbrev pub some_lines : List (List ℕ) → HeadingSoFar
@@ -85,42 +48,10 @@ some_lines text = record { markers = []; text = text }
 abbrev pub Unmarked : OutlineState → Reading → Type 0
 Unmarked s r = (text : List (List ℕ)) × Headed 0 (some_lines text) false s r
 
-pub unmarked-keeps : Keeps Unmarked
-unmarked-keeps s r span spaces text h = (h.0, headed-keeps 0 (some_lines h.0) false s r span spaces text h.1)
-
 -- and with its markers
 abbrev pub IsMarked : OutlineState → Reading → Type 0
 IsMarked s r =
     (heading : HeadingSoFar) × Headed (underline_depth (first_byte heading.markers)) heading true s r
-
--- It begins.
-
-pub heading-begins : (bytes : List ℕ) (p : Point) (s : OutlineState) (r : Reading) → s.text ≡ None → Agrees s r →
-    Headed 0 no_heading false (state_enter bytes (role.Lined (word.Heading 0)) p s)
-    (read_enter bytes (LeafRole OfHeadingSetext) p r)
-    × NoText (state_enter bytes (role.Lined (word.Heading 0)) p s) (read_enter bytes (LeafRole OfHeadingSetext) p r)
-heading-begins bytes p s r none is =
-    let text : r.text ≡ None = begins-texts s r none is in
-    let same : s.lines ≡ shown r.outer r.here =
-    text-lines (shown r.outer r.here) s.depth s.lines None None refl
-    (subst (λ span. TextIs (shown r.outer r.here) s.depth s.lines span None) none
-    (subst (λ t. TextIs (shown r.outer r.here) s.depth s.lines s.text t) text is.text)) in (
-      record {
-        is = record {
-          opened = refl;
-          depth = is.depth;
-          words = is.words;
-          untold = is.untold;
-          leaf = refl;
-          lined =
-              ap
-              (λ (es : List Entry).
-              Some (record { place = length es; is_fenced = false; form = form.Heading })) same;
-        };
-        all = ap (λ es. es ++ entry s.depth (word.Heading 0) ∷ []) same;
-      },
-      (none, text),
-    )
 
 -- Its text.
 
@@ -131,20 +62,11 @@ TitleIs before depth lines (Some span) (Some text) =
 TitleIs before depth lines _ _ = ⊥
 
 -- the lines in front of it
-abbrev head_lines : OutlineState → Reading → List Entry
+abbrev pub head_lines : OutlineState → Reading → List Entry
 head_lines s r = shown r.outer r.here ++ entry s.depth (word.Heading 0) ∷ []
 
 abbrev pub InText : OutlineState → Reading → Type 0
 InText s r = Titled no_heading false s r × TitleIs (head_lines s r) s.depth s.lines s.text r.text
-
-pub title-begins : (p : Point) (s : OutlineState) (r : Reading) → Headed 0 no_heading false s r →
-    InText (record s { text = Some (record { from = byte_at p; is_parted = false }); spaces = columns_left p })
-    (record r { text = Some (begun p) })
-title-begins p s r h = (
-  titled-keeps no_heading false s r (Some (record { from = byte_at p; is_parted = false })) (columns_left p)
-      (Some (begun p)) h.is,
-  (refl, (h.all, refl)),
-)
 
 none-begun : (x : Bool) → begun_by [] x ≡ []
 none-begun true = refl
@@ -164,14 +86,7 @@ prefix-begins bytes p s r (Some span) (Some text) k is h =
     let parts = and_parts (begins_line span piece) (is_blank (last_line (split_lines piece))) k in
     let begun : (s.lines ++ begun_by [] span.is_parted) ++ full ≡ lines s.lined =
     ap (λ es. (s.lines ++ es) ++ full) (none-begun span.is_parted) ∙ sym (ap lines is.lined) in (
-      record {
-        opened = is.opened;
-        depth = is.depth;
-        words = is.words;
-        untold = is.untold;
-        leaf = is.leaf;
-        lined = is.lined;
-      },
+      is,
       (
         h.0,
         subst
@@ -189,21 +104,12 @@ pub title-prefix : (bytes : List ℕ) (p : Point) (s : OutlineState) (r : Readin
 title-prefix bytes p s r k h = prefix-begins bytes p s r s.text r.text k h.0 h.1
 
 -- and ends
-title-from : (p : Point) (before : List Entry) (depth : ℕ) (lines : List Entry) (span : Option TextSpan)
+pub title-from : (p : Point) (before : List Entry) (depth : ℕ) (lines : List Entry) (span : Option TextSpan)
     (text : Option Text) → TitleIs before depth lines span text →
     TitleIs before depth lines (option_map (λ (t : TextSpan). record t { from = byte_at p }) span)
     (option_map (after_prefix p) text)
 title-from p before depth lines (Some span) (Some text) h = (refl, h.1)
 title-from p before depth lines _ _ h = absurd h
-
-pub title-on : (p : Point) (s : OutlineState) (r : Reading) → InText s r →
-    InText (record s { text = option_map (λ (t : TextSpan). record t { from = byte_at p }) s.text })
-    (record r { text = option_map (after_prefix p) r.text })
-title-on p s r h = (
-  titled-keeps no_heading false s r (option_map (λ (t : TextSpan). record t { from = byte_at p }) s.text) s.spaces
-      (option_map (after_prefix p) r.text) h.0,
-  title-from p (head_lines s r) s.depth s.lines s.text r.text h.1,
-)
 
 -- a line ending is a part of it
 line-stays : (bytes : List ℕ) (p : Point) (s : OutlineState) (r : Reading) (before : List Entry) (span : Option TextSpan)
@@ -257,17 +163,7 @@ text-told bytes p s r (Some span) (Some text) k is h =
     (sym is.lined) (
       (
         trim_each (split_lines line.text),
-        record {
-          is = record {
-            opened = ap (option_map (spelled.noted AsHeading line)) is.opened;
-            depth = is.depth;
-            words = is.words;
-            untold = is.untold;
-            leaf = is.leaf;
-            lined = is.lined;
-          };
-          all = all-shown bytes p s r span text k h;
-        },
+        (known-next (spelled.noted AsHeading line) is refl, all-shown bytes p s r span text k h),
       ),
       (refl, refl),
     )
@@ -279,44 +175,7 @@ pub title-ends : (bytes : List ℕ) (p : Point) (s : OutlineState) (r : Reading)
     × NoText (told_at bytes purpose.Title p.index s.text s) (spelled.told_at bytes AsHeading p r.text r)
 title-ends bytes p s r k h = text-told bytes p s r s.text r.text k h.0 h.1
 
--- Behind its text.
-
--- a line ending opens no line of it
-headed-line : (level : ℕ) (heading : HeadingSoFar) (marked : Bool) (s : OutlineState) (r : Reading) →
-    Headed level heading marked s r → Headed level heading marked s (on_leaf next_line r)
-headed-line level heading marked s r h = record {
-  is = record {
-    opened = ap (option_map next_line) h.is.opened;
-    depth = h.is.depth;
-    words = h.is.words;
-    untold = h.is.untold;
-    leaf = h.is.leaf;
-    lined = h.is.lined;
-  };
-  all = h.all;
-}
-
-pub gap-line : (bytes : List ℕ) (p : Point) (s : OutlineState) (r : Reading) → Unmarked s r × NoText s r →
-    Unmarked (line_ended bytes p.index s.lined s.text s) (at_ending bytes p r.text r)
-    × NoText (line_ended bytes p.index s.lined s.text s) (at_ending bytes p r.text r)
-gap-line bytes p s r is =
-    subst
-    (λ (l : Option Lined).
-    Unmarked (line_ended bytes p.index l s.text s) (at_ending bytes p r.text r)
-    × NoText (line_ended bytes p.index l s.text s) (at_ending bytes p r.text r))
-    (sym is.0.1.is.lined)
-    (subst
-    (λ (span : Option TextSpan).
-    Unmarked (line_ended bytes p.index (Some head) span s) (at_ending bytes p r.text r)
-    × NoText (line_ended bytes p.index (Some head) span s) (at_ending bytes p r.text r))
-    (sym is.1.0)
-    (by-ending (λ now. Unmarked s now × NoText s now) bytes p r.text r is
-    ((is.0.0, headed-line 0 (some_lines is.0.0) false s r is.0.1), is.1)))
-  where
-    head : Lined
-    head = record { place = length (shown r.outer r.here); is_fenced = false; form = form.Heading }
-
--- its underline tells its depth
+-- Behind its text its underline tells its depth.
 marks-told : (text : List (List ℕ)) (line : Line) (s : OutlineState) (r : Reading) →
     Headed 0 (some_lines text) false s r →
     IsMarked (told purpose.Markers false line.text (record s { text = None }))
@@ -332,23 +191,16 @@ marks-told text line s r h =
     (spelled.told AsMarkers line (record r { text = None }))
     × NoText (head_marked l line.text (told_leaf note.Markers line.text (record s { text = None })))
     (spelled.told AsMarkers line (record r { text = None })))
-    (sym h.is.lined) (
+    (sym h.0.lined) (
       (
         record { markers = line.text; text = text },
-        record {
-          is = record {
-            opened = ap (option_map (spelled.noted AsMarkers line)) h.is.opened;
-            depth = h.is.depth;
-            words = h.is.words;
-            untold = h.is.untold;
-            leaf = ap (option_map (spelled.noted AsMarkers (record { spaces = 0; text = line.text }))) h.is.leaf;
-            lined = refl;
-          };
-          all =
-              ap (with_head (marked_word b) (length before)) h.all
+        (
+          known-told (spelled.noted AsMarkers line) h.0 refl
+              (ap (option_map (spelled.noted AsMarkers (record { spaces = 0; text = line.text }))) h.0.leaf) refl,
+          ap (with_head (marked_word b) (length before)) h.1
               ∙ head-told (marked_word b) before (entries (s.depth + 1) word.Line text)
-              (entry s.depth (word.Heading 0));
-        },
+              (entry s.depth (word.Heading 0)),
+        ),
       ),
       (refl, refl),
     )
@@ -360,26 +212,3 @@ pub underline-ends : (bytes : List ℕ) (q p : Point) (s : OutlineState) (r : Re
 underline-ends bytes q p s r h from =
     text-ends (λ s r. IsMarked s r × NoText s r) bytes q p AsMarkers purpose.Markers s r from
     (marks-told h.0 (record { spaces = columns_left q; text = slice_range bytes (byte_at q) p.index }) s r h.1)
-
--- It ends.
-
-pub heading-ends : (s : OutlineState) (r : Reading) → IsMarked s r → NoText s r →
-    Agrees (record s { lined = None }) (finished r.leaf r)
-heading-ends s r h none =
-    let heading : HeadingSoFar = h.0 in
-    let block : Block = Heading (underline_depth (first_byte heading.markers)) heading.text in
-    subst (λ (l : Option OpenLeaf). Agrees (record s { lined = None }) (finished l r)) (sym h.1.is.opened)
-    (record {
-      depth = h.1.is.depth;
-      words = words-then r.outer r.here block h.1.is.words;
-      untold = h.1.is.untold;
-      lined = refl;
-      leaf = h.1.is.leaf;
-      known = tt;
-      text =
-          subst (λ span. TextIs (shown r.outer (then_block r.here block)) s.depth s.lines span r.text) (sym none.0)
-          (subst (λ text. TextIs (shown r.outer (then_block r.here block)) s.depth s.lines None text) (sym none.1)
-          (h.1.all
-          ∙ ap (λ d. shown r.outer r.here ++ block_entries d block) h.1.is.depth
-          ∙ sym (shown-then r.outer r.here block h.1.is.words)));
-    })
