@@ -1,6 +1,6 @@
 -- What an outline has read of some events is what the events spell out.
-use Rattle.std.proofs.Common.{◌≡◌, ℕ, ◌+◌, ◌<◌, ◌≤◌, Bool, true, false, ◌||◌, not, List, [], ◌∷◌, ◌++◌, length}
-use Rattle.std.proofs.Common.{drop, get_or, slice_range, Result, Ok, Err, refl, sym, ◌∙◌, ap, subst}
+use Rattle.std.proofs.Common.{◌≡◌, ℕ, ◌+◌, ◌<◌, ◌≤◌, Bool, true, false, ◌||◌, not, List, [], ◌∷◌, length, drop, get_or}
+use Rattle.std.proofs.Common.{slice_range, Result, Ok, Err, refl, sym, ◌∙◌, ap, subst}
 use Rattle.std.specs.Prelude.{Option, Some, None, option_map, OnOk}
 use Rattle.std.specs.List.{list_all}
 use Rattle.std.specs.Str.{IsUtf8}
@@ -13,13 +13,10 @@ use Rattle.md_engine.specs.declared.event.Kind.{Kind}
 use Rattle.md_engine.specs.declared.event.Kind.TheVariants.{Enter, Exit}
 use Rattle.md_engine.specs.declared.event.Point.{Point}
 use Rattle.md_meaning.specs.declared.outline.Word.{Word}
-use Rattle.md_meaning.specs.declared.outline.Word.TheVariants as word
 use Rattle.md_meaning.specs.Outline.{Entry, outline}
-use Rattle.md_seam.specs.Events.Spelled.{AsCell, AsDelimiter, AsDestination, AsHeading, AsInfo, AsLabel, AsLine, AsMeta}
-use Rattle.md_seam.specs.Events.Spelled.{AsTitle, ContainerRole, IsCell, IsFence, IsPrefix, IsRow, IsTitle, OfCode}
-use Rattle.md_seam.specs.Events.Spelled.{OfDefinition, OfFence, OfFrontmatter, OfHeadingSetext, OfHtml, OfTable, OfMath}
-use Rattle.md_seam.specs.Events.Spelled.{OpenLeaf, LeafRole, OrderedShape, Reading, TextRole, UnorderedShape, begun}
-use Rattle.md_seam.specs.Events.Spelled.{byte_at, read, read_by, spelled, unread}
+use Rattle.md_seam.specs.Events.Spelled.{AsHeading, ContainerRole, IsCell, IsFence, IsPrefix, OpenLeaf, LeafRole}
+use Rattle.md_seam.specs.Events.Spelled.{OrderedShape, Reading, TextRole, UnorderedShape, begun, byte_at, read, read_by}
+use Rattle.md_seam.specs.Events.Spelled.{spelled, unread, OfBreak, IsQuoteMarker, IsEnding}
 use Rattle.md_seam.specs.Events.Spelled as spelled
 use Rattle.md_outline.specs.Between.{is_between}
 use Rattle.md_outline.specs.HeadingDepths.{fits}
@@ -27,13 +24,11 @@ use Rattle.md_outline.specs.ListsBegin.{AllTold, ListsBegin, Stage, stage_by}
 use Rattle.md_outline.specs.Outlined.{IsOutlined, are_parted, has_shown_name}
 use Rattle.md_outline.specs.Outlined.{has_unlisted_name, parts_by, span_by, stands_between, tells_between}
 use Rattle.md_outline.specs.OutlineSteps.{BeginsBetween, IsCutAt, IsCutBy, OutlineState, before_all, leaf_ended}
-use Rattle.md_outline.specs.OutlineSteps.{parted_at, state_after, state_by, told_at, told_leaf, delimiter_ended}
-use Rattle.md_outline.specs.OutlineSteps.{head_marked, is_titled, label_ended, marked_at, piece_shown, title_told, told}
+use Rattle.md_outline.specs.OutlineSteps.{parted_at, state_after, state_by, told_at, told_leaf, head_marked, is_titled}
+use Rattle.md_outline.specs.OutlineSteps.{marked_at, piece_shown, title_told, told}
 use Rattle.md_outline.specs.LinesStand.{LinesStand, Outside, Site, site_by}
 use Rattle.md_outline.specs.DefinitionState.{part_word}
-use Rattle.md_outline.specs.ParagraphState.{begin_entries}
 use Rattle.md_outline.specs.Roles.{is_seen, is_shown, is_told, is_unlisted, shown_as}
-use Rattle.md_outline.specs.TextLines.{text_entries}
 use Rattle.md_outline.specs.declared.outline.role.Note.TheVariants as note
 use Rattle.md_outline.specs.declared.outline.role.Purpose.{Purpose}
 use Rattle.md_outline.specs.declared.outline.role.Purpose.TheVariants as purpose
@@ -44,7 +39,7 @@ use Rattle.md_outline.proofs.BlocksStay.{AllHold, blocks-stay, outer_hold}
 use Rattle.md_outline.proofs.LinedLemmas.{span-fenced, span-headed, span-line}
 use Rattle.md_outline.proofs.LinedSteps.{AgreesWithin, agrees-site, sites-closed}
 use Rattle.md_outline.proofs.OutlineDepths.{all-closed}
-use Rattle.md_outline.proofs.RoleLemmas.{ByRole, by-role, role-fresh}
+use Rattle.md_outline.proofs.RoleLemmas.{role-fresh}
 use Rattle.md_outline.proofs.SiteTexts.{span-quoted}
 use Rattle.md_outline.proofs.TabledLemmas.{span-cell}
 use Rattle.md_outline.proofs.TextCuts.{utf8-part}
@@ -63,127 +58,52 @@ span-marked (Some place) text s = refl
 span-told : (bytes : List ℕ) (y : Purpose) (i : ℕ) (span : Option TextSpan) (s : OutlineState) → s.text ≡ span →
     (told_at bytes y i span s).text ≡ None
 span-told bytes y i None s e = e
-span-told bytes purpose.Block i (Some span) s e = refl
 span-told bytes purpose.Title i (Some span) s e = go (is_titled s.lined)
   where
     go : (x : Bool) →
         (title_told x (slice_range bytes span.from i) (record s { text = None })).text ≡ None
     go true = refl
     go false = refl
-span-told bytes purpose.Digits i (Some span) s e = refl
-span-told bytes purpose.FootnoteLabel i (Some span) s e = refl
 span-told bytes purpose.Markers i (Some span) s e =
     span-headed s.lined (slice_range bytes span.from i)
     (told_leaf note.Markers (slice_range bytes span.from i) (record s { text = None }))
-span-told bytes (purpose.Part w) i (Some span) s e = refl
-span-told bytes purpose.Line i (Some span) s e = refl
-span-told bytes purpose.Label i (Some span) s e = refl
-span-told bytes purpose.Destination i (Some span) s e = refl
-span-told bytes purpose.DefinitionTitle i (Some span) s e = refl
-span-told bytes purpose.Cell i (Some span) s e = refl
-span-told bytes purpose.Delimiter i (Some span) s e = refl
 span-told bytes purpose.Marker i (Some span) s e =
     span-marked s.untold (slice_range bytes span.from i) (record s { text = None })
+span-told bytes _ i (Some span) s e = refl
 
 span-leaf : (leaf : Option OpenLeaf) (s : OutlineState) → (leaf_ended leaf s).text ≡ s.text
 span-leaf None s = refl
 span-leaf (Some leaf) s = refl
 
-abbrev SameSpan : List ℕ → Kind → Point → OutlineState → spelled.Role → Role → Type 0
-SameSpan bytes kind p s x y = (state_by bytes kind y p s).text ≡ span_by kind x p s.text
+-- what a text of a purpose is shown as
+abbrev text_as : spelled.Purpose → Purpose
+text_as x = elim (shown_as (TextRole x)) [ role.Text y ↦ y | _ ↦ purpose.Block ]
 
-span-enter : (bytes : List ℕ) (p : Point) (s : OutlineState) → ByRole (SameSpan bytes Enter p s)
-span-enter bytes p s = record {
-  container = λ shape w by. refl;
-  footnote = λ label. refl;
-  prefix = span-parted bytes p.index s.text s refl;
-  begins = λ kind l by. refl;
-  block = λ x by. refl;
-  markers = refl;
-  digits = refl;
-  marker = refl;
-  label = refl;
-  ending = refl;
-  quote_marker = span-quoted bytes p.index s.text s.leaf s.lined s;
-  quiet = refl;
-}
-
-span-exit : (bytes : List ℕ) (p : Point) (s : OutlineState) → ByRole (SameSpan bytes Exit p s)
-span-exit bytes p s = record {
-  container = λ shape w by. refl;
-  footnote = λ label. refl;
-  prefix = refl;
-  begins = λ kind l by. span-leaf s.leaf s;
-  block = λ x by. span-told bytes purpose.Block p.index s.text s refl;
-  markers = span-told bytes purpose.Markers p.index s.text s refl;
-  digits = span-told bytes purpose.Digits p.index s.text s refl;
-  marker = span-told bytes purpose.Marker p.index s.text s refl;
-  label = span-told bytes purpose.FootnoteLabel p.index s.text s refl;
-  ending = span-line bytes p.index s.lined s.text s;
-  quote_marker = refl;
-  quiet = refl;
-}
-
-span-step : (bytes : List ℕ) (kind : Kind) (x : spelled.Role) (p : Point) (s : OutlineState) → is_shown x ≡ true →
+span-step : (bytes : List ℕ) (kind : Kind) (x : spelled.Role) (p : Point) (s : OutlineState) →
     (state_by bytes kind (shown_as x) p s).text ≡ span_by kind x p s.text
-span-step bytes Enter (ContainerRole OrderedShape) p s h = refl
-span-step bytes Enter (ContainerRole UnorderedShape) p s h = refl
-span-step bytes Exit (ContainerRole OrderedShape) p s h = refl
-span-step bytes Exit (ContainerRole UnorderedShape) p s h = refl
-span-step bytes Enter (LeafRole OfCode) p s h = refl
-span-step bytes Enter (LeafRole OfFence) p s h = refl
-span-step bytes Enter (LeafRole OfMath) p s h = refl
-span-step bytes Enter (LeafRole OfHtml) p s h = refl
-span-step bytes Enter (LeafRole OfHeadingSetext) p s h = refl
-span-step bytes Enter (LeafRole OfDefinition) p s h = refl
-span-step bytes Enter (LeafRole OfTable) p s h = refl
-span-step bytes Enter (LeafRole OfFrontmatter) p s h = refl
-span-step bytes Enter IsTitle p s h = refl
-span-step bytes Enter IsRow p s h = refl
-span-step bytes Enter IsCell p s h = span-cell s
-span-step bytes Enter (TextRole AsHeading) p s h = refl
-span-step bytes Enter IsFence p s h = span-fenced s.lined s
-span-step bytes Enter (TextRole AsLine) p s h = refl
-span-step bytes Enter (TextRole AsInfo) p s h = refl
-span-step bytes Enter (TextRole AsMeta) p s h = refl
-span-step bytes Enter (TextRole AsLabel) p s h = refl
-span-step bytes Enter (TextRole AsDestination) p s h = refl
-span-step bytes Enter (TextRole AsTitle) p s h = refl
-span-step bytes Enter (TextRole AsCell) p s h = refl
-span-step bytes Enter (TextRole AsDelimiter) p s h = refl
-span-step bytes Exit (LeafRole OfCode) p s h = refl
-span-step bytes Exit (LeafRole OfFence) p s h = refl
-span-step bytes Exit (LeafRole OfMath) p s h = refl
-span-step bytes Exit (LeafRole OfHtml) p s h = refl
-span-step bytes Exit (LeafRole OfHeadingSetext) p s h = refl
-span-step bytes Exit (LeafRole OfDefinition) p s h = refl
-span-step bytes Exit (LeafRole OfTable) p s h = refl
-span-step bytes Exit (LeafRole OfFrontmatter) p s h = refl
-span-step bytes Exit IsTitle p s h = refl
-span-step bytes Exit IsRow p s h = refl
-span-step bytes Exit IsCell p s h = refl
-span-step bytes Exit (TextRole AsHeading) p s h = span-told bytes purpose.Title p.index s.text s refl
-span-step bytes Exit IsFence p s h = refl
-span-step bytes Exit (TextRole AsLine) p s h = span-told bytes purpose.Line p.index s.text s refl
-span-step bytes Exit (TextRole AsInfo) p s h = span-told bytes (purpose.Part word.Info) p.index s.text s refl
-span-step bytes Exit (TextRole AsMeta) p s h = span-told bytes (purpose.Part word.Meta) p.index s.text s refl
-span-step bytes Exit (TextRole AsLabel) p s h = span-told bytes purpose.Label p.index s.text s refl
-span-step bytes Exit (TextRole AsDestination) p s h = span-told bytes purpose.Destination p.index s.text s refl
-span-step bytes Exit (TextRole AsTitle) p s h = span-told bytes purpose.DefinitionTitle p.index s.text s refl
-span-step bytes Exit (TextRole AsCell) p s h = span-told bytes purpose.Cell p.index s.text s refl
-span-step bytes Exit (TextRole AsDelimiter) p s h = span-told bytes purpose.Delimiter p.index s.text s refl
-span-step bytes Enter x p s h = by-role (SameSpan bytes Enter p s) x (span-enter bytes p s) h
-span-step bytes Exit x p s h = by-role (SameSpan bytes Exit p s) x (span-exit bytes p s) h
+span-step bytes Enter IsPrefix p s = span-parted bytes p.index s.text s refl
+span-step bytes Enter IsFence p s = span-fenced s.lined s
+span-step bytes Enter IsCell p s = span-cell s
+span-step bytes Enter IsQuoteMarker p s = span-quoted bytes p.index s.text s.leaf s.lined s
+span-step bytes Exit IsEnding p s = span-line bytes p.index s.lined s.text s
+span-step bytes Exit (LeafRole OfBreak) p s = span-leaf s.leaf s
+span-step bytes Exit (LeafRole _) p s = first_of (cc, search (span-leaf))
+span-step bytes Exit (TextRole AsHeading) p s = span-told bytes purpose.Title p.index s.text s refl
+span-step bytes Exit (TextRole x) p s = span-told bytes (text_as x) p.index s.text s refl
+span-step bytes Enter (LeafRole OfBreak) p s = refl
+span-step bytes Enter (TextRole AsHeading) p s = refl
+span-step bytes _ (ContainerRole OrderedShape) p s = refl
+span-step bytes _ _ p s = refl
 
 -- one event stands where it may, and so do those behind it
-parted-step : (bytes : List ℕ) (e : Event) (events : List Event) (s : OutlineState) → has_shown_name e ≡ true →
+parted-step : (bytes : List ℕ) (e : Event) (events : List Event) (s : OutlineState) →
     are_parted bytes s.text (e ∷ events) ≡ true →
     (parts_by bytes e.kind (spelled.role e.name) e.point s.text ≡ true) ×
     (are_parted bytes (state_by bytes e.kind (shown_as (spelled.role e.name)) e.point s).text events ≡ true)
-parted-step bytes e events s h k =
+parted-step bytes e events s k =
     let parts = and_parts (parts_by bytes e.kind (spelled.role e.name) e.point s.text)
     (are_parted bytes (span_by e.kind (spelled.role e.name) e.point s.text) events) k in
-    (parts.0, ap (λ x. are_parted bytes x events) (span-step bytes e.kind (spelled.role e.name) e.point s h) ∙ parts.1)
+    (parts.0, ap (λ x. are_parted bytes x events) (span-step bytes e.kind (spelled.role e.name) e.point s) ∙ parts.1)
 
 -- all events: then no text is parted
 agrees-all : (bytes : List ℕ) (events : List Event) (site : Site) (stage : Stage) (s : OutlineState) (r : Reading) →
@@ -194,7 +114,7 @@ agrees-all : (bytes : List ℕ) (events : List Event) (site : Site) (stage : Sta
 agrees-all bytes [] site stage s r h k lists lines d e is = sites-closed bytes site stage s r e k lines is
 agrees-all bytes (e ∷ events) site stage s r h k lists lines d closed is =
     let names = and_parts (has_shown_name e) (list_all has_shown_name events) h in
-    let parts = parted-step bytes e events s names.0 k in
+    let parts = parted-step bytes e events s k in
     let x : spelled.Role = spelled.role e.name in
     let next : Reading = read_by bytes e.kind x e.point r in
     agrees-all bytes events (site_by bytes site e.kind x e.point) (stage_by stage e.kind x e.point)
@@ -258,83 +178,37 @@ part-is_text bytes part span end text is cut epart =
     subst IsUtf8 (sym epart)
     (utf8-part bytes span.from end cut.utf8 (subst (BeginsBetween bytes) is cut.begins) cut.ends)
 
--- its lines, or those that have an ending, are shown behind the begin of the block
-part-shown : (bytes part : List ℕ) (span : TextSpan) (end : ℕ) (text : Option TextSpan) (s : OutlineState) (lines : List Entry)
-    (is_shown : Bool) (shows : ℕ → List ℕ → List Entry) → text ≡ Some span → IsCutAt bytes text end →
-    part ≡ slice_range bytes span.from end →
-    (IsUtf8 part → lines ≡ s.lines ++ begin_entries s.depth is_shown ++ shows (s.depth + 1) part) →
-    lines ≡ s.lines ++ begin_entries s.depth is_shown ++ shows (s.depth + 1) (slice_range bytes span.from end)
-part-shown bytes part span end text s lines is_shown shows is cut epart elines =
-    elines (part-is_text bytes part span end text is cut epart)
-    ∙ ap (λ t. s.lines ++ begin_entries s.depth is_shown ++ shows (s.depth + 1) t) epart
+-- a text ends: it is told
+pub text-end : (bytes part : List ℕ) (span : TextSpan) (end : ℕ) (text : Option TextSpan) (x y : Purpose)
+    (s next : OutlineState) → text ≡ Some span → x ≡ y → part ≡ slice_range bytes span.from end →
+    (IsUtf8 part → next ≡ told y span.is_parted part (record s { text = None })) → IsCutAt bytes text end →
+    next ≡ told_at bytes x end text s
+text-end bytes part span end text x y s next is same epart reads cut =
+    reads (part-is_text bytes part span end text is cut epart)
+    ∙ ap (λ t. told y span.is_parted t (record s { text = None })) epart
+    ∙ sym (ap (λ t. told_at bytes x end t s) is ∙ ap (λ z. told_at bytes z end (Some span) s) same)
 
--- a block of its own ends
-pub block-end : (bytes part : List ℕ) (span : TextSpan) (end : ℕ) (text : Option TextSpan) (x : Purpose) (s : OutlineState)
-    (lines : List Entry) → text ≡ Some span → x ≡ purpose.Block → IsCutAt bytes text end →
-    part ≡ slice_range bytes span.from end →
-    (IsUtf8 part → lines ≡ s.lines ++ begin_entries s.depth span.is_parted ++ text_entries (s.depth + 1) part) →
+-- and shown by its lines alone
+pub lines-end : (bytes part : List ℕ) (span : TextSpan) (end : ℕ) (text : Option TextSpan) (x y : Purpose)
+    (s : OutlineState) (lines : List Entry) →
+    ((piece : List ℕ) →
+    told y span.is_parted piece (record s { text = None }) ≡
+    record s { text = None; lines = (told y span.is_parted piece (record s { text = None })).lines }) →
+    text ≡ Some span → x ≡ y → part ≡ slice_range bytes span.from end →
+    (IsUtf8 part → lines ≡ (told y span.is_parted part (record s { text = None })).lines) → IsCutAt bytes text end →
     record s { text = None; lines = lines } ≡ told_at bytes x end text s
-block-end bytes part span end text x s lines is same cut epart elines =
-    let with_lines : List Entry → OutlineState = λ es. record s { text = None; lines = es } in
-    ap with_lines (part-shown bytes part span end text s lines span.is_parted text_entries is cut epart elines)
-    ∙ sym (ap (λ t. told_at bytes x end t s) is ∙ ap (λ y. told_at bytes y end (Some span) s) same)
-
--- the text of a heading ends
-pub title-end : (bytes part : List ℕ) (span : TextSpan) (end : ℕ) (text : Option TextSpan) (x : Purpose)
-    (s next : OutlineState) → text ≡ Some span → x ≡ purpose.Title → IsCutAt bytes text end →
-    part ≡ slice_range bytes span.from end →
-    (IsUtf8 part → next ≡ title_told (is_titled s.lined) part (record s { text = None })) →
-    next ≡ told_at bytes x end text s
-title-end bytes part span end text x s next is same cut epart reads =
-    reads (part-is_text bytes part span end text is cut epart)
-    ∙ ap (λ t. title_told (is_titled s.lined) t (record s { text = None })) epart
-    ∙ sym (ap (λ t. told_at bytes x end t s) is ∙ ap (λ z. told_at bytes z end (Some span) s) same)
-
--- the label of a definition ends
-pub label-end : (bytes part : List ℕ) (span : TextSpan) (end : ℕ) (text : Option TextSpan) (x : Purpose)
-    (s next : OutlineState) → text ≡ Some span → x ≡ purpose.Label → IsCutAt bytes text end →
-    part ≡ slice_range bytes span.from end →
-    (IsUtf8 part → next ≡ label_ended span.is_parted part (record s { text = None })) →
-    next ≡ told_at bytes x end text s
-label-end bytes part span end text x s next is same cut epart reads =
-    reads (part-is_text bytes part span end text is cut epart)
-    ∙ ap (λ t. label_ended span.is_parted t (record s { text = None })) epart
-    ∙ sym (ap (λ t. told_at bytes x end t s) is ∙ ap (λ z. told_at bytes z end (Some span) s) same)
-
--- the delimiter row of a table ends
-pub delimiter-end : (bytes part : List ℕ) (span : TextSpan) (end : ℕ) (text : Option TextSpan) (x : Purpose)
-    (s next : OutlineState) → text ≡ Some span → x ≡ purpose.Delimiter → IsCutAt bytes text end →
-    part ≡ slice_range bytes span.from end →
-    (IsUtf8 part → next ≡ delimiter_ended part (record s { text = None })) → next ≡ told_at bytes x end text s
-delimiter-end bytes part span end text x s next is same cut epart reads =
-    reads (part-is_text bytes part span end text is cut epart)
-    ∙ ap (λ t. delimiter_ended t (record s { text = None })) epart
-    ∙ sym (ap (λ t. told_at bytes x end t s) is ∙ ap (λ z. told_at bytes z end (Some span) s) same)
+lines-end bytes part span end text x y s lines alone is same epart reads cut =
+    text-end bytes part span end text x y s (record s { text = None; lines = lines }) is same epart
+    (λ utf8. ap (λ es. record s { text = None; lines = es }) (reads utf8) ∙ sym (alone part)) cut
 
 -- a run of markers ends
 pub markers-end : (bytes part : List ℕ) (span : TextSpan) (end : ℕ) (text : Option TextSpan) (x : Purpose)
-    (s middle next : OutlineState) → text ≡ Some span → x ≡ purpose.Markers → IsCutAt bytes text end →
-    part ≡ slice_range bytes span.from end →
-    (IsUtf8 part → middle ≡ told_leaf note.Markers part (record s { text = None })) →
-    next ≡ head_marked middle.lined part middle → next ≡ told_at bytes x end text s
-markers-end bytes part span end text x s middle next is same cut epart reads marks =
-    marks
-    ∙ ap (λ (m : OutlineState). head_marked m.lined part m) (reads (part-is_text bytes part span end text is cut epart))
-    ∙ ap (λ t. head_marked s.lined t (told_leaf note.Markers t (record s { text = None }))) epart
-    ∙ sym (ap (λ t. told_at bytes x end t s) is ∙ ap (λ z. told_at bytes z end (Some span) s) same)
-
--- a text of a leaf block of several lines ends, which is shown by its lines
-pub part-end : (bytes part : List ℕ) (span : TextSpan) (end : ℕ) (text : Option TextSpan) (x y : Purpose) (s : OutlineState)
-    (lines : List Entry) (shows : List ℕ → List Entry) → text ≡ Some span → x ≡ y → IsCutAt bytes text end →
-    part ≡ slice_range bytes span.from end → (IsUtf8 part → lines ≡ shows part) →
-    record s { text = None; lines = shows (slice_range bytes span.from end) }
-    ≡ told y span.is_parted (slice_range bytes span.from end) (record s { text = None }) →
-    record s { text = None; lines = lines } ≡ told_at bytes x end text s
-part-end bytes part span end text x y s lines shows is same cut epart elines told_so =
-    let with_lines : List Entry → OutlineState = λ es. record s { text = None; lines = es } in
-    ap with_lines (elines (part-is_text bytes part span end text is cut epart) ∙ ap shows epart)
-    ∙ told_so
-    ∙ sym (ap (λ t. told_at bytes x end t s) is ∙ ap (λ z. told_at bytes z end (Some span) s) same)
+    (s middle next : OutlineState) → text ≡ Some span → x ≡ purpose.Markers →
+    part ≡ slice_range bytes span.from end → (IsUtf8 part → middle ≡ told_leaf note.Markers part (record s { text = None })) →
+    next ≡ head_marked middle.lined part middle → IsCutAt bytes text end → next ≡ told_at bytes x end text s
+markers-end bytes part span end text x s middle next is same epart reads marks =
+    text-end bytes part span end text x purpose.Markers s next is same epart
+    (λ utf8. marks ∙ ap (λ (m : OutlineState). head_marked m.lined part m) (reads utf8))
 
 -- a prefix has begun in a text: of another block, or of a part of a definition
 pub piece-end : (bytes part : List ℕ) (span : TextSpan) (end : ℕ) (text : Option TextSpan) (s : OutlineState)
@@ -400,15 +274,14 @@ state-next bytes events i d s next all is lt goes reads =
     let x : spelled.Role = spelled.role e.name in
     let between : stands_between bytes e ≡ true = all-at (stands_between bytes) events i d lt is.between in
     let tells : tells_between bytes e ≡ true = all-at (tells_between bytes) events i d lt is.texts in
-    let name : has_shown_name e ≡ true = all-at has_shown_name events i d lt is.names in
-    let parts = parted-step bytes e (drop (i + 1) events) s name
+    let parts = parted-step bytes e (drop (i + 1) events) s
     (sym (at_drop_more (are_parted bytes s.text) events i d lt) ∙ goes.parted) in
     let read : next ≡ state_by bytes e.kind (shown_as x) e.point s =
     reads (cut-by (shown_as x) bytes s.text e.point.index is.text goes.begins between) in
     record {
       begins =
           subst (BeginsBetween bytes)
-          (sym (ap (λ (n : OutlineState). n.text) read ∙ span-step bytes e.kind x e.point s name))
+          (sym (ap (λ (n : OutlineState). n.text) read ∙ span-step bytes e.kind x e.point s))
           (begins-step bytes e.kind x e.point s.text tells parts.0 goes.begins);
       parted = ap (λ (n : OutlineState). are_parted bytes n.text (drop (i + 1) events)) read ∙ parts.1;
       comes =
