@@ -21,8 +21,8 @@ use Rattle.md_seam.proofs.SpelledLemmas.{Between, Quiet, QuietOrEnding, Roles}
 use Rattle.md_outline.specs.LinesStand.{AtLabel, AtTitleText, BehindPart, BehindTitleText, InDestination, InPart}
 use Rattle.md_outline.specs.LinesStand.{InParted, LabelPart, Left, LinesStand, MayHaveDestination, MayHaveTitle}
 use Rattle.md_outline.specs.LinesStand.{MayStand, NoneLeft, Outside, Part, Site, TitleLeft, TitlePart, part_site, site_by}
-use Rattle.md_outline.proofs.LinesPass.{Keeps, Passes, Steps, keeps-quiet, keeps-quote_marker, passes-append}
-use Rattle.md_outline.proofs.LinesPass.{passes-around, passes-by, passes-event, passes-quiet, stand-both}
+use Rattle.md_outline.proofs.LinesPass.{Passes, Steps, passes-append, passes-around, passes-event, passes-quiet}
+use Rattle.md_outline.proofs.LinesPass.{stand-both, passes-lines, passes-inline}
 
 -- All of it.
 pub passes-definition : (bytes : List ℕ) (name : Name) (p q : Point) (left : Left) (es : List Event) →
@@ -35,16 +35,7 @@ passes-definition bytes name p q left es is h =
 -- Between its parts endings and prefixes may stand,
 pub passes-between : (bytes : List ℕ) (left : Left) (es : List Event) → Roles Between es →
     Passes bytes (BehindPart left) (BehindPart left) es
-passes-between bytes left es h = passes-by bytes Between (BehindPart left) es one h
-  where
-    one : (x : Role) → Between x → Keeps bytes (BehindPart left) x
-    one IsQuiet h kind p = keeps-quiet bytes (BehindPart left) kind p
-    one IsQuoteMarker h kind p = keeps-quote_marker bytes (BehindPart left) kind p
-    one IsPrefix h Enter p = (tt, refl)
-    one IsPrefix h Exit p = (tt, refl)
-    one IsEnding h Enter p = (tt, refl)
-    one IsEnding h Exit p = (tt, refl)
-    one _ h kind p = absurd h
+passes-between bytes left es h = passes-lines bytes (BehindPart left) es tt h
 
 -- its destination,
 pub passes-destination : (bytes : List ℕ) (name : Name) (p q : Point) (left : Left) (es : List Event) →
@@ -99,36 +90,13 @@ first-ends : (bytes : List ℕ) (part : Part) (p q : Point) →
 first-ends bytes LabelPart p q = (tt, refl)
 first-ends bytes TitlePart p q = (tt, refl)
 
-passes-first : (bytes : List ℕ) (part : Part) (p : Point) (es : List Event) → Roles QuietOrEnding es →
-    Passes bytes (InPart part p) (InPart part p) es
-passes-first bytes part p es h = passes-by bytes QuietOrEnding (InPart part p) es one h
-  where
-    one : (x : Role) → QuietOrEnding x → Keeps bytes (InPart part p) x
-    one IsQuiet h kind q = keeps-quiet bytes (InPart part p) kind q
-    one IsEnding h Enter q = (tt, refl)
-    one IsEnding h Exit q = (tt, refl)
-    one _ h kind q = absurd h
-
 pub passes-part_line : (bytes : List ℕ) (part : Part) (name : Name) (p q : Point) (es : List Event) →
     role name ≡ TextRole (part_purpose part) → Roles QuietOrEnding es →
     Passes bytes (part_begin part) (part_site part) (around name p q es)
 passes-part_line bytes part name p q es is h =
-    passes-text bytes part name p q (InPart part p) es is (passes-first bytes part p es h) (first-ends bytes part p q)
+    passes-text bytes part name p q (InPart part p) es is (passes-inline bytes (InPart part p) es tt h) (first-ends bytes part p q)
 
 -- and with prefixes, which stand behind an ending
-passes-parted : (bytes : List ℕ) (part : Part) (es : List Event) → Roles Between es →
-    Passes bytes (InParted part) (InParted part) es
-passes-parted bytes part es h = passes-by bytes Between (InParted part) es one h
-  where
-    one : (x : Role) → Between x → Keeps bytes (InParted part) x
-    one IsQuiet h kind p = keeps-quiet bytes (InParted part) kind p
-    one IsQuoteMarker h kind p = keeps-quote_marker bytes (InParted part) kind p
-    one IsPrefix h Enter p = (tt, refl)
-    one IsPrefix h Exit p = (tt, refl)
-    one IsEnding h Enter p = (tt, refl)
-    one IsEnding h Exit p = (tt, refl)
-    one _ h kind p = absurd h
-
 any-longer : (xs : List ℕ) (m n : ℕ) → m ≤ n → list_any is_ending (take m xs) ≡ true →
     list_any is_ending (take n xs) ≡ true
 any-longer xs zero n le h = absurd (true≢false (sym h))
@@ -221,7 +189,7 @@ walk bytes part q i names (e ∷ es) ys none matches forward between some first 
     (λ left.
     walk bytes part q e.point (open_behind names e.kind e.name) es ys left matches.1 forward.1 between.1 here first
     parted)
-    (passes-parted bytes part es between.1 ys parted)
+    (passes-lines bytes (InParted part) es tt between.1 ys parted)
 
 parted-ends : (bytes : List ℕ) (part : Part) (q : Point) →
     MayStand bytes (InParted part) Exit (TextRole (part_purpose part)) q
@@ -251,7 +219,7 @@ passes-part bytes part name p i q first further is line some balanced forward be
     inside ys more =
         stand-both bytes (InPart part p) (first ++ further) (exit name q ∷ []) ys
         (stand-both bytes (InPart part p) first further (exit name q ∷ ys)
-        (passes-first bytes part p first line (further ++ exit name q ∷ ys)
+        (passes-inline bytes (InPart part p) first tt line (further ++ exit name q ∷ ys)
         (walk bytes part p i [] further (exit name q ∷ ys) tt balanced.matches forward between some
         (ends (InPart part p) (first-ends bytes part p q) ys more)
         (ends (InParted part) (parted-ends bytes part q) ys more))))

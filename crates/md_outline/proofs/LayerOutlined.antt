@@ -2,7 +2,7 @@
 -- may those of any layer.
 use Rattle.std.proofs.Common.{◌≡◌, ℕ, zero, suc, Bool, true, false, cond, ◌&&◌, ◌||◌, not, List, [], ◌∷◌, ◌++◌, refl}
 use Rattle.std.proofs.Common.{ap, sym, ◌∙◌, subst}
-use Rattle.std.specs.Prelude.{◌==◌, Option, Some, None}
+use Rattle.std.specs.Prelude.{◌==◌, Option, None}
 use Rattle.std.specs.List.{list_all}
 use Rattle.std.proofs.lemmas.Bool.{and_from, and_parts, not-true}
 use Rattle.md_engine.specs.declared.event.Event.{Event}
@@ -19,7 +19,7 @@ use Rattle.md_seam.specs.Events.Places.{same_place}
 use Rattle.md_seam.specs.Events.Spelled.{AsCell, AsDelimiter, AsDestination, AsDigits, AsFootnoteLabel, AsHeading}
 use Rattle.md_seam.specs.Events.Spelled.{AsInfo, AsItemMarker, AsLabel, AsLine, AsMarkers, AsMeta, AsParagraph, AsTitle}
 use Rattle.md_seam.specs.Events.Spelled.{IsEnding, IsPrefix, IsQuiet, IsQuoteMarker, Purpose, Role, TextRole, byte_at}
-use Rattle.md_seam.specs.Events.Spelled.{role}
+use Rattle.md_seam.specs.Events.Spelled.{role, LeafRole}
 use Rattle.md_seam.specs.Events.Tiles.{Tiles, chunks_stand, depth_behind, filled, filled_from, first_list, further_lists}
 use Rattle.md_seam.specs.Events.Tiles.{is_chunk, is_part, parts, plain_lists, plain_read, stands_in_part}
 use Rattle.md_seam.proofs.FilledLemmas.{EachInline, chunk-behind, first-inline, further-inline, spelled-filled}
@@ -29,16 +29,13 @@ use Rattle.md_seam.proofs.PartsLemmas.{inline-append, parts-are, read-inline_lis
 use Rattle.md_seam.proofs.SpelledLemmas.{QuietOrEnding, QuietOrPrefix, Roles, roles-append}
 use Rattle.md_outline.specs.Between.{is_between}
 use Rattle.md_outline.specs.HeadingDepths.{are_shallow}
-use Rattle.md_outline.specs.LinesStand.{AtInfo, AtLabel, AtMeta, AtTitle, AtTitleText, BehindPart, InAtxText}
-use Rattle.md_outline.specs.LinesStand.{InDestination, InPart, InParted, InTable, InText, InTitle, LinesStand, MayStand}
-use Rattle.md_outline.specs.LinesStand.{Outside, Site, site_by, table_site}
+use Rattle.md_outline.specs.LinesStand.{InTable, LinesStand, MayStand, Outside, Site, site_by, table_site}
 use Rattle.md_outline.specs.ListsBegin.{AllTold, AtLabel as AtFootnoteLabel, ListsBegin, MayFollow, Stage, stage_by}
 use Rattle.md_outline.specs.Outlined.{IsOutlined, OpenTextSpan, are_parted, has_shown_name, parts_by, span_by}
 use Rattle.md_outline.specs.Outlined.{stands_between, tells_between}
 use Rattle.md_outline.specs.Roles.{is_seen, is_shown, is_told, shown_as}
-use Rattle.md_outline.specs.TablePlaces.{AtCell, AtHead, BehindCell, BehindHead, BehindRow, InCell, InDelimiter, InRow}
-use Rattle.md_outline.specs.TablePlaces.{MayBe, TablePlace, spot_by}
-use Rattle.md_outline.proofs.LinesPass.{keeps-quiet, keeps-quote_marker}
+use Rattle.md_outline.specs.TablePlaces.{AtHead, MayBe, TablePlace, spot_by}
+use Rattle.md_outline.proofs.LinesPass.{keeps-quiet, keeps-quote_marker, text-keeps, IsTextSite}
 
 -- Text parts.
 
@@ -261,15 +258,11 @@ all-walk P inline = record {
 -- over the texts that are parted
 parts-keep : (bytes : List ℕ) (span : Option OpenTextSpan) (kind : Kind) (x : Role) (p : Point) → QuietOrEnding x →
     (parts_by bytes kind x p span ≡ true) × (span_by kind x p span ≡ span)
-parts-keep bytes None Enter IsQuiet p is = (refl, refl)
-parts-keep bytes None Exit IsQuiet p is = (refl, refl)
-parts-keep bytes None Enter IsEnding p is = (refl, refl)
-parts-keep bytes None Exit IsEnding p is = (refl, refl)
-parts-keep bytes (Some span) Enter IsQuiet p is = (refl, refl)
-parts-keep bytes (Some span) Exit IsQuiet p is = (refl, refl)
-parts-keep bytes (Some span) Enter IsEnding p is = (refl, refl)
-parts-keep bytes (Some span) Exit IsEnding p is = (refl, refl)
-parts-keep bytes span kind _ p is = absurd is
+parts-keep bytes span kind (LeafRole k) p is = absurd is
+parts-keep bytes None Enter x p is = search
+parts-keep bytes None Exit x p is = search
+parts-keep bytes _ Enter x p is = search
+parts-keep bytes _ Exit x p is = search
 
 parts-walk : (bytes : List ℕ) → Walk (Option OpenTextSpan) (λ span es. are_parted bytes span es ≡ true)
 parts-walk bytes = record {
@@ -297,45 +290,24 @@ IsToldText _ = ⊥
 lists-begin : (bytes : List ℕ) (stage : Stage) (x : Purpose) (p : Point) → IsPartText x →
     MayFollow bytes stage Enter (TextRole x) p → IsToldText (stage_by stage Enter (TextRole x) p)
 lists-begin bytes stage AsMarkers p is may = absurd is
-lists-begin bytes stage AsLine p is may = absurd is
-lists-begin bytes stage AsDelimiter p is may = absurd is
-lists-begin bytes stage AsDigits p is may = absurd is
-lists-begin bytes stage AsItemMarker p is may = absurd is
-lists-begin bytes AllTold x p is may = tt
-lists-begin bytes AtFootnoteLabel x p is may = tt
-lists-begin bytes _ x p is may = absurd may
+lists-begin bytes AllTold x p is may = search
+lists-begin bytes _ x p is may = search
 
 lists-go : (bytes : List ℕ) (stage : Stage) (kind : Kind) (x : Role) (p : Point) → IsToldText stage →
     QuietOrPrefix x → IsToldText (stage_by stage kind x p)
-lists-go bytes AllTold Enter IsQuiet p text is = tt
-lists-go bytes AllTold Exit IsQuiet p text is = tt
-lists-go bytes AllTold Enter IsQuoteMarker p text is = tt
-lists-go bytes AllTold Exit IsQuoteMarker p text is = tt
-lists-go bytes AllTold Enter IsPrefix p text is = tt
-lists-go bytes AllTold Exit IsPrefix p text is = tt
-lists-go bytes AtFootnoteLabel Enter IsQuiet p text is = tt
-lists-go bytes AtFootnoteLabel Exit IsQuiet p text is = tt
-lists-go bytes AtFootnoteLabel Enter IsQuoteMarker p text is = tt
-lists-go bytes AtFootnoteLabel Exit IsQuoteMarker p text is = tt
-lists-go bytes AtFootnoteLabel Enter IsPrefix p text is = tt
-lists-go bytes AtFootnoteLabel Exit IsPrefix p text is = tt
-lists-go bytes AllTold kind _ p text is = absurd is
-lists-go bytes AtFootnoteLabel kind _ p text is = absurd is
-lists-go bytes _ kind x p text is = absurd text
+lists-go bytes stage kind (LeafRole k) p text is = absurd is
+lists-go bytes AllTold Enter x p text is = search
+lists-go bytes AllTold Exit x p text is = search
+lists-go bytes _ Enter x p text is = search
+lists-go bytes _ Exit x p text is = search
 
 lists-keep : (bytes : List ℕ) (stage : Stage) (kind : Kind) (x : Role) (p : Point) → IsToldText stage →
     QuietOrEnding x → MayFollow bytes stage kind x p × (stage_by stage kind x p ≡ stage)
-lists-keep bytes AllTold Enter IsQuiet p text is = (tt, refl)
-lists-keep bytes AllTold Exit IsQuiet p text is = (tt, refl)
-lists-keep bytes AllTold Enter IsEnding p text is = (tt, refl)
-lists-keep bytes AllTold Exit IsEnding p text is = (tt, refl)
-lists-keep bytes AtFootnoteLabel Enter IsQuiet p text is = (tt, refl)
-lists-keep bytes AtFootnoteLabel Exit IsQuiet p text is = (tt, refl)
-lists-keep bytes AtFootnoteLabel Enter IsEnding p text is = (tt, refl)
-lists-keep bytes AtFootnoteLabel Exit IsEnding p text is = (tt, refl)
-lists-keep bytes AllTold kind _ p text is = absurd is
-lists-keep bytes AtFootnoteLabel kind _ p text is = absurd is
-lists-keep bytes _ kind x p text is = absurd text
+lists-keep bytes stage kind (LeafRole k) p text is = absurd is
+lists-keep bytes AllTold Enter x p text is = search
+lists-keep bytes AllTold Exit x p text is = search
+lists-keep bytes _ Enter x p text is = search
+lists-keep bytes _ Exit x p text is = search
 
 lists-walk : (bytes : List ℕ) → Walk Stage (ListsBegin bytes)
 lists-walk bytes = record {
@@ -349,54 +321,18 @@ lists-walk bytes = record {
   keeps = lists-keep bytes;
 }
 
--- over leaf blocks of several lines: where in them one is in a text part
-abbrev IsTextSite : Site → Type 0
-IsTextSite Outside = Unit {0}
-IsTextSite (InText kind purpose) = Unit {0}
-IsTextSite InTitle = Unit {0}
-IsTextSite InAtxText = Unit {0}
-IsTextSite (InPart part q) = Unit {0}
-IsTextSite (InParted part) = Unit {0}
-IsTextSite InDestination = Unit {0}
-IsTextSite (InTable (InCell row)) = Unit {0}
-IsTextSite _ = ⊥
-
+-- over leaf blocks of several lines
 cell-begins : (spot : TablePlace) (x : Purpose) → IsPartText x → MayBe spot Enter (TextRole x) →
     IsTextSite (table_site (spot_by spot Enter (TextRole x)))
 cell-begins spot AsMarkers is may = absurd is
-cell-begins spot AsLine is may = absurd is
-cell-begins spot AsDelimiter is may = absurd is
-cell-begins spot AsDigits is may = absurd is
-cell-begins spot AsItemMarker is may = absurd is
-cell-begins (AtCell row) AsCell is may = tt
-cell-begins (AtCell row) x is may = absurd may
 cell-begins AtHead x is may = absurd may
-cell-begins (InRow row) x is may = absurd may
-cell-begins (InCell row) x is may = absurd may
-cell-begins (BehindCell row) x is may = absurd may
-cell-begins BehindHead x is may = absurd may
-cell-begins InDelimiter x is may = absurd may
-cell-begins BehindRow x is may = absurd may
+cell-begins _ x is may = search
 
 lines-begin : (bytes : List ℕ) (site : Site) (x : Purpose) (p : Point) → IsPartText x →
     MayStand bytes site Enter (TextRole x) p → IsTextSite (site_by bytes site Enter (TextRole x) p)
 lines-begin bytes site AsMarkers p is may = absurd is
-lines-begin bytes site AsLine p is may = absurd is
-lines-begin bytes site AsDelimiter p is may = absurd is
-lines-begin bytes site AsDigits p is may = absurd is
-lines-begin bytes site AsItemMarker p is may = absurd is
-lines-begin bytes Outside AsHeading p is may = tt
-lines-begin bytes Outside AsParagraph p is may = tt
-lines-begin bytes Outside AsFootnoteLabel p is may = tt
-lines-begin bytes (AtInfo kind) AsInfo p is may = tt
-lines-begin bytes (AtInfo kind) AsMeta p is may = tt
-lines-begin bytes (AtMeta kind) AsMeta p is may = tt
-lines-begin bytes AtTitle AsHeading p is may = tt
-lines-begin bytes AtLabel AsLabel p is may = tt
-lines-begin bytes (BehindPart left) AsDestination p is may = tt
-lines-begin bytes AtTitleText AsTitle p is may = tt
 lines-begin bytes (InTable spot) x p is may = cell-begins spot x is may
-lines-begin bytes _ _ p is may = absurd may
+lines-begin bytes _ x p is may = search
 
 lines-go : (bytes : List ℕ) (site : Site) (kind : Kind) (x : Role) (p : Point) → IsTextSite site →
     QuietOrPrefix x → MayStand bytes site kind x p → IsTextSite (site_by bytes site kind x p)
@@ -405,41 +341,11 @@ lines-go bytes site kind IsQuiet p text is may =
 lines-go bytes site kind IsQuoteMarker p text is may =
     subst IsTextSite (sym (keeps-quote_marker bytes site kind p).1) text
 lines-go bytes Outside Enter IsPrefix p text is may = tt
-lines-go bytes Outside Exit IsPrefix p text is may = tt
-lines-go bytes InTitle Enter IsPrefix p text is may = tt
-lines-go bytes InTitle Exit IsPrefix p text is may = tt
-lines-go bytes (InPart part q) Enter IsPrefix p text is may = tt
-lines-go bytes (InPart part q) Exit IsPrefix p text is may = absurd may
-lines-go bytes (InParted part) Enter IsPrefix p text is may = tt
-lines-go bytes (InParted part) Exit IsPrefix p text is may = tt
-lines-go bytes (InText k y) kind IsPrefix p text is may = absurd may
-lines-go bytes InAtxText kind IsPrefix p text is may = absurd may
-lines-go bytes InDestination kind IsPrefix p text is may = absurd may
-lines-go bytes (InTable (InCell row)) kind IsPrefix p text is may = absurd may
-lines-go bytes _ kind IsPrefix p text is may = absurd text
+lines-go bytes (InTable AtHead) Enter IsPrefix p text is may = absurd text
+lines-go bytes (InTable AtHead) Exit IsPrefix p text is may = absurd text
+lines-go bytes _ Enter IsPrefix p text is may = search
+lines-go bytes _ Exit IsPrefix p text is may = search
 lines-go bytes site kind _ p text is may = absurd is
-
-lines-keep : (bytes : List ℕ) (site : Site) (kind : Kind) (x : Role) (p : Point) → IsTextSite site →
-    QuietOrEnding x → MayStand bytes site kind x p × (site_by bytes site kind x p ≡ site)
-lines-keep bytes site kind IsQuiet p text is = keeps-quiet bytes site kind p
-lines-keep bytes Outside Enter IsEnding p text is = (tt, refl)
-lines-keep bytes Outside Exit IsEnding p text is = (tt, refl)
-lines-keep bytes (InText k y) Enter IsEnding p text is = (tt, refl)
-lines-keep bytes (InText k y) Exit IsEnding p text is = (tt, refl)
-lines-keep bytes InTitle Enter IsEnding p text is = (tt, refl)
-lines-keep bytes InTitle Exit IsEnding p text is = (tt, refl)
-lines-keep bytes InAtxText Enter IsEnding p text is = (tt, refl)
-lines-keep bytes InAtxText Exit IsEnding p text is = (tt, refl)
-lines-keep bytes (InPart part q) Enter IsEnding p text is = (tt, refl)
-lines-keep bytes (InPart part q) Exit IsEnding p text is = (tt, refl)
-lines-keep bytes (InParted part) Enter IsEnding p text is = (tt, refl)
-lines-keep bytes (InParted part) Exit IsEnding p text is = (tt, refl)
-lines-keep bytes InDestination Enter IsEnding p text is = (tt, refl)
-lines-keep bytes InDestination Exit IsEnding p text is = (tt, refl)
-lines-keep bytes (InTable (InCell row)) Enter IsEnding p text is = (tt, refl)
-lines-keep bytes (InTable (InCell row)) Exit IsEnding p text is = (tt, refl)
-lines-keep bytes _ kind IsEnding p text is = absurd text
-lines-keep bytes site kind _ p text is = absurd is
 
 lines-walk : (bytes : List ℕ) → Walk Site (LinesStand bytes)
 lines-walk bytes = record {
@@ -450,7 +356,7 @@ lines-walk bytes = record {
   joins = λ site e es h k. joined bytes site e es h k;
   begins = lines-begin bytes;
   goes = lines-go bytes;
-  keeps = lines-keep bytes;
+  keeps = λ site kind x p text is. text-keeps bytes site x text is kind p;
 }
   where
     taken : (bytes : List ℕ) (site : Site) (e : Event) (es : List Event) → LinesStand bytes site (e ∷ es) →

@@ -7,12 +7,12 @@ use Rattle.md_engine.specs.declared.event.Point.{Point}
 use Rattle.md_meaning.specs.declared.outline.Word.TheVariants as word
 use Rattle.md_meaning.specs.Outline.{outline}
 use Rattle.md_meaning.specs.Tree.{Line}
-use Rattle.md_seam.specs.Events.Spelled.{AsCell, AsDelimiter, AsDestination, AsHeading, AsInfo, AsLabel, AsLine}
-use Rattle.md_seam.specs.Events.Spelled.{AsMarkers, AsMeta, AsTitle, FootnoteShape, ContainerRole, IsCell, IsEnding}
-use Rattle.md_seam.specs.Events.Spelled.{IsFence, IsPrefix, IsQuiet, IsQuoteMarker, IsRow, IsTitle, LeafKind, OfCode}
-use Rattle.md_seam.specs.Events.Spelled.{OfDefinition, OfFence, OfFrontmatter, OfHeadingSetext, OfHtml, OfMath, OfTable}
-use Rattle.md_seam.specs.Events.Spelled.{LeafRole, OrderedShape, Reading, TextRole, UnorderedShape, byte_at}
-use Rattle.md_seam.specs.Events.Spelled.{columns_left, empty_line, no_heading, read_by, read_exit, next_line}
+use Rattle.md_seam.specs.Events.Spelled.{AsDestination, AsHeading, AsInfo, AsLabel, AsLine, AsMarkers, AsMeta, AsTitle}
+use Rattle.md_seam.specs.Events.Spelled.{FootnoteShape, ContainerRole, IsEnding, IsFence, IsPrefix, IsQuiet}
+use Rattle.md_seam.specs.Events.Spelled.{IsQuoteMarker, IsTitle, LeafKind, OfCode, OfDefinition, OfFence, OfFrontmatter}
+use Rattle.md_seam.specs.Events.Spelled.{OfHeadingSetext, OfHtml, OfMath, OfTable, LeafRole, OrderedShape, Reading}
+use Rattle.md_seam.specs.Events.Spelled.{TextRole, UnorderedShape, byte_at, columns_left, empty_line, no_heading}
+use Rattle.md_seam.specs.Events.Spelled.{read_by, read_exit, next_line}
 use Rattle.md_seam.specs.Events.Spelled as spelled
 use Rattle.md_outline.specs.HeadingDepths.{are_shallow}
 use Rattle.md_outline.specs.LinesStand.{AtEnd, AtEnding, AtInfo, AtLabel, AtLine, AtMarkers, AtMeta, AtTitle}
@@ -318,38 +318,14 @@ agrees-site bytes Outside AllTold Enter (LeafRole OfTable) p s r h fresh k d may
     leaf-begins bytes OfTable (word.Table 0) p s r (no-span bytes OfTable p s.text refl k) is
 agrees-site bytes Outside AllTold Enter (TextRole AsHeading) p s r h fresh k d may stands is =
     (agrees-begun p s r (apart bytes Enter (TextRole AsHeading) p s.text (λ t. refl) k) is, refl)
-agrees-site bytes Outside stage Enter (LeafRole OfCode) p s r h fresh k d may stands is = absurd may
-agrees-site bytes Outside stage Enter (LeafRole OfFence) p s r h fresh k d may stands is = absurd may
-agrees-site bytes Outside stage Enter (LeafRole OfMath) p s r h fresh k d may stands is = absurd may
-agrees-site bytes Outside stage Enter (LeafRole OfHtml) p s r h fresh k d may stands is = absurd may
-agrees-site bytes Outside stage Enter (LeafRole OfHeadingSetext) p s r h fresh k d may stands is = absurd may
-agrees-site bytes Outside stage Enter (LeafRole OfDefinition) p s r h fresh k d may stands is = absurd may
-agrees-site bytes Outside stage Enter (LeafRole OfTable) p s r h fresh k d may stands is = absurd may
-agrees-site bytes Outside stage Enter (LeafRole OfFrontmatter) p s r h fresh k d may stands is = absurd may
+agrees-site bytes Outside AllTold Enter (LeafRole x) p s r h fresh k d may stands is =
+    agrees-stage bytes AllTold Enter (LeafRole x) p s r h fresh k d may is
+agrees-site bytes Outside stage Enter (LeafRole x) p s r h fresh k d may stands is = absurd may
 agrees-site bytes Outside stage Enter (TextRole AsHeading) p s r h fresh k d may stands is = absurd may
 agrees-site bytes Outside stage Exit (LeafRole OfCode) p s r h fresh k d may stands is = absurd stands
-agrees-site bytes Outside stage Exit (LeafRole OfFence) p s r h fresh k d may stands is = absurd stands
-agrees-site bytes Outside stage Exit (LeafRole OfMath) p s r h fresh k d may stands is = absurd stands
-agrees-site bytes Outside stage Exit (LeafRole OfHtml) p s r h fresh k d may stands is = absurd stands
-agrees-site bytes Outside stage Exit (LeafRole OfHeadingSetext) p s r h fresh k d may stands is = absurd stands
-agrees-site bytes Outside stage Exit (LeafRole OfDefinition) p s r h fresh k d may stands is = absurd stands
-agrees-site bytes Outside stage Exit (LeafRole OfTable) p s r h fresh k d may stands is = absurd stands
-agrees-site bytes Outside stage Exit (LeafRole OfFrontmatter) p s r h fresh k d may stands is = absurd stands
 agrees-site bytes Outside stage Exit (TextRole AsHeading) p s r h fresh k d may stands is = absurd stands
-agrees-site bytes Outside stage kind IsFence p s r h fresh k d may stands is = absurd stands
-agrees-site bytes Outside stage kind IsTitle p s r h fresh k d may stands is = absurd stands
-agrees-site bytes Outside stage kind IsRow p s r h fresh k d may stands is = absurd stands
-agrees-site bytes Outside stage kind IsCell p s r h fresh k d may stands is = absurd stands
-agrees-site bytes Outside stage kind (TextRole AsLine) p s r h fresh k d may stands is = absurd stands
-agrees-site bytes Outside stage kind (TextRole AsInfo) p s r h fresh k d may stands is = absurd stands
-agrees-site bytes Outside stage kind (TextRole AsMeta) p s r h fresh k d may stands is = absurd stands
-agrees-site bytes Outside stage kind (TextRole AsLabel) p s r h fresh k d may stands is = absurd stands
-agrees-site bytes Outside stage kind (TextRole AsDestination) p s r h fresh k d may stands is = absurd stands
-agrees-site bytes Outside stage kind (TextRole AsTitle) p s r h fresh k d may stands is = absurd stands
-agrees-site bytes Outside stage kind (TextRole AsCell) p s r h fresh k d may stands is = absurd stands
-agrees-site bytes Outside stage kind (TextRole AsDelimiter) p s r h fresh k d may stands is = absurd stands
 agrees-site bytes Outside stage kind x p s r h fresh k d may stands is =
-    agrees-stage bytes stage kind x p s r h fresh k d may is
+    agrees-stage bytes stage kind x p s r (search) fresh k d may is
 agrees-site bytes site AllTold kind x p s r h fresh k d may stands is =
     subst
     (λ stage.

@@ -11,16 +11,15 @@ use Rattle.md_engine.specs.declared.event.Name.{Name}
 use Rattle.md_engine.specs.declared.event.Name.TheVariants as n
 use Rattle.md_engine.specs.declared.event.Point.{Point}
 use Rattle.md_seam.specs.Events.Nested.{around, enter, exit, pair}
-use Rattle.md_seam.specs.Events.Spelled.{AsCell, AsDelimiter, AsDestination, AsHeading, AsInfo, AsLabel, AsLine}
-use Rattle.md_seam.specs.Events.Spelled.{AsMarkers, AsMeta, AsTitle, IsCell, IsEnding, IsFence, IsPrefix, IsQuiet}
-use Rattle.md_seam.specs.Events.Spelled.{IsQuoteMarker, IsRow, IsTitle, LeafKind, OfCode, OfDefinition, OfFence}
-use Rattle.md_seam.specs.Events.Spelled.{OfFrontmatter, OfHeadingSetext, OfHtml, OfMath, OfTable, LeafRole, Role}
-use Rattle.md_seam.specs.Events.Spelled.{TextRole, role}
+use Rattle.md_seam.specs.Events.Spelled.{AsHeading, AsMarkers, IsEnding, IsQuiet, IsQuoteMarker, LeafKind, OfCode}
+use Rattle.md_seam.specs.Events.Spelled.{OfHeadingSetext, LeafRole, Role, TextRole, role}
 use Rattle.md_seam.proofs.SpelledLemmas.{Between, Quiet, QuietOrEnding, QuietOrPrefix, Roles}
 use Rattle.md_outline.specs.LinesStand.{AtEnd, AtEnding, AtLine, AtTitle, BehindTitle, BehindUnderline, HasLines}
 use Rattle.md_outline.specs.LinesStand.{InAtxText, InTitle, InUnderline, LinesStand, MayStand, Outside, Site}
-use Rattle.md_outline.specs.LinesStand.{begun_site, site_by}
+use Rattle.md_outline.specs.LinesStand.{begun_site, site_by, InParted, InPart, InTable, BehindPart, InText}
+use Rattle.md_outline.specs.LinesStand.{InDestination}
 use Rattle.md_outline.specs.Roles.{is_plain}
+use Rattle.md_outline.specs.TablePlaces.{AtHead, BehindHead, BehindRow, InCell}
 
 -- Events that go from a site to a site: where what stands behind them may stand there, all of it may stand here.
 abbrev pub Passes : List ℕ → Site → Site → List Event → Type 0
@@ -65,28 +64,9 @@ passes-kept bytes site es h = passes-by bytes (Keeps bytes site) site es (λ x k
 -- definition with its prefix and its label as an item with its digits and its marker,
 pub keeps-plain : (bytes : List ℕ) (x : Role) → is_plain x ≡ true → Keeps bytes Outside x
 keeps-plain bytes (LeafRole OfCode) h kind p = absurd (true≢false (sym h))
-keeps-plain bytes (LeafRole OfFence) h kind p = absurd (true≢false (sym h))
-keeps-plain bytes (LeafRole OfMath) h kind p = absurd (true≢false (sym h))
-keeps-plain bytes (LeafRole OfHtml) h kind p = absurd (true≢false (sym h))
-keeps-plain bytes (LeafRole OfHeadingSetext) h kind p = absurd (true≢false (sym h))
-keeps-plain bytes (LeafRole OfDefinition) h kind p = absurd (true≢false (sym h))
-keeps-plain bytes (LeafRole OfTable) h kind p = absurd (true≢false (sym h))
-keeps-plain bytes (LeafRole OfFrontmatter) h kind p = absurd (true≢false (sym h))
 keeps-plain bytes (TextRole AsHeading) h kind p = absurd (true≢false (sym h))
-keeps-plain bytes IsFence h kind p = absurd (true≢false (sym h))
-keeps-plain bytes IsTitle h kind p = absurd (true≢false (sym h))
-keeps-plain bytes IsRow h kind p = absurd (true≢false (sym h))
-keeps-plain bytes IsCell h kind p = absurd (true≢false (sym h))
-keeps-plain bytes (TextRole AsLine) h kind p = absurd (true≢false (sym h))
-keeps-plain bytes (TextRole AsInfo) h kind p = absurd (true≢false (sym h))
-keeps-plain bytes (TextRole AsMeta) h kind p = absurd (true≢false (sym h))
-keeps-plain bytes (TextRole AsLabel) h kind p = absurd (true≢false (sym h))
-keeps-plain bytes (TextRole AsDestination) h kind p = absurd (true≢false (sym h))
-keeps-plain bytes (TextRole AsTitle) h kind p = absurd (true≢false (sym h))
-keeps-plain bytes (TextRole AsCell) h kind p = absurd (true≢false (sym h))
-keeps-plain bytes (TextRole AsDelimiter) h kind p = absurd (true≢false (sym h))
-keeps-plain bytes x h Enter p = (tt, refl)
-keeps-plain bytes x h Exit p = (tt, refl)
+keeps-plain bytes x h Enter p = first_of (cc, search)
+keeps-plain bytes x h Exit p = first_of (cc, search)
 
 -- and those that the tree does not show leave one everywhere.
 pub keeps-quiet : (bytes : List ℕ) (site : Site) → Keeps bytes site IsQuiet
@@ -120,20 +100,15 @@ IsOnLine _ = ⊥
 -- prefixes of containers may stand there,
 pub passes-prefixes : (bytes : List ℕ) (site : Site) (es : List Event) → IsOnLine site → Roles QuietOrPrefix es →
     Passes bytes site site es
-passes-prefixes bytes site es on h = passes-by bytes QuietOrPrefix site es one h
+passes-prefixes bytes site es on h = passes-by bytes QuietOrPrefix site es (λ x. one site x on) h
   where
-    prefix : (site : Site) → IsOnLine site → Keeps bytes site IsPrefix
-    prefix (AtEnding kind) on Enter p = (tt, refl)
-    prefix (AtEnding kind) on Exit p = (tt, refl)
-    prefix (AtLine kind) on Enter p = (tt, refl)
-    prefix (AtLine kind) on Exit p = (tt, refl)
-    prefix _ on kind p = absurd on
-
-    one : (x : Role) → QuietOrPrefix x → Keeps bytes site x
-    one IsQuiet h = keeps-quiet bytes site
-    one IsQuoteMarker h = keeps-quote_marker bytes site
-    one IsPrefix h = prefix site on
-    one _ h = absurd h
+    one : (site : Site) (x : Role) → IsOnLine site → QuietOrPrefix x → Keeps bytes site x
+    one site (LeafRole k) on h kind p = absurd h
+    one (AtEnding k) x on h Enter p = search
+    one (AtLine k) x on h Enter p = search
+    one (AtEnding k) x on h Exit p = search
+    one (AtLine k) x on h Exit p = search
+    one _ x on h kind p = absurd on
 
 -- and an ending, behind which one is here
 abbrev pub ended_site : List ℕ → Point → Site → Site
@@ -200,52 +175,57 @@ passes-leaf bytes name kind p q site es is lined leave h =
 
 -- Headings.
 
--- the text of an ATX heading, in which no prefix stands
+-- in a text part endings may stand,
+abbrev pub IsTextSite : Site → Type 0
+IsTextSite Outside = Unit {0}
+IsTextSite (InText kind purpose) = Unit {0}
+IsTextSite InTitle = Unit {0}
+IsTextSite InAtxText = Unit {0}
+IsTextSite (InPart part q) = Unit {0}
+IsTextSite (InParted part) = Unit {0}
+IsTextSite InDestination = Unit {0}
+IsTextSite (InTable (InCell row)) = Unit {0}
+IsTextSite _ = ⊥
+
+pub text-keeps : (bytes : List ℕ) (site : Site) (x : Role) → IsTextSite site → QuietOrEnding x → Keeps bytes site x
+text-keeps bytes site (LeafRole k) text is kind p = absurd is
+text-keeps bytes (InTable AtHead) x text is kind p = absurd text
+text-keeps bytes Outside x text is Enter p = search
+text-keeps bytes _ x text is Enter p = search
+text-keeps bytes _ x text is Exit p = search
+
+pub passes-inline : (bytes : List ℕ) (site : Site) (es : List Event) → IsTextSite site → Roles QuietOrEnding es →
+    Passes bytes site site es
+passes-inline bytes site es text h = passes-by bytes QuietOrEnding site es (λ x. text-keeps bytes site x text) h
+
+-- as in that of an ATX heading, in which no prefix stands
 pub passes-atx_text : (bytes : List ℕ) (name : Name) (p q : Point) (es : List Event) → role name ≡ TextRole AsHeading →
     Roles QuietOrEnding es → Passes bytes Outside Outside (around name p q es)
 passes-atx_text bytes name p q es is h =
     passes-around bytes Outside InAtxText InAtxText Outside (TextRole AsHeading) name p q es is (tt, refl)
-    (passes-by bytes QuietOrEnding InAtxText es one h) (tt, refl)
-  where
-    ending : Keeps bytes InAtxText IsEnding
-    ending Enter p = (tt, refl)
-    ending Exit p = (tt, refl)
+    (passes-inline bytes InAtxText es tt h) (tt, refl)
 
-    one : (x : Role) → QuietOrEnding x → Keeps bytes InAtxText x
-    one IsQuiet h = keeps-quiet bytes InAtxText
-    one IsEnding h = ending
-    one _ h = absurd h
-
--- in the text of a setext heading, and behind it, endings and prefixes may stand
-abbrev TakesLines : Site → Type 0
+-- in the text of a setext heading, and behind it, endings and prefixes may stand; and so they may in a part of a
+-- definition that is parted, between its parts, and between the rows of a table
+abbrev pub TakesLines : Site → Type 0
 TakesLines InTitle = Unit {0}
 TakesLines BehindTitle = Unit {0}
+TakesLines (InParted part) = Unit {0}
+TakesLines (BehindPart left) = Unit {0}
+TakesLines (InTable BehindHead) = Unit {0}
+TakesLines (InTable BehindRow) = Unit {0}
 TakesLines _ = ⊥
 
-passes-lines : (bytes : List ℕ) (site : Site) (es : List Event) → TakesLines site → Roles Between es →
+pub passes-lines : (bytes : List ℕ) (site : Site) (es : List Event) → TakesLines site → Roles Between es →
     Passes bytes site site es
-passes-lines bytes site es takes h = passes-by bytes Between site es one h
+passes-lines bytes site es takes h = passes-by bytes Between site es (λ x. one site x takes) h
   where
-    prefix : (site : Site) → TakesLines site → Keeps bytes site IsPrefix
-    prefix InTitle takes Enter p = (tt, refl)
-    prefix InTitle takes Exit p = (tt, refl)
-    prefix BehindTitle takes Enter p = (tt, refl)
-    prefix BehindTitle takes Exit p = (tt, refl)
-    prefix _ takes kind p = absurd takes
-
-    ending : (site : Site) → TakesLines site → Keeps bytes site IsEnding
-    ending InTitle takes Enter p = (tt, refl)
-    ending InTitle takes Exit p = (tt, refl)
-    ending BehindTitle takes Enter p = (tt, refl)
-    ending BehindTitle takes Exit p = (tt, refl)
-    ending _ takes kind p = absurd takes
-
-    one : (x : Role) → Between x → Keeps bytes site x
-    one IsQuiet h = keeps-quiet bytes site
-    one IsQuoteMarker h = keeps-quote_marker bytes site
-    one IsPrefix h = prefix site takes
-    one IsEnding h = ending site takes
-    one _ h = absurd h
+    one : (site : Site) (x : Role) → TakesLines site → Between x → Keeps bytes site x
+    one site (LeafRole k) takes h kind p = absurd h
+    one (InTable AtHead) x takes h kind p = absurd takes
+    one InTitle x takes h Enter p = search
+    one _ x takes h Enter p = search
+    one _ x takes h Exit p = search
 
 -- its text
 pub passes-title : (bytes : List ℕ) (name : Name) (p q : Point) (es : List Event) → role name ≡ TextRole AsHeading →

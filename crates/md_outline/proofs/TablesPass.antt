@@ -1,18 +1,15 @@
 -- The events of a table, one behind the other: from where in it to where they go.
 use Rattle.std.proofs.Common.{◌≡◌, ℕ, List, refl}
 use Rattle.md_engine.specs.declared.event.Event.{Event}
-use Rattle.md_engine.specs.declared.event.Kind.TheVariants.{Enter, Exit}
 use Rattle.md_engine.specs.declared.event.Name.{Name}
 use Rattle.md_engine.specs.declared.event.Point.{Point}
 use Rattle.md_seam.specs.Events.Nested.{around}
-use Rattle.md_seam.specs.Events.Spelled.{AsCell, AsDelimiter, IsCell, IsEnding, IsPrefix, IsQuiet, IsQuoteMarker, IsRow}
-use Rattle.md_seam.specs.Events.Spelled.{OfTable, LeafRole, Role, TextRole, role}
+use Rattle.md_seam.specs.Events.Spelled.{AsCell, AsDelimiter, IsCell, IsRow, OfTable, LeafRole, TextRole, role}
 use Rattle.md_seam.proofs.SpelledLemmas.{Between, Quiet, Roles}
 use Rattle.md_outline.specs.LinesStand.{InTable, Outside}
 use Rattle.md_outline.specs.TablePlaces.{AtCell, AtHead, BehindCell, BehindHead, BehindRow, BodyRow, HeadRow, InCell}
 use Rattle.md_outline.specs.TablePlaces.{InDelimiter, InRow, Row, TablePlace}
-use Rattle.md_outline.proofs.LinesPass.{Keeps, Passes, keeps-quiet, keeps-quote_marker, passes-around, passes-by}
-use Rattle.md_outline.proofs.LinesPass.{passes-quiet}
+use Rattle.md_outline.proofs.LinesPass.{Passes, passes-around, passes-quiet, TakesLines, passes-lines}
 
 -- events that go from a spot to a spot
 abbrev pub PassesIn : List ℕ → TablePlace → TablePlace → List Event → Type 0
@@ -31,34 +28,11 @@ passes-unshown bytes spot es h = passes-quiet bytes (InTable spot) es h
 
 -- and endings and prefixes between its rows.
 abbrev pub IsBetweenRows : TablePlace → Type 0
-IsBetweenRows BehindHead = Unit {0}
-IsBetweenRows BehindRow = Unit {0}
-IsBetweenRows _ = ⊥
+IsBetweenRows spot = TakesLines (InTable spot)
 
 pub passes-between_rows : (bytes : List ℕ) (spot : TablePlace) (es : List Event) → IsBetweenRows spot → Roles Between es →
     PassesIn bytes spot spot es
-passes-between_rows bytes spot es between h = passes-by bytes Between (InTable spot) es one h
-  where
-    prefix : (spot : TablePlace) → IsBetweenRows spot → Keeps bytes (InTable spot) IsPrefix
-    prefix BehindHead between Enter p = (tt, refl)
-    prefix BehindHead between Exit p = (tt, refl)
-    prefix BehindRow between Enter p = (tt, refl)
-    prefix BehindRow between Exit p = (tt, refl)
-    prefix _ between kind p = absurd between
-
-    ending : (spot : TablePlace) → IsBetweenRows spot → Keeps bytes (InTable spot) IsEnding
-    ending BehindHead between Enter p = (tt, refl)
-    ending BehindHead between Exit p = (tt, refl)
-    ending BehindRow between Enter p = (tt, refl)
-    ending BehindRow between Exit p = (tt, refl)
-    ending _ between kind p = absurd between
-
-    one : (x : Role) → Between x → Keeps bytes (InTable spot) x
-    one IsQuiet h = keeps-quiet bytes (InTable spot)
-    one IsQuoteMarker h = keeps-quote_marker bytes (InTable spot)
-    one IsPrefix h = prefix spot between
-    one IsEnding h = ending spot between
-    one _ h = absurd h
+passes-between_rows bytes spot es between h = passes-lines bytes (InTable spot) es between h
 
 -- Its rows: the head,
 pub passes-head : (bytes : List ℕ) (name : Name) (p q : Point) (es : List Event) → role name ≡ IsRow →
