@@ -136,19 +136,14 @@ among-begin bytes (TextRole purpose) p None ls r ahead next held may known =
     passed bytes Enter (TextRole purpose) p None ls r ahead next held InText tt known.agree known.lists (begun p, refl)
 among-begin bytes (TextRole purpose) p (Some l) ls r ahead next held may known =
     none-some l.marker (sym (own-next purpose may next) ∙ known.inner.0)
-among-begin bytes IsPrefix p w ls r ahead next held may known =
-    among-between bytes Enter IsPrefix p w ls r ahead next held tt tt known
 among-begin bytes IsQuoteMarker p None ls r ahead next held may known =
     marker-begins bytes p ls r ahead next held AmongBlocks (λ outer h. h) known.agree known.lists
     (know-same bytes None ls r (read_by bytes Enter IsQuoteMarker p r) ahead ahead next next (marker-here bytes p r)
     refl known.inner)
 among-begin bytes IsQuoteMarker p (Some l) ls r ahead next held may known =
     marker-goes bytes p l ls r ahead next held known.inner.2 known
-among-begin bytes IsEnding p w ls r ahead next held may known =
-    among-between bytes Enter IsEnding p w ls r ahead next held tt tt known
-among-begin bytes IsQuiet p w ls r ahead next held may known =
-    among-between bytes Enter IsQuiet p w ls r ahead next held tt tt known
-among-begin bytes _ p w ls r ahead next held may known = absurd may
+among-begin bytes x p w ls r ahead next held may known =
+    among-between bytes Enter x p w ls r ahead next held may tt known
 
 -- A block is added.
 
@@ -390,12 +385,7 @@ among-end bytes (ContainerRole UnorderedShape) p w ls r ahead next (is_item ∷ 
 among-end bytes (ContainerRole shape) p w ls r ahead next (true ∷ held) may known = absurd (cc)
 among-end bytes (ContainerRole shape) p w ls r ahead next (false ∷ held) may known =
     holder-ends bytes p shape w ls r.outer r.here r.leaf r.text ahead next held tt known.agree known.lists known.inner
-among-end bytes IsPrefix p w ls r ahead next held may known =
-    among-between bytes Exit IsPrefix p w ls r ahead next held tt tt known
-among-end bytes IsQuoteMarker p w ls r ahead next held may known =
-    among-between bytes Exit IsQuoteMarker p w ls r ahead next held tt tt known
-among-end bytes IsEnding p w ls r ahead next held may known =
-    among-between bytes Exit IsEnding p w ls r ahead next held tt tt known
-among-end bytes IsQuiet p w ls r ahead next held may known =
-    among-between bytes Exit IsQuiet p w ls r ahead next held tt tt known
-among-end bytes _ p w ls r ahead next held may known = absurd may
+among-end bytes (LeafRole kind) p w ls r ahead next held may known = absurd may
+among-end bytes (TextRole purpose) p w ls r ahead next held may known = absurd may
+among-end bytes x p w ls r ahead next held may known =
+    among-between bytes Exit x p w ls r ahead next held may tt known

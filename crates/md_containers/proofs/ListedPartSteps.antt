@@ -12,8 +12,8 @@ use Rattle.md_meaning.specs.State.{then_block}
 use Rattle.md_meaning.specs.Texts.{first_byte}
 use Rattle.md_meaning.specs.Tree.{Block, Blocks, End, Line}
 use Rattle.md_seam.specs.Events.Spelled.{OpenContainer, AsDigits, AsFootnoteLabel, AsItemMarker, BreakLeaf}
-use Rattle.md_seam.specs.Events.Spelled.{ContainerRole, IsCell, IsEnding, IsFence, IsPrefix, IsQuiet, IsQuoteMarker}
-use Rattle.md_seam.specs.Events.Spelled.{IsRow, ItemShape, OpenLeaf, LeafRole, OrderedShape, Purpose, UnorderedShape}
+use Rattle.md_seam.specs.Events.Spelled.{ContainerRole, IsEnding, IsPrefix, IsQuiet, IsQuoteMarker}
+use Rattle.md_seam.specs.Events.Spelled.{ItemShape, OpenLeaf, LeafRole, OrderedShape, Purpose, UnorderedShape}
 use Rattle.md_seam.specs.Events.Spelled.{Reading, Role, Shape, TextRole, Text, at_ending, begun, block_of, finished}
 use Rattle.md_seam.specs.Events.Spelled.{named, next_line, on_leaf, on_shape, read_by, text_to, told_at, after_prefix}
 use Rattle.md_seam.specs.Events.Spelled.{before_prefix, noted}
@@ -241,18 +241,12 @@ pub label-begin : (bytes : List ℕ) (x : Role) (p : Point) (ls : List OpenList)
     Known bytes (record { held = held; inner = InLabel }) None ls r other now →
     Stepped bytes Enter x p None ls r ahead next held
     (site_after (record { held = held; inner = InLabel }) Enter x p)
-label-begin bytes (TextRole AsFootnoteLabel) p ls r ahead other next now held may known =
-    label-between bytes Enter (TextRole AsFootnoteLabel) p ls r ahead other next now held tt known
-label-begin bytes IsPrefix p ls r ahead other next now held may known =
-    label-between bytes Enter IsPrefix p ls r ahead other next now held tt known
+label-begin bytes (ContainerRole shape) p ls r ahead other next now held may known = absurd may
 label-begin bytes IsQuoteMarker p ls r ahead other next now held may known =
     marker-begins bytes p ls r ahead next held InLabel (λ outer h. h) known.agree known.lists
     (marker-here bytes p r ∙ known.inner)
-label-begin bytes IsEnding p ls r ahead other next now held may known =
-    label-between bytes Enter IsEnding p ls r ahead other next now held tt known
-label-begin bytes IsQuiet p ls r ahead other next now held may known =
-    label-between bytes Enter IsQuiet p ls r ahead other next now held tt known
-label-begin bytes _ p ls r ahead other next now held may known = absurd may
+label-begin bytes x p ls r ahead other next now held may known =
+    label-between bytes Enter x p ls r ahead other next now held tt known
 
 pub label-end : (bytes : List ℕ) (x : Role) (p : Point) (ls : List OpenList) (r : Reading) (ahead other : ℕ)
     (next now : Option ℕ) (held : List Bool) → MayEnd held p InLabel x →
@@ -262,15 +256,11 @@ pub label-end : (bytes : List ℕ) (x : Role) (p : Point) (ls : List OpenList) (
 label-end bytes (TextRole AsFootnoteLabel) p ls r ahead other next now held may known =
     holder-tells bytes AsFootnoteLabel tt p ls r ahead next held AmongBlocks
     (label-known bytes p ls r.outer r.here r.leaf r.text ahead next held known.agree known.lists known.inner)
-label-end bytes IsPrefix p ls r ahead other next now held may known =
-    label-between bytes Exit IsPrefix p ls r ahead other next now held tt known
-label-end bytes IsQuoteMarker p ls r ahead other next now held may known =
-    label-between bytes Exit IsQuoteMarker p ls r ahead other next now held tt known
-label-end bytes IsEnding p ls r ahead other next now held may known =
-    label-between bytes Exit IsEnding p ls r ahead other next now held tt known
-label-end bytes IsQuiet p ls r ahead other next now held may known =
-    label-between bytes Exit IsQuiet p ls r ahead other next now held tt known
-label-end bytes _ p ls r ahead other next now held may known = absurd may
+label-end bytes (ContainerRole shape) p ls r ahead other next now held may known = absurd may
+label-end bytes (LeafRole kind) p ls r ahead other next now held may known = absurd may
+label-end bytes (TextRole purpose) p ls r ahead other next now held may known = absurd may
+label-end bytes x p ls r ahead other next now held may known =
+    label-between bytes Exit x p ls r ahead other next now held tt known
 
 -- In a leaf block.
 
@@ -309,21 +299,11 @@ pub part-leaf : (bytes : List ℕ) (kind : Kind) (x : Role) (p : Point) → IsPa
     HasLeaf (read_by bytes kind x p r)
 part-leaf bytes kind (ContainerRole shape) p h r leaf = absurd h
 part-leaf bytes kind (LeafRole k) p h r leaf = absurd h
-part-leaf bytes Enter (TextRole purpose) p h r leaf = leaf
 part-leaf bytes Exit (TextRole purpose) p h r leaf = told-leaf bytes purpose h p r.text r leaf
-part-leaf bytes Exit IsFence p h r leaf = leaf
-part-leaf bytes Exit IsRow p h r leaf = leaf
-part-leaf bytes Exit IsCell p h r leaf = leaf
-part-leaf bytes Enter IsPrefix p h r leaf = leaf
-part-leaf bytes Exit IsPrefix p h r leaf = leaf
-part-leaf bytes Enter IsQuoteMarker p h r leaf = subst HasLeaf (sym (marker-in_leaf bytes p r leaf.0 leaf.1)) leaf
-part-leaf bytes Exit IsQuoteMarker p h r leaf = leaf
-part-leaf bytes Enter IsEnding p h r leaf = leaf
 part-leaf bytes Exit IsEnding p h r leaf = ending-leaf bytes p r.text r leaf
-part-leaf bytes Enter IsQuiet p h r leaf = leaf
-part-leaf bytes Exit IsQuiet p h r leaf = leaf
-part-leaf bytes Enter _ p h r leaf = changed-leaf _ r leaf
-part-leaf bytes Exit _ p h r leaf = changed-leaf _ r leaf
+part-leaf bytes Enter IsQuoteMarker p h r leaf = subst HasLeaf (sym (marker-in_leaf bytes p r leaf.0 leaf.1)) leaf
+part-leaf bytes Enter _ p h r leaf = first_of (search, search (changed-leaf))
+part-leaf bytes Exit _ p h r leaf = first_of (search, search (changed-leaf))
 
 pub leaf-part : (bytes : List ℕ) (kind : Kind) (x : Role) (p : Point) (ls : List OpenList) (r : Reading)
     (ahead other : ℕ) (next now : Option ℕ) (held : List Bool) → IsPart x → Passes kind x →
@@ -417,12 +397,8 @@ between-text bytes Enter IsPrefix p h r text =
     (before_prefix bytes p text.0, ap (option_map (before_prefix bytes p)) text.1)
 between-text bytes Exit IsPrefix p h r text = (after_prefix p text.0, ap (option_map (after_prefix p)) text.1)
 between-text bytes Enter IsQuoteMarker p h r text = subst HasText (sym (marker-in_text bytes p r text.0 text.1)) text
-between-text bytes Exit IsQuoteMarker p h r text = text
-between-text bytes Enter IsEnding p h r text = text
 between-text bytes Exit IsEnding p h r text = ending-text bytes p r.text r refl text
-between-text bytes Enter IsQuiet p h r text = text
-between-text bytes Exit IsQuiet p h r text = text
-between-text bytes kind _ p h r text = absurd h
+between-text bytes _ _ p h r text = search
 
 pub text-between : (bytes : List ℕ) (kind : Kind) (x : Role) (p : Point) (ls : List OpenList) (r : Reading)
     (ahead other : ℕ) (next now : Option ℕ) (held : List Bool) → IsBetween x → Passes kind x →
@@ -437,16 +413,12 @@ pub text-begin : (bytes : List ℕ) (x : Role) (p : Point) (ls : List OpenList) 
     Known bytes (record { held = held; inner = InText }) None ls r other now →
     Stepped bytes Enter x p None ls r ahead next held
     (site_after (record { held = held; inner = InText }) Enter x p)
-text-begin bytes IsPrefix p ls r ahead other next now held may known =
-    text-between bytes Enter IsPrefix p ls r ahead other next now held tt tt known
+text-begin bytes (ContainerRole shape) p ls r ahead other next now held may known = absurd may
 text-begin bytes IsQuoteMarker p ls r ahead other next now held may known =
     marker-stays bytes p ls r ahead next held InText (marker-in_text bytes p r known.inner.0 known.inner.1)
     (record { agree = known.agree; lists = known.lists; inner = known.inner })
-text-begin bytes IsEnding p ls r ahead other next now held may known =
-    text-between bytes Enter IsEnding p ls r ahead other next now held tt tt known
-text-begin bytes IsQuiet p ls r ahead other next now held may known =
-    text-between bytes Enter IsQuiet p ls r ahead other next now held tt tt known
-text-begin bytes _ p ls r ahead other next now held may known = absurd may
+text-begin bytes x p ls r ahead other next now held may known =
+    text-between bytes Enter x p ls r ahead other next now held may tt known
 
 pub text-end : (bytes : List ℕ) (x : Role) (p : Point) (ls : List OpenList) (r : Reading) (ahead other : ℕ)
     (next now : Option ℕ) (held : List Bool) → MayEnd held p InText x →
@@ -461,12 +433,7 @@ text-end bytes (TextRole purpose) p ls r ahead other next now held may known =
     ∙ told-block purpose (of-itself purpose may)
     (record { spaces = known.inner.0.spaces; text = text_to bytes p.index known.inner.0 })
     (record (moved r outer here) { text = None }))
-text-end bytes IsPrefix p ls r ahead other next now held may known =
-    text-between bytes Exit IsPrefix p ls r ahead other next now held tt tt known
-text-end bytes IsQuoteMarker p ls r ahead other next now held may known =
-    text-between bytes Exit IsQuoteMarker p ls r ahead other next now held tt tt known
-text-end bytes IsEnding p ls r ahead other next now held may known =
-    text-between bytes Exit IsEnding p ls r ahead other next now held tt tt known
-text-end bytes IsQuiet p ls r ahead other next now held may known =
-    text-between bytes Exit IsQuiet p ls r ahead other next now held tt tt known
-text-end bytes _ p ls r ahead other next now held may known = absurd may
+text-end bytes (ContainerRole shape) p ls r ahead other next now held may known = absurd may
+text-end bytes (LeafRole kind) p ls r ahead other next now held may known = absurd may
+text-end bytes x p ls r ahead other next now held may known =
+    text-between bytes Exit x p ls r ahead other next now held may tt known

@@ -103,46 +103,13 @@ is_plain (Many x) = is_plain x
 plain-and_then : (x y : Expression) → is_plain x ≡ true → is_plain y ≡ true → is_plain (and_then x y) ≡ true
 plain-and_then Never y h k = refl
 plain-and_then Nothing y h k = k
-plain-and_then (One names) y h k = and_from (is_plain (One names)) (is_plain y) h k
-plain-and_then (Then a b) y h k = and_from (is_plain (Then a b)) (is_plain y) h k
-plain-and_then (Or a b) y h k = and_from (is_plain (Or a b)) (is_plain y) h k
-plain-and_then (Many a) y h k = and_from (is_plain (Many a)) (is_plain y) h k
-
-plain-or : (x y : Expression) → is_plain x ≡ true → is_plain y ≡ true → is_plain (Or x y) ≡ true
-plain-or x y h k = and_from (is_plain x) (is_plain y) h k
+plain-and_then x y h k = and_from (is_plain x) (is_plain y) h k
 
 plain-or_else : (x y : Expression) → is_plain x ≡ true → is_plain y ≡ true → is_plain (or_else x y) ≡ true
 plain-or_else Never y h k = k
-plain-or_else Nothing Never h k = h
+plain-or_else x Never h k = h
 plain-or_else Nothing Nothing h k = refl
-plain-or_else Nothing (One names) h k = plain-or Nothing (One names) h k
-plain-or_else Nothing (Then a b) h k = plain-or Nothing (Then a b) h k
-plain-or_else Nothing (Or a b) h k = plain-or Nothing (Or a b) h k
-plain-or_else Nothing (Many a) h k = plain-or Nothing (Many a) h k
-plain-or_else (One names) Never h k = h
-plain-or_else (One names) Nothing h k = plain-or (One names) Nothing h k
-plain-or_else (One names) (One more) h k = plain-or (One names) (One more) h k
-plain-or_else (One names) (Then a b) h k = plain-or (One names) (Then a b) h k
-plain-or_else (One names) (Or a b) h k = plain-or (One names) (Or a b) h k
-plain-or_else (One names) (Many a) h k = plain-or (One names) (Many a) h k
-plain-or_else (Then x y) Never h k = h
-plain-or_else (Then x y) Nothing h k = plain-or (Then x y) Nothing h k
-plain-or_else (Then x y) (One names) h k = plain-or (Then x y) (One names) h k
-plain-or_else (Then x y) (Then a b) h k = plain-or (Then x y) (Then a b) h k
-plain-or_else (Then x y) (Or a b) h k = plain-or (Then x y) (Or a b) h k
-plain-or_else (Then x y) (Many a) h k = plain-or (Then x y) (Many a) h k
-plain-or_else (Or x y) Never h k = h
-plain-or_else (Or x y) Nothing h k = plain-or (Or x y) Nothing h k
-plain-or_else (Or x y) (One names) h k = plain-or (Or x y) (One names) h k
-plain-or_else (Or x y) (Then a b) h k = plain-or (Or x y) (Then a b) h k
-plain-or_else (Or x y) (Or a b) h k = plain-or (Or x y) (Or a b) h k
-plain-or_else (Or x y) (Many a) h k = plain-or (Or x y) (Many a) h k
-plain-or_else (Many x) Never h k = h
-plain-or_else (Many x) Nothing h k = plain-or (Many x) Nothing h k
-plain-or_else (Many x) (One names) h k = plain-or (Many x) (One names) h k
-plain-or_else (Many x) (Then a b) h k = plain-or (Many x) (Then a b) h k
-plain-or_else (Many x) (Or a b) h k = plain-or (Many x) (Or a b) h k
-plain-or_else (Many x) (Many a) h k = plain-or (Many x) (Many a) h k
+plain-or_else x y h k = and_from (is_plain x) (is_plain y) h k
 
 plain-if : (b : Bool) (x : Expression) → is_plain x ≡ true → is_plain (cond b x Never) ≡ true
 plain-if true x h = h
