@@ -20,7 +20,7 @@ use Rattle.md_containers.proofs.ListedBlockSteps.{goes_on-some}
 use Rattle.md_containers.proofs.ListedKept.{by-turn}
 use Rattle.md_containers.proofs.ListedLemmas.{passes-given}
 use Rattle.md_containers.proofs.ListedNests.{event, pass-next}
-use Rattle.md_containers.proofs.ListedParts.{by-list}
+use Rattle.md_containers.proofs.ListedKept.{by-list}
 use Rattle.md_containers.proofs.TamedLemmas.{AtBoth, AtFrontmatter, AtLine, AtMark, BehindBlock, IsTame, ListsWell}
 use Rattle.md_containers.proofs.TamedLemmas.{is_plain, tame-behind, tame-inside, tame-item, tame-lists}
 use Rattle.md_seam.specs.Events.Blocks.{is_block}

@@ -11,8 +11,8 @@ use Rattle.md_engine.specs.declared.event.Point.{Point}
 use Rattle.md_containers.specs.Listed.{Place, goes_on, is_item, list_begin, list_end, list_name, listed, listed_from}
 use Rattle.md_containers.specs.Listed.{marker_ahead, next_item, outside, place_behind}
 use Rattle.md_containers.proofs.ListedLemmas.{passes-given}
-use Rattle.md_seam.specs.Events.Endings.{EndingPlace, endings_stand, endings_stand_from, ends_rightly, is_filled, line_start, on_line}
-use Rattle.md_seam.specs.Events.Endings.{IsOther, OnLine, spot_behind}
+use Rattle.md_seam.specs.Events.Endings.{EndingPlace, endings_stand, endings_stand_from, ends_rightly, line_start}
+use Rattle.md_seam.specs.Events.Endings.{on_line, IsOther, spot_behind}
 use Rattle.md_seam.specs.Events.Inline.{Piece, piece_of, pieces, pieces_from}
 use Rattle.md_seam.specs.Events.Nested.{enter, exit}
 use Rattle.md_seam.specs.Events.Places.{are_placed, first_point, is_placed}
@@ -33,145 +33,136 @@ by-turn P begins ends passes kind name = go (is_item (role name)) refl kind
     go true h Exit = subst (P Exit) (sym (item-name name h)) ends
     go false h kind = passes kind name h
 
+-- what holds of both names of lists
+pub by-list : (P : Name → Type 0) → P n.ListOrdered → P n.ListUnordered → (m : ℕ) → P (list_name m)
+by-list P ordered unordered m = go (is_ordered m)
+  where
+    go : (x : Bool) → P (if x then n.ListOrdered else n.ListUnordered)
+    go true = ordered
+    go false = unordered
+
+-- what holds of nothing, and of the begin or the end of any list, holds of the begin, or the end, that an item gets
+pub with-begin : (P : List Event → Type 0) (within : Bool) (m : ℕ) (p : Point) → P [] →
+    P (enter n.ListOrdered p ∷ []) → P (enter n.ListUnordered p ∷ []) → P (list_begin within m p)
+with-begin P true m p none ordered unordered = none
+with-begin P false m p none ordered unordered = by-list (λ (name : Name). P (enter name p ∷ [])) ordered unordered m
+
+pub with-end : (P : List Event → Type 0) (markers : List ℕ) (next : Option ℕ) (p : Point) → P [] →
+    P (exit n.ListOrdered p ∷ []) → P (exit n.ListUnordered p ∷ []) → P (list_end markers next p)
+with-end P [] next p none ordered unordered = none
+with-end P (m ∷ markers) next p none ordered unordered = go (goes_on m next)
+  where
+    go : (x : Bool) → P (cond x [] (exit (list_name m) p ∷ []))
+    go true = none
+    go false = by-list (λ (name : Name). P (exit name p ∷ [])) ordered unordered m
+
+-- What lists around items leave as it is: what is read of events from any state on, event by event.
+pub record Unmoved (S A : Type 0) (F : S → List Event → A) : Type 0 where
+  pub begins : (s : S) (e : Event) (within : Bool) (m : ℕ) (es lists : List Event) →
+      ((t : S) → F t lists ≡ F t es) →
+      F s (list_begin within m e.point ++ record e { kind = Enter; name = n.ListItem } ∷ lists)
+      ≡ F s (record e { kind = Enter; name = n.ListItem } ∷ es)
+  pub ends : (s : S) (e : Event) (markers : List ℕ) (next : Option ℕ) (es lists : List Event) →
+      ((t : S) → F t lists ≡ F t es) →
+      F s (record e { kind = Exit; name = n.ListItem } ∷ list_end markers next e.point ++ lists)
+      ≡ F s (record e { kind = Exit; name = n.ListItem } ∷ es)
+  pub passes : (s : S) (bytes : List ℕ) (place : Place) (e : Event) (es : List Event) →
+      ((t : S) → F t (listed_from bytes place es) ≡ F t es) → F s (e ∷ listed_from bytes place es) ≡ F s (e ∷ es)
+
+pub unmoved : {S A : Type 0} {F : S → List Event → A} → Unmoved S A F → (bytes : List ℕ) (place : Place)
+    (es : List Event) (s : S) → F s (listed_from bytes place es) ≡ F s es
+unmoved walk bytes place [] s = refl
+unmoved {F = F} walk bytes place (e ∷ es) s =
+    by-turn
+    (λ (kind : Kind) (name : Name).
+    F s (listed_from bytes place (record e { kind = kind; name = name } ∷ es))
+    ≡ F s (record e { kind = kind; name = name } ∷ es))
+    (ap (F s)
+    (append_assoc (list_begin place.within (marker_ahead bytes es) e.point)
+    (record e { kind = Enter; name = n.ListItem } ∷ []) (listed_from bytes inner es))
+    ∙ walk.begins s e place.within (marker_ahead bytes es) es (listed_from bytes inner es)
+    (λ t. unmoved walk bytes inner es t))
+    (walk.ends s e place.markers (next_item bytes es) es (listed_from bytes behind es)
+    (λ t. unmoved walk bytes behind es t))
+    (passed (λ t. unmoved walk bytes place es t))
+    e.kind e.name
+  where
+    inner : Place
+    inner = record { within = false; markers = marker_ahead bytes es ∷ place.markers }
+
+    behind : Place
+    behind = place_behind place (next_item bytes es)
+
+    passed : ((t : _) → F t (listed_from bytes place es) ≡ F t es) → (kind : Kind) (name : Name) →
+        is_item (role name) ≡ false →
+        F s (listed_from bytes place (record e { kind = kind; name = name } ∷ es))
+        ≡ F s (record e { kind = kind; name = name } ∷ es)
+    passed h kind name i =
+        ap (F s) (passes-given bytes place (record e { kind = kind; name = name }) es i)
+        ∙ walk.passes s bytes place (record e { kind = kind; name = name }) es h
+
 -- Points.
 
 and-twice : (a b : Bool) → (a && (a && b)) ≡ (a && b)
 and-twice true b = refl
 and-twice false b = refl
 
-end-all : (p : Point → Bool) (markers : List ℕ) (next : Option ℕ) (q : Point) (es : List Event) →
-    (p q && list_all (λ (e : Event). p e.point) (list_end markers next q ++ es))
-    ≡ (p q && list_all (λ (e : Event). p e.point) es)
-end-all p [] next q es = refl
-end-all p (marker ∷ markers) next q es = go (goes_on marker next)
-  where
-    go : (x : Bool) →
-        (p q && list_all (λ (e : Event). p e.point) (cond x [] (exit (list_name marker) q ∷ []) ++ es))
-        ≡ (p q && list_all (λ (e : Event). p e.point) es)
-    go true = refl
-    go false = and-twice (p q) (list_all (λ (e : Event). p e.point) es)
-
-points-kept : (p : Point → Bool) (bytes : List ℕ) (place : Place) (es : List Event) →
-    list_all (λ (e : Event). p e.point) (listed_from bytes place es) ≡ list_all (λ (e : Event). p e.point) es
-points-kept p bytes place [] = refl
-points-kept p bytes place (e ∷ es) =
-    by-turn
-    (λ (kind : Kind) (name : Name).
-    list_all (λ (e : Event). p e.point) (listed_from bytes place (record e { kind = kind; name = name } ∷ es))
-    ≡ (p e.point && list_all (λ (e : Event). p e.point) es))
-    (begin-points place.within (points-kept p bytes (record { within = false; markers = marker_ahead bytes es ∷ place.markers }) es))
-    (end-all p place.markers (next_item bytes es) e.point
-    (listed_from bytes (place_behind place (next_item bytes es)) es)
-    ∙ ap (λ (b : Bool). p e.point && b) (points-kept p bytes (place_behind place (next_item bytes es)) es))
-    (pass-points (points-kept p bytes place es))
-    e.kind e.name
-  where
-    begin-points : (within : Bool) →
-        list_all (λ (e : Event). p e.point)
-        (listed_from bytes (record { within = false; markers = marker_ahead bytes es ∷ place.markers }) es)
-        ≡ list_all (λ (e : Event). p e.point) es →
-        list_all (λ (e : Event). p e.point)
-        ((list_begin within (marker_ahead bytes es) e.point ++ record e { kind = Enter; name = n.ListItem } ∷ [])
-        ++ listed_from bytes (record { within = false; markers = marker_ahead bytes es ∷ place.markers }) es)
-        ≡ (p e.point && list_all (λ (e : Event). p e.point) es)
-    begin-points true h = ap (λ (b : Bool). p e.point && b) h
-    begin-points false h =
-        ap (λ (b : Bool). p e.point && (p e.point && b)) h
-        ∙ and-twice (p e.point) (list_all (λ (e : Event). p e.point) es)
-
-    pass-points : list_all (λ (e : Event). p e.point) (listed_from bytes place es)
-        ≡ list_all (λ (e : Event). p e.point) es → (kind : Kind) (name : Name) → is_item (role name) ≡ false →
-        list_all (λ (e : Event). p e.point) (listed_from bytes place (record e { kind = kind; name = name } ∷ es))
-        ≡ (p e.point && list_all (λ (e : Event). p e.point) es)
-    pass-points h kind name i =
-        ap (list_all (λ (e : Event). p e.point)) (passes-given bytes place (record e { kind = kind; name = name }) es i)
-        ∙ ap (λ (b : Bool). p e.point && b) h
+points-unmoved : (p : Point → Bool) →
+    Unmoved (Unit {0}) Bool (λ s es. list_all (λ (e : Event). p e.point) es)
+points-unmoved p = record {
+  begins = λ s e within m es lists h.
+      let once = ap (λ (b : Bool). p e.point && b) (h tt) in
+      let twice = and-twice (p e.point) (list_all (λ (e : Event). p e.point) lists) ∙ once in
+      with-begin
+      (λ (xs : List Event).
+      list_all (λ (e : Event). p e.point) (xs ++ record e { kind = Enter; name = n.ListItem } ∷ lists)
+      ≡ (p e.point && list_all (λ (e : Event). p e.point) es))
+      within m e.point once twice twice;
+  ends = λ s e markers next es lists h.
+      let once = ap (λ (b : Bool). p e.point && b) (h tt) in
+      let twice = and-twice (p e.point) (list_all (λ (e : Event). p e.point) lists) ∙ once in
+      with-end
+      (λ (xs : List Event).
+      (p e.point && list_all (λ (e : Event). p e.point) (xs ++ lists))
+      ≡ (p e.point && list_all (λ (e : Event). p e.point) es))
+      markers next e.point once twice twice;
+  passes = λ s bytes place e es h. ap (λ (b : Bool). p e.point && b) (h tt);
+}
 
 -- events stand at points of the text if they did
 pub listed-placed : (text bytes : List ℕ) (events : List Event) →
     are_placed text (listed bytes events) ≡ are_placed text events
-listed-placed text bytes events = points-kept (is_placed text) bytes outside events
+listed-placed text bytes events = unmoved (points-unmoved (is_placed text)) bytes outside events tt
 
 -- Endings.
-
-list-line : (m : ℕ) → on_line (list_name m) ≡ IsOther
-list-line m = go (is_ordered m)
-  where
-    go : (x : Bool) → on_line (if x then n.ListOrdered else n.ListUnordered) ≡ IsOther
-    go true = refl
-    go false = refl
 
 -- the begin of a list says of its line what the begin of its first item says
 filled-twice : (a b : Bool) → (a || (a || b)) ≡ (a || b)
 filled-twice true b = refl
 filled-twice false b = refl
 
-begin-endings : (within : Bool) (m : ℕ) (p : Point) (s : EndingPlace) (es : List Event) →
-    endings_stand_from s (list_begin within m p ++ es)
-    ≡ endings_stand_from (if within then s else record s { after_leaf = is_filled s }) es
-begin-endings true m p s es = refl
-begin-endings false m p s es =
-    ap (λ (x : OnLine). ends_rightly Enter x s && endings_stand_from (spot_behind Enter x s) es) (list-line m)
-
-end-endings : (markers : List ℕ) (next : Option ℕ) (p : Point) (s : EndingPlace) (es : List Event) →
-    endings_stand_from s (list_end markers next p ++ es) ≡ endings_stand_from s es
-end-endings [] next p s es = refl
-end-endings (m ∷ markers) next p s es = go (goes_on m next)
-  where
-    go : (x : Bool) → endings_stand_from s (cond x [] (exit (list_name m) p ∷ []) ++ es) ≡ endings_stand_from s es
-    go true = refl
-    go false =
-        ap (λ (x : OnLine). ends_rightly Exit x s && endings_stand_from (spot_behind Exit x s) es) (list-line m)
-
-endings-kept : (bytes : List ℕ) (s : EndingPlace) (place : Place) (es : List Event) →
-    endings_stand_from s (listed_from bytes place es) ≡ endings_stand_from s es
-endings-kept bytes s place [] = refl
-endings-kept bytes s place (e ∷ es) =
-    by-turn
-    (λ (kind : Kind) (name : Name).
-    endings_stand_from s (listed_from bytes place (record e { kind = kind; name = name } ∷ es))
-    ≡ endings_stand_from s (record e { kind = kind; name = name } ∷ es))
-    (begins place.within
-    (endings-kept bytes (spot_behind Enter IsOther s)
-    (record { within = false; markers = marker_ahead bytes es ∷ place.markers }) es))
-    (end-endings place.markers (next_item bytes es) e.point s
-    (listed_from bytes (place_behind place (next_item bytes es)) es)
-    ∙ endings-kept bytes s (place_behind place (next_item bytes es)) es)
-    (passed (λ spot. endings-kept bytes spot place es))
-    e.kind e.name
-  where
-    begins : (within : Bool) →
-        endings_stand_from (spot_behind Enter IsOther s)
-        (listed_from bytes (record { within = false; markers = marker_ahead bytes es ∷ place.markers }) es)
-        ≡ endings_stand_from (spot_behind Enter IsOther s) es →
-        endings_stand_from s
-        ((list_begin within (marker_ahead bytes es) e.point ++ record e { kind = Enter; name = n.ListItem } ∷ [])
-        ++ listed_from bytes (record { within = false; markers = marker_ahead bytes es ∷ place.markers }) es)
-        ≡ endings_stand_from (spot_behind Enter IsOther s) es
-    begins true h = h
-    begins false h =
-        begin-endings false (marker_ahead bytes es) e.point s
-        (record e { kind = Enter; name = n.ListItem }
-        ∷ listed_from bytes (record { within = false; markers = marker_ahead bytes es ∷ place.markers }) es)
-        ∙ ap
-        (λ (b : Bool).
-        endings_stand_from (record s { after_leaf = b })
-        (listed_from bytes (record { within = false; markers = marker_ahead bytes es ∷ place.markers }) es))
-        (filled-twice s.in_leaf s.after_leaf)
-        ∙ h
-
-    passed : ((spot : EndingPlace) → endings_stand_from spot (listed_from bytes place es) ≡ endings_stand_from spot es) →
-        (kind : Kind) (name : Name) → is_item (role name) ≡ false →
-        endings_stand_from s (listed_from bytes place (record e { kind = kind; name = name } ∷ es))
-        ≡ endings_stand_from s (record e { kind = kind; name = name } ∷ es)
-    passed h kind name i =
-        ap (endings_stand_from s) (passes-given bytes place (record e { kind = kind; name = name }) es i)
-        ∙ ap (λ (b : Bool). ends_rightly kind (on_line name) s && b) (h (spot_behind kind (on_line name) s))
+endings-unmoved : Unmoved EndingPlace Bool endings_stand_from
+endings-unmoved = record {
+  begins = λ s e within m es lists h.
+      let twice =
+      ap (λ (b : Bool). endings_stand_from (record s { after_leaf = b }) lists) (filled-twice s.in_leaf s.after_leaf) in
+      with-begin
+      (λ (xs : List Event).
+      endings_stand_from s (xs ++ record e { kind = Enter; name = n.ListItem } ∷ lists)
+      ≡ endings_stand_from (spot_behind Enter IsOther s) lists)
+      within m e.point refl twice twice
+      ∙ h (spot_behind Enter IsOther s);
+  ends = λ s e markers next es lists h.
+      with-end (λ (xs : List Event). endings_stand_from s (xs ++ lists) ≡ endings_stand_from s es) markers next e.point
+      (h s) (h s) (h s);
+  passes = λ s bytes place e es h.
+      ap (λ (b : Bool). ends_rightly e.kind (on_line e.name) s && b) (h (spot_behind e.kind (on_line e.name) s));
+}
 
 -- endings have the right names if they had
 pub listed-endings : (bytes : List ℕ) (events : List Event) →
     endings_stand (listed bytes events) ≡ endings_stand events
-listed-endings bytes events = endings-kept bytes line_start outside events
+listed-endings bytes events = unmoved endings-unmoved bytes outside events line_start
 
 -- Pieces.
 
@@ -214,47 +205,16 @@ pub more-pieces : (f e : Event) (xs ys : List Event) → pieces_from e xs ≡ pi
     pieces_from f (e ∷ xs) ≡ pieces_from f (e ∷ ys)
 more-pieces f e xs ys h = ap (λ (l : List Piece). piece_of f e f.kind e.kind ++ l) h
 
-pieces-kept : (bytes : List ℕ) (f : Event) (place : Place) (es : List Event) →
-    pieces_from f (listed_from bytes place es) ≡ pieces_from f es
-pieces-kept bytes f place [] = refl
-pieces-kept bytes f place (e ∷ es) =
-    by-turn
-    (λ (kind : Kind) (name : Name).
-    pieces_from f (listed_from bytes place (record e { kind = kind; name = name } ∷ es))
-    ≡ pieces_from f (record e { kind = kind; name = name } ∷ es))
-    (begins place.within (pieces-kept bytes (record e { kind = Enter; name = n.ListItem }) inner es))
-    (end-pieces f (record e { name = n.ListItem }) place.markers (next_item bytes es) e.point
-    (listed_from bytes (place_behind place (next_item bytes es)) es)
-    ∙ more-pieces f (record e { kind = Exit; name = n.ListItem })
-    (listed_from bytes (place_behind place (next_item bytes es)) es) es
-    (pieces-kept bytes (record e { kind = Exit; name = n.ListItem }) (place_behind place (next_item bytes es)) es))
-    (passed (λ (g : Event). pieces-kept bytes g place es))
-    e.kind e.name
-  where
-    inner : Place
-    inner = record { within = false; markers = marker_ahead bytes es ∷ place.markers }
-
-    item : Event
-    item = record e { kind = Enter; name = n.ListItem }
-
-    begins : (within : Bool) → pieces_from item (listed_from bytes inner es) ≡ pieces_from item es →
-        pieces_from f
-        ((list_begin within (marker_ahead bytes es) e.point ++ item ∷ []) ++ listed_from bytes inner es)
-        ≡ pieces_from f (item ∷ es)
-    begins within h =
-        ap (pieces_from f)
-        (append_assoc (list_begin within (marker_ahead bytes es) e.point) (item ∷ []) (listed_from bytes inner es))
-        ∙ begin-pieces f item within (marker_ahead bytes es) e.point (listed_from bytes inner es)
-        ∙ more-pieces f item (listed_from bytes inner es) es h
-
-    passed : ((g : Event) → pieces_from g (listed_from bytes place es) ≡ pieces_from g es) →
-        (kind : Kind) (name : Name) → is_item (role name) ≡ false →
-        pieces_from f (listed_from bytes place (record e { kind = kind; name = name } ∷ es))
-        ≡ pieces_from f (record e { kind = kind; name = name } ∷ es)
-    passed h kind name i =
-        let passing : Event = record e { kind = kind; name = name } in
-        ap (pieces_from f) (passes-given bytes place passing es i)
-        ∙ more-pieces f passing (listed_from bytes place es) es (h passing)
+pieces-unmoved : Unmoved Event (List Piece) pieces_from
+pieces-unmoved = record {
+  begins = λ f e within m es lists h.
+      let item : Event = record e { kind = Enter; name = n.ListItem } in
+      begin-pieces f item within m e.point lists ∙ more-pieces f item lists es (h item);
+  ends = λ f e markers next es lists h.
+      let item : Event = record e { kind = Exit; name = n.ListItem } in
+      end-pieces f item markers next e.point lists ∙ more-pieces f item lists es (h item);
+  passes = λ f bytes place e es h. more-pieces f e (listed_from bytes place es) es (h e);
+}
 
 -- any event that ends a part could stand in front of the first
 pub first-pieces : (f : Event) (es : List Event) → pieces es ≡ pieces_from (record f { kind = Exit }) es
@@ -264,7 +224,8 @@ first-pieces f (e ∷ es) = refl
 -- lists are no pieces, and part none
 pub listed-pieces : (bytes : List ℕ) (events : List Event) → pieces (listed bytes events) ≡ pieces events
 listed-pieces bytes events =
-    first-pieces some (listed bytes events) ∙ pieces-kept bytes some outside events ∙ sym (first-pieces some events)
+    first-pieces some (listed bytes events) ∙ unmoved pieces-unmoved bytes outside events some
+    ∙ sym (first-pieces some events)
   where
     some : Event
     some = exit n.ListItem first_point
