@@ -103,8 +103,6 @@ pub label-ends : (bytes : List ℕ) (p : Point) (s : OutlineState) (r : Reading)
     TextIs (shown r.outer r.here) s.depth s.lines span text → is_unparted span ≡ true → Agrees s r →
     Agrees (told_at bytes purpose.FootnoteLabel p.index span s) (spelled.told_at bytes AsFootnoteLabel p text r)
 label-ends bytes p s r None None a h k is = is
-label-ends bytes p s r None (Some text) a h k is = absurd h
-label-ends bytes p s r (Some span) None a h k is = absurd h
 label-ends bytes p s r (Some span) (Some text) a h k is =
     let piece : List ℕ = slice_range bytes span.from p.index in
     subst
@@ -113,3 +111,4 @@ label-ends bytes p s r (Some span) (Some text) a h k is =
     (record r { text = None; outer = on_shape (named AsFootnoteLabel now) r.outer }))
     (sym (whole-piece bytes p (shown r.outer r.here) s.depth s.lines span text k h))
     (label-agrees piece s r a (text-lines (shown r.outer r.here) s.depth s.lines (Some span) (Some text) k h) is)
+label-ends bytes p s r _ _ a h k is = absurd h

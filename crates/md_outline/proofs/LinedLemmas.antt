@@ -85,11 +85,8 @@ lined-shown : (kind : LeafKind) (depth : ℕ) (markers : List ℕ) (info meta : 
     (closed : Bool) →
     block_entries depth (block_of (lined_leaf kind markers info meta lines closed))
     ≡ lined_entries kind depth markers info meta lines closed
-lined-shown OfFence depth markers info meta lines closed = refl
-lined-shown OfMath depth markers info meta lines closed = refl
 lined-shown OfFrontmatter depth markers info meta lines closed =
     ap (λ es. entry depth (word.Frontmatter (first_byte markers)) ∷ es) (texts-shown (depth + 1) lines)
-lined-shown OfHtml depth markers info meta lines closed = refl
 lined-shown _ depth markers info meta lines closed = refl
 
 -- What an outline has shown of one that is open: its lines, as if it ended here.
@@ -139,9 +136,6 @@ text-open kind _ s r is = absurd is
 first-leaf : (kind : LeafKind) →
     at_fence (lined_leaf kind [] None None [] false) ≡ lined_leaf kind [] None None [] false
 first-leaf OfFence = refl
-first-leaf OfMath = refl
-first-leaf OfFrontmatter = refl
-first-leaf OfHtml = refl
 first-leaf _ = refl
 
 pub fence-begins : (kind : LeafKind) (s : OutlineState) (r : Reading) → Lining kind [] None None [] false false s r →
@@ -169,9 +163,6 @@ next-lined : (kind : LeafKind) (markers : List ℕ) (info meta : Option (List �
     next_line (lined_leaf kind markers info meta lines closed)
     ≡ lined_leaf kind markers info meta (lines ++ empty_line ∷ []) closed
 next-lined OfFence markers info meta lines closed = refl
-next-lined OfMath markers info meta lines closed = refl
-next-lined OfFrontmatter markers info meta lines closed = refl
-next-lined OfHtml markers info meta lines closed = refl
 next-lined _ markers info meta lines closed = refl
 
 -- a line that is empty yet
@@ -233,23 +224,17 @@ marks-leaf : (kind : LeafKind) (line : Line) → HasFences kind →
     spelled.noted AsMarkers line (lined_leaf kind [] None None [] false)
     ≡ lined_leaf kind line.text None None [] false
 marks-leaf OfFence line h = refl
-marks-leaf OfMath line h = refl
-marks-leaf OfFrontmatter line h = refl
-marks-leaf _ line h = absurd h
+marks-leaf _ line h = search
 
 marks-word : (kind : LeafKind) (b : ℕ) → HasFences kind →
     marked_word b (lined_word kind 0 false) ≡ lined_word kind b false
 marks-word OfFence b h = refl
-marks-word OfMath b h = refl
-marks-word OfFrontmatter b h = refl
-marks-word _ b h = absurd h
+marks-word _ b h = search
 
 is-marked : (kind : LeafKind) (markers : List ℕ) → HasFences kind → (first_byte markers == 0) ≡ false →
     IsMarked kind markers true
 is-marked OfFence markers h some = (refl, some)
-is-marked OfMath markers h some = (refl, some)
-is-marked OfFrontmatter markers h some = (refl, some)
-is-marked _ markers h some = absurd h
+is-marked _ markers h some = search
 
 pub markers-told : (kind : LeafKind) (line : Line) (s : OutlineState) (r : Reading) → HasFences kind →
     (first_byte line.text == 0) ≡ false → Lining kind [] None None [] false false s r →
@@ -318,8 +303,7 @@ meta-leaf : (kind : LeafKind) (markers : List ℕ) (info : Option (List ℕ)) (l
     spelled.noted AsMeta line (lined_leaf kind markers info None [] false)
     ≡ lined_leaf kind markers info (Some line.text) [] false
 meta-leaf OfFence markers info line h = refl
-meta-leaf OfMath markers info line h = refl
-meta-leaf _ markers info line h = absurd h
+meta-leaf _ markers info line h = search
 
 meta-lines : (kind : LeafKind) (depth : ℕ) (markers : List ℕ) (info : Option (List ℕ)) (text : List ℕ) →
     HasMeta kind →
@@ -349,9 +333,6 @@ line-leaf : (kind : LeafKind) (markers : List ℕ) (info meta : Option (List ℕ
     spelled.noted AsLine line (lined_leaf kind markers info meta lines false)
     ≡ lined_leaf kind markers info meta (on_last (λ (l : Line). joined l line) lines) false
 line-leaf OfFence markers info meta lines line = refl
-line-leaf OfMath markers info meta lines line = refl
-line-leaf OfFrontmatter markers info meta lines line = refl
-line-leaf OfHtml markers info meta lines line = refl
 line-leaf _ markers info meta lines line = refl
 
 -- as it is shown
@@ -410,15 +391,11 @@ closes-leaf _ markers fenced info meta lines h m = absurd h
 is-fenced : (kind : LeafKind) (markers : List ℕ) (fenced : Bool) → HasFences kind → IsMarked kind markers fenced →
     fenced ≡ true
 is-fenced OfFence markers fenced h m = m.0
-is-fenced OfMath markers fenced h m = m.0
-is-fenced OfFrontmatter markers fenced h m = m.0
-is-fenced _ markers fenced h m = absurd h
+is-fenced _ markers fenced h m = search
 
 closes-word : (kind : LeafKind) (b : ℕ) → HasFences kind → closed_word (lined_word kind b false) ≡ lined_word kind b true
 closes-word OfFence b h = refl
-closes-word OfMath b h = refl
-closes-word OfFrontmatter b h = refl
-closes-word _ b h = absurd h
+closes-word _ b h = search
 
 pub fence-closes : (kind : LeafKind) (info meta : Option (List ℕ)) (lines : List Line) (s : OutlineState)
     (r : Reading) → HasFences kind → Marked kind info meta (lines ++ empty_line ∷ []) false s r →
@@ -457,12 +434,9 @@ stands-leaf : (kind : LeafKind) (markers : List ℕ) (fenced : Bool) (info meta 
     spelled.noted AsMarkers line (lined_leaf kind markers info meta lines true)
     ≡ lined_leaf kind markers info meta lines true
 stands-leaf OfFence [] fenced info meta lines line h m = absurd (true≢false m.1)
-stands-leaf OfFence (b ∷ markers) fenced info meta lines line h m = refl
 stands-leaf OfMath [] fenced info meta lines line h m = absurd (true≢false m.1)
-stands-leaf OfMath (b ∷ markers) fenced info meta lines line h m = refl
 stands-leaf OfFrontmatter [] fenced info meta lines line h m = absurd (true≢false m.1)
-stands-leaf OfFrontmatter (b ∷ markers) fenced info meta lines line h m = refl
-stands-leaf _ markers fenced info meta lines line h m = absurd h
+stands-leaf _ markers fenced info meta lines line h m = search
 
 pub markers-stand : (kind : LeafKind) (info meta : Option (List ℕ)) (lines : List Line) (line : Line) (s : OutlineState)
     (r : Reading) → HasFences kind → Marked kind info meta lines true s r →
@@ -502,10 +476,7 @@ pub leaf-ends : (bytes : List ℕ) (x : LeafKind) (p : Point) (s : OutlineState)
     Agrees (state_exit bytes (shown_as (LeafRole x)) p s) (read_exit bytes (LeafRole x) p r)
 leaf-ends bytes OfCode p s r h is = is
 leaf-ends bytes OfFence p s r h is = is
-leaf-ends bytes OfMath p s r h is = is
-leaf-ends bytes OfHtml p s r h is = is
-leaf-ends bytes OfFrontmatter p s r h is = is
-leaf-ends bytes _ p s r h is = absurd h
+leaf-ends bytes _ p s r h is = search
 
 -- A line that is empty yet is one of its lines.
 

@@ -231,8 +231,6 @@ digits-end : (bytes : List ℕ) (shape : Shape) (p : Point) (s : OutlineState) (
     is_unparted span ≡ true →
     AwaitsMarker shape (told_at bytes purpose.Digits p.index span s) (spelled.told_at bytes AsDigits p text r)
 digits-end bytes shape p s r None None is h k = is
-digits-end bytes shape p s r None (Some text) is h k = absurd h
-digits-end bytes shape p s r (Some span) None is h k = absurd h
 digits-end bytes shape p s r (Some span) (Some text) is h k = record {
   list = is.list;
   outer = is.outer;
@@ -252,6 +250,7 @@ digits-end bytes shape p s r (Some span) (Some text) is h k = record {
       ∷ entry (depth_of is.outer + 1) word.Item ∷ [])
       s.depth s.lines (Some span) (Some text) k h;
 }
+digits-end bytes shape p s r _ _ is h k = absurd h
 
 -- the marker ends: it is that of the list
 abbrev text_or : Text → Option Text → Text

@@ -82,8 +82,7 @@ pub text-lines : (before : List Entry) (depth : ℕ) (lines : List Entry) (span 
 text-lines before depth lines None None h k = k
 text-lines before depth lines (Some span) (Some text) h k =
     (pieces-none before (begin_entries depth false) (depth + 1) lines span.is_parted text.front h k.1).0
-text-lines before depth lines None (Some text) h k = absurd k
-text-lines before depth lines (Some span) None h k = absurd k
+text-lines before depth lines _ _ h k = absurd k
 
 -- and the text stays when lines and blocks are added
 pub text-stays : (before before' : List Entry) (depth depth' : ℕ) (lines lines' : List Entry) (span : Option TextSpan)
@@ -97,8 +96,7 @@ text-stays before before' depth depth' lines lines' (Some span) (Some text) h f 
       pieces-from before' (begin_entries depth' false) (depth' + 1) lines' span.is_parted text.front h
           (f pieces.0, pieces.1),
     )
-text-stays before before' depth depth' lines lines' None (Some text) h f k = absurd k
-text-stays before before' depth depth' lines lines' (Some span) None h f k = absurd k
+text-stays before before' depth depth' lines lines' _ _ h f k = absurd k
 
 -- a leaf ends
 agrees-leaf : (s : OutlineState) (r : Reading) (leaf : Option OpenLeaf) → is_unparted s.text ≡ true →
@@ -151,8 +149,6 @@ agrees-block : (bytes : List ℕ) (x : spelled.Purpose) (p : Point) (s : Outline
     parts_by bytes Exit (TextRole x) p span ≡ true → Agrees s r →
     Agrees (told_at bytes purpose.Block p.index span s) (spelled.told_at bytes x p text r)
 agrees-block bytes x p s r None None by h k is = is
-agrees-block bytes x p s r None (Some text) by h k is = absurd h
-agrees-block bytes x p s r (Some span) None by h k is = absurd h
 agrees-block bytes x p s r (Some span) (Some text) by h k is =
     let piece : List ℕ = slice_range bytes span.from p.index in
     let line : Line = record { spaces = text.spaces; text = text_to bytes p.index text } in
@@ -175,6 +171,7 @@ agrees-block bytes x p s r (Some span) (Some text) by h k is =
           ∙ ap (λ d. shown r.outer r.here ++ block_entries d (block_told line.text)) is.depth
           ∙ sym (shown-then r.outer r.here (block_told line.text) is.words);
     })
+agrees-block bytes x p s r _ _ by h k is = absurd h
 
 -- a text that says something of a leaf
 abbrev noted_at : List ℕ → Note → ℕ → Option TextSpan → OutlineState → OutlineState
@@ -185,8 +182,6 @@ agrees-note : (bytes : List ℕ) (y : Note) (p : Point) (s : OutlineState) (r : 
     (text : Option Text) → TextIs (shown r.outer r.here) s.depth s.lines span text → is_unparted span ≡ true →
     Agrees s r → Agrees (noted_at bytes y p.index span s) (spelled.told_at bytes (told_as y) p text r)
 agrees-note bytes y p s r None None h k is = is
-agrees-note bytes y p s r None (Some text) h k is = absurd h
-agrees-note bytes y p s r (Some span) None h k is = absurd h
 agrees-note bytes y p s r (Some span) (Some text) h k is =
     let piece : List ℕ = slice_range bytes span.from p.index in
     let line : Line = record { spaces = text.spaces; text = text_to bytes p.index text } in
@@ -201,6 +196,7 @@ agrees-note bytes y p s r (Some span) (Some text) h k is =
       known = known-noted y line.text r.leaf is.known;
       text = text-lines (shown r.outer r.here) s.depth s.lines (Some span) (Some text) k h;
     })
+agrees-note bytes y p s r _ _ h k is = absurd h
 
 -- as the markers of a heading
 agrees-markers : (bytes : List ℕ) (p : Point) (s : OutlineState) (r : Reading) (span : Option TextSpan)
@@ -247,11 +243,10 @@ agrees-digits : (bytes : List ℕ) (p : Point) (s : OutlineState) (r : Reading) 
     TextIs (shown r.outer r.here) s.depth s.lines span text → is_unparted span ≡ true → Agrees s r →
     Agrees (told_at bytes purpose.Digits p.index span s) (spelled.told_at bytes AsDigits p text r)
 agrees-digits bytes p s r None None h k is = is
-agrees-digits bytes p s r None (Some text) h k is = absurd h
-agrees-digits bytes p s r (Some span) None h k is = absurd h
 agrees-digits bytes p s r (Some span) (Some text) h k is =
     agrees-named (named AsDigits (text_to bytes p.index text)) s r span text
     (digits-stay (text_to bytes p.index text) r.outer r.here is.words) h k is
+agrees-digits bytes p s r _ _ h k is = absurd h
 
 -- a marker of a further item
 agrees-marker : (bytes : List ℕ) (p : Point) (s : OutlineState) (r : Reading) (span : Option TextSpan)
@@ -259,8 +254,6 @@ agrees-marker : (bytes : List ℕ) (p : Point) (s : OutlineState) (r : Reading) 
     TextIs (shown r.outer r.here) s.depth s.lines span text → is_unparted span ≡ true → Agrees s r →
     Agrees (told_at bytes purpose.Marker p.index span s) (spelled.told_at bytes AsItemMarker p text r)
 agrees-marker bytes p s r None None h k is = is
-agrees-marker bytes p s r None (Some text) h k is = absurd h
-agrees-marker bytes p s r (Some span) None h k is = absurd h
 agrees-marker bytes p s r (Some span) (Some text) h k is =
     subst
     (λ untold.
@@ -269,6 +262,7 @@ agrees-marker bytes p s r (Some span) (Some text) h k is =
     (sym is.untold)
     (agrees-named (named AsItemMarker (text_to bytes p.index text)) s r span text
     (marker-stays (text_to bytes p.index text) r.outer r.here is.words) h k is)
+agrees-marker bytes p s r _ _ h k is = absurd h
 
 -- a prefix begins
 agrees-prefix : (bytes : List ℕ) (p : Point) (s : OutlineState) (r : Reading) (span : Option TextSpan)
@@ -285,8 +279,6 @@ agrees-prefix bytes p s r None None e h k is = record {
   known = is.known;
   text = subst (λ x. TextIs (shown r.outer r.here) s.depth s.lines x None) (sym e) h;
 }
-agrees-prefix bytes p s r None (Some text) e h k is = absurd h
-agrees-prefix bytes p s r (Some span) None e h k is = absurd h
 agrees-prefix bytes p s r (Some span) (Some text) e h k is =
     let piece : List ℕ = slice_range bytes span.from p.index in
     let before : List Entry = shown r.outer r.here in
@@ -314,6 +306,7 @@ agrees-prefix bytes p s r (Some span) (Some text) e h k is =
             parts.0 parts.1 h.1)),
       );
     }
+agrees-prefix bytes p s r _ _ e h k is = absurd h
 
 -- a prefix ends
 agrees-gone_on : (p : Point) (before : List Entry) (depth : ℕ) (lines : List Entry) (span : Option TextSpan)
@@ -323,8 +316,7 @@ agrees-gone_on : (p : Point) (before : List Entry) (depth : ℕ) (lines : List E
     (option_map (after_prefix p) text)
 agrees-gone_on p before depth lines None None h = h
 agrees-gone_on p before depth lines (Some span) (Some text) h = (refl, h.1)
-agrees-gone_on p before depth lines None (Some text) h = absurd h
-agrees-gone_on p before depth lines (Some span) None h = absurd h
+agrees-gone_on p before depth lines _ _ h = absurd h
 
 -- a container ends
 pub agrees-left : (s : OutlineState) (r : Reading) (outer : List OpenContainer) → r.outer ≡ outer → is_unparted s.text ≡ true →
@@ -417,8 +409,7 @@ agrees-given bytes p s r None None None (More b bs) span text here h is =
     subst (λ all. Agrees (record s { lines = all }) r) (sym lines) is
 agrees-given bytes p s r None None (Some leaf) here span text e h is = is
 agrees-given bytes p s r (Some x) (Some y) leaf here span text e h is = is
-agrees-given bytes p s r None (Some y) leaf here span text e h is = absurd h
-agrees-given bytes p s r (Some x) None leaf here span text e h is = absurd h
+agrees-given bytes p s r _ _ leaf here span text e h is = absurd h
 
 pub agrees-quote_marker : (bytes : List ℕ) (p : Point) (s : OutlineState) (r : Reading) → Agrees s r →
     Agrees (state_enter bytes role.QuoteMarker p s) (read_enter bytes IsQuoteMarker p r)
