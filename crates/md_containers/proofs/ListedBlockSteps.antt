@@ -157,16 +157,12 @@ other-apart bs b lists h m d x =
 
 pub shape-other : (shape : Shape) → IsNoItem shape → (bs : Blocks) → IsOther (block_around shape bs)
 shape-other OrderedShape h bs = absurd h
-shape-other UnorderedShape h bs = absurd h
-shape-other (ItemShape k d) h bs = absurd h
-shape-other _ h bs = tt
+shape-other _ h bs = search
 
 pub shape-grouped : (shape : Shape) → IsNoItem shape → (bs : Blocks) →
     grouped_block (block_around shape bs) ≡ block_around shape (grouped bs)
 shape-grouped OrderedShape h bs = absurd h
-shape-grouped UnorderedShape h bs = absurd h
-shape-grouped (ItemShape k d) h bs = absurd h
-shape-grouped _ h bs = refl
+shape-grouped _ h bs = search
 
 -- a quote or a footnote definition ends
 pub holder-ends : (bytes : List ℕ) (p : Point) (shape : Shape) (w : Option OpenList) (ls : List OpenList)

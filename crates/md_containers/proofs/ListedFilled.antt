@@ -9,20 +9,22 @@ use Rattle.md_engine.specs.declared.event.Kind.TheVariants.{Enter, Exit}
 use Rattle.md_engine.specs.declared.event.Name.{Name}
 use Rattle.md_engine.specs.declared.event.Name.TheVariants as n
 use Rattle.md_engine.specs.declared.event.Point.{Point}
-use Rattle.md_containers.specs.Listed.{Begins, Ends, Place, Stays, Turn, given, given_by, goes_on, is_item, list_begin}
-use Rattle.md_containers.specs.Listed.{list_end, list_name, listed, listed_from, marker_ahead, marker_by, next_by}
-use Rattle.md_containers.specs.Listed.{next_item, outside, place_after, place_by, turn}
+use Rattle.md_containers.specs.Listed.{Begins, Ends, Place, Stays, Turn, given, given_by, is_item, list_begin, list_end}
+use Rattle.md_containers.specs.Listed.{listed, listed_from, marker_ahead, marker_by, next_by, next_item, outside}
+use Rattle.md_containers.specs.Listed.{place_after, place_by, turn}
 use Rattle.md_containers.proofs.ListedLemmas.{passes-given}
 use Rattle.md_containers.proofs.ListedParts.{listed-parts}
 use Rattle.md_seam.specs.declared.inline.Chunk.{Chunk}
 use Rattle.md_seam.specs.Events.Inline.{Part, is_linked, line_end, pair_unless_empty, plain_chunks, together}
-use Rattle.md_seam.specs.Events.Nested.{exit, is_exit, pair}
+use Rattle.md_seam.specs.Events.Nested.{is_exit, pair}
 use Rattle.md_seam.specs.Events.Places.{same_place}
-use Rattle.md_seam.specs.Events.Spelled.{IsEnding, IsQuiet, Role, role}
+use Rattle.md_seam.specs.Events.Spelled.{IsEnding, IsQuiet, Role, role, LeafRole}
 use Rattle.md_seam.specs.Events.Tiles.{chunks_stand, depth_behind, filled, filled_from, first_list, further_lists}
 use Rattle.md_seam.specs.Events.Tiles.{is_chunk, is_data, is_part, parts, plain_lists, plain_read, stands_in_part}
-use Rattle.md_seam.proofs.FilledLemmas.{EachInline}
+use Rattle.md_seam.proofs.FilledLemmas.{EachInline, first-inline, further-inline}
 use Rattle.md_seam.proofs.SpelledLemmas.{QuietOrEnding, Roles, roles-append}
+use Rattle.md_containers.proofs.ListedKept.{with-begin, with-end}
+use Rattle.md_seam.proofs.PartsLemmas.{inline-append}
 
 -- What an inline layer gives.
 
@@ -56,11 +58,9 @@ inline-one bytes e h es = go e.kind (role e.name) h
     go : (kind : Kind) (x : Role) → QuietOrEnding x →
         (marker_by kind x (get_or bytes e.point.index 0) (marker_ahead bytes es) ≡ marker_ahead bytes es)
         × (next_by kind x (marker_ahead bytes es) (next_item bytes es) ≡ next_item bytes es)
-    go Enter IsQuiet h = (refl, refl)
-    go Exit IsQuiet h = (refl, refl)
-    go Enter IsEnding h = (refl, refl)
-    go Exit IsEnding h = (refl, refl)
-    go kind _ h = absurd h
+    go kind (LeafRole k) h = absurd h
+    go Enter x h = search
+    go Exit x h = search
 
 pub inline-ahead : (bytes : List ℕ) (xs : List Event) → Roles QuietOrEnding xs → (es : List Event) →
     SameAhead bytes (xs ++ es) es
@@ -126,14 +126,6 @@ chunk-quiet e f es h =
     let middle = and_parts (not (is_exit e.kind) && is_data e.name) (is_exit f.kind) outer.0 in
     (data-quiet e.name (and_parts (not (is_exit e.kind)) (is_data e.name) middle.0).1, data-quiet f.name outer.1)
 
-pub first-of : (lists : List (List Event)) → EachInline lists → Roles QuietOrEnding (first_list lists)
-first-of [] h = tt
-first-of (events ∷ lists) h = h.0
-
-pub further-of : (lists : List (List Event)) → EachInline lists → EachInline (further_lists lists)
-further-of [] h = tt
-further-of (events ∷ lists) h = h.1
-
 -- what stands ahead is the same once chunks are read
 ahead-filled : (bytes : List ℕ) (es : List Event) → Chunked es → (lists : List (List Event)) → EachInline lists →
     SameAhead bytes (filled_from false es lists) es
@@ -146,7 +138,7 @@ ahead-filled bytes (e ∷ []) h lists each = go (is_linked e) refl
     go false l = (refl, refl)
 ahead-filled bytes (e ∷ f ∷ es) h lists each =
     go (is_linked e) refl (ahead-filled bytes (f ∷ es) h.1 lists each)
-    (ahead-filled bytes es h.1.1 (further_lists lists) (further-of lists each))
+    (ahead-filled bytes es h.1.1 (further_lists lists) (further-inline lists each))
   where
     go : (x : Bool) → is_linked e ≡ x → SameAhead bytes (filled_from false (f ∷ es) lists) (f ∷ es) →
         SameAhead bytes (filled_from false es (further_lists lists)) es →
@@ -158,7 +150,7 @@ ahead-filled bytes (e ∷ f ∷ es) h lists each =
         let rest : List Event = filled_from false es (further_lists lists) in
         let one = inline-one bytes e quiet.0 (f ∷ es) in
         let two = inline-one bytes f quiet.1 es in
-        let front = inline-ahead bytes (first_list lists) (first-of lists each) rest in
+        let front = inline-ahead bytes (first_list lists) (first-inline lists each) rest in
         (front.0 ∙ j.0 ∙ sym two.0 ∙ sym one.0, front.1 ∙ j.1 ∙ sym two.1 ∙ sym one.1)
     go false l i j = ahead-more bytes e (filled_from false (f ∷ es) lists) (f ∷ es) i
 
@@ -166,18 +158,15 @@ ahead-filled bytes (e ∷ f ∷ es) h lists each =
 
 filled-begin : (within : Bool) (m : ℕ) (p : Point) (es : List Event) (lists : List (List Event)) →
     filled_from false (list_begin within m p ++ es) lists ≡ list_begin within m p ++ filled_from false es lists
-filled-begin true m p es lists = refl
-filled-begin false m p es lists = refl
+filled-begin within m p es lists =
+    with-begin (λ (xs : List Event). filled_from false (xs ++ es) lists ≡ xs ++ filled_from false es lists) within m p refl
+    refl refl
 
 filled-end : (markers : List ℕ) (next : Option ℕ) (p : Point) (es : List Event) (lists : List (List Event)) →
     filled_from false (list_end markers next p ++ es) lists ≡ list_end markers next p ++ filled_from false es lists
-filled-end [] next p es lists = refl
-filled-end (m ∷ markers) next p es lists = go (goes_on m next)
-  where
-    go : (x : Bool) → filled_from false (cond x [] (exit (list_name m) p ∷ []) ++ es) lists
-        ≡ cond x [] (exit (list_name m) p ∷ []) ++ filled_from false es lists
-    go true = refl
-    go false = refl
+filled-end markers next p es lists =
+    with-end (λ (xs : List Event). filled_from false (xs ++ es) lists ≡ xs ++ filled_from false es lists) markers next p
+    refl refl refl
 
 -- an event that is no chunk stays
 filled-one : (e : Event) → is_linked e ≡ false → (es : List Event) (lists : List (List Event)) →
@@ -249,7 +238,7 @@ filled-listed bytes place (e ∷ []) h lists each = go (is_linked e) refl
     go false l = filled-other bytes place e [] tt l lists each (λ now. refl)
 filled-listed bytes place (e ∷ f ∷ es) h lists each =
     go (is_linked e) refl (λ now. filled-listed bytes now (f ∷ es) h.1 lists each)
-    (filled-listed bytes place es h.1.1 (further_lists lists) (further-of lists each))
+    (filled-listed bytes place es h.1.1 (further_lists lists) (further-inline lists each))
   where
     go : (x : Bool) → is_linked e ≡ x →
         ((now : Place) →
@@ -270,7 +259,7 @@ filled-listed bytes place (e ∷ f ∷ es) h lists each =
         cond x (first_list lists ++ filled_from false (listed_from bytes place es) (further_lists lists))
         (e ∷ filled_from false (f ∷ listed_from bytes place es) lists)) l
         ∙ ap (λ (l : List Event). first_list lists ++ l) j
-        ∙ sym (inline-listed bytes place (first_list lists) (first-of lists each) read)
+        ∙ sym (inline-listed bytes place (first_list lists) (first-inline lists each) read)
         ∙ ap (listed_from bytes place)
         (sym
         (ap
@@ -298,14 +287,10 @@ chunks-inline text (chunk ∷ chunks) = (
   chunks-inline text chunks,
 )
 
-each-append : (xs ys : List (List Event)) → EachInline xs → EachInline ys → EachInline (xs ++ ys)
-each-append [] ys h k = k
-each-append (x ∷ xs) ys h k = (h.0, each-append xs ys h.1 k)
-
 pub plain-inline : (text : List ℕ) (parts : List Part) → EachInline (together (plain_lists text parts))
 plain-inline text [] = tt
 plain-inline text (part ∷ parts) =
-    each-append (plain_chunks text part.chunks) (together (plain_lists text parts)) (chunks-inline text part.chunks)
+    inline-append (plain_chunks text part.chunks) (together (plain_lists text parts)) (chunks-inline text part.chunks)
     (plain-inline text parts)
 
 -- the plain layer reads text parts before lists are put around items or behind

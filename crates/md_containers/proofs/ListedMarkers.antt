@@ -7,9 +7,9 @@ use Rattle.md_engine.specs.declared.event.Point.{Point}
 use Rattle.md_meaning.specs.declared.alert.AlertKind.{AlertKind}
 use Rattle.md_meaning.specs.Grouped.{grouped, grouped_block, with_front}
 use Rattle.md_meaning.specs.Tree.{Block, Blocks, End, Item, ListOf, More}
-use Rattle.md_seam.specs.Events.Spelled.{FootnoteShape, IsQuoteMarker, ItemShape, OpenContainer, OpenLeaf, OrderedShape}
-use Rattle.md_seam.specs.Events.Spelled.{QuoteShape, Reading, Shape, Text, UnorderedShape, is_before_blocks, is_ordered}
-use Rattle.md_seam.specs.Events.Spelled.{kind_at, on_shape, read_by, with_kind}
+use Rattle.md_seam.specs.Events.Spelled.{IsQuoteMarker, ItemShape, OpenContainer, OpenLeaf, OrderedShape, QuoteShape}
+use Rattle.md_seam.specs.Events.Spelled.{Reading, Shape, Text, UnorderedShape, is_before_blocks, is_ordered, kind_at}
+use Rattle.md_seam.specs.Events.Spelled.{on_shape, read_by, with_kind}
 use Rattle.md_containers.specs.ItemsStand.{AmongBlocks, Inner}
 use Rattle.md_containers.proofs.GroupedLemmas.{NoLists}
 use Rattle.md_containers.proofs.ListedOpen.{Agree, AgreeAt, HasBlocks, IsItemOf, IsNoItem, Known, Knows, OpenList}
@@ -20,13 +20,10 @@ use Rattle.md_containers.proofs.ListedOpen.{Stepped, as_listed, list_shape, move
 pub shape-listed : (f : Shape → Shape) (held : List Bool) (ls : List OpenList) (outer : List OpenContainer) →
     on_shape f (outer_by held ls outer) ≡ outer_by held ls (on_shape f outer)
 shape-listed f [] ls [] = refl
-shape-listed f [] ls (a ∷ arounds) = refl
 shape-listed f (true ∷ held) [] [] = refl
-shape-listed f (true ∷ held) [] (a ∷ arounds) = refl
 shape-listed f (true ∷ held) (l ∷ ls) [] = refl
-shape-listed f (true ∷ held) (l ∷ ls) (a ∷ arounds) = refl
 shape-listed f (false ∷ held) ls [] = refl
-shape-listed f (false ∷ held) ls (a ∷ arounds) = refl
+shape-listed f _ _ _ = refl
 
 -- a kind makes no item of another container, nor another container of an item
 item-kind : (kind : Option AlertKind) (m : ℕ) (shape : Shape) → IsItemOf m shape → IsItemOf m (with_kind kind shape)
@@ -37,18 +34,15 @@ item-kind (Some kind) m _ h = absurd h
 no_item-kind : (kind : Option AlertKind) (shape : Shape) → IsNoItem shape → IsNoItem (with_kind kind shape)
 no_item-kind None shape h = h
 no_item-kind (Some kind) (QuoteShape None) h = tt
-no_item-kind (Some kind) (QuoteShape (Some k)) h = tt
-no_item-kind (Some kind) (FootnoteShape label) h = tt
-no_item-kind (Some kind) _ h = absurd h
+no_item-kind (Some kind) _ h = search
 
 agree-kind : (kind : Option AlertKind) (held : List Bool) (ls : List OpenList) (outer : List OpenContainer) →
     Agree held ls outer → Agree held ls (on_shape (with_kind kind) outer)
 agree-kind kind held ls [] h = h
-agree-kind kind [] [] (a ∷ arounds) h = absurd h
-agree-kind kind [] (l ∷ ls) (a ∷ arounds) h = absurd h
-agree-kind kind (true ∷ held) [] (a ∷ arounds) h = absurd h
 agree-kind kind (true ∷ held) (l ∷ ls) (a ∷ arounds) h = (item-kind kind l.marker a.shape h.0, h.1, h.2, h.3)
 agree-kind kind (false ∷ held) ls (a ∷ arounds) h = (no_item-kind kind a.shape h.0, h.1, h.2)
+agree-kind kind [] [] (a ∷ arounds) h = absurd h
+agree-kind kind _ _ _ h = absurd h
 
 -- and none of a list
 list-kind : (kind : Option AlertKind) (m : ℕ) → with_kind kind (list_shape m) ≡ list_shape m

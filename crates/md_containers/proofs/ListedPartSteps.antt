@@ -12,11 +12,10 @@ use Rattle.md_meaning.specs.State.{then_block}
 use Rattle.md_meaning.specs.Texts.{first_byte}
 use Rattle.md_meaning.specs.Tree.{Block, Blocks, End, Line}
 use Rattle.md_seam.specs.Events.Spelled.{OpenContainer, AsDigits, AsFootnoteLabel, AsItemMarker, BreakLeaf}
-use Rattle.md_seam.specs.Events.Spelled.{ContainerRole, IsEnding, IsPrefix, IsQuiet, IsQuoteMarker}
-use Rattle.md_seam.specs.Events.Spelled.{ItemShape, OpenLeaf, LeafRole, OrderedShape, Purpose, UnorderedShape}
-use Rattle.md_seam.specs.Events.Spelled.{Reading, Role, Shape, TextRole, Text, at_ending, begun, block_of, finished}
-use Rattle.md_seam.specs.Events.Spelled.{named, next_line, on_leaf, on_shape, read_by, text_to, told_at, after_prefix}
-use Rattle.md_seam.specs.Events.Spelled.{before_prefix, noted}
+use Rattle.md_seam.specs.Events.Spelled.{ContainerRole, IsEnding, IsPrefix, IsQuiet, IsQuoteMarker, ItemShape, OpenLeaf}
+use Rattle.md_seam.specs.Events.Spelled.{LeafRole, Purpose, Reading, Role, Shape, TextRole, Text, at_ending, begun}
+use Rattle.md_seam.specs.Events.Spelled.{block_of, finished, named, next_line, on_leaf, on_shape, read_by, text_to}
+use Rattle.md_seam.specs.Events.Spelled.{told_at, after_prefix, before_prefix, noted}
 use Rattle.md_seam.specs.Events.Told.{block_told}
 use Rattle.md_seam.proofs.ToldLemmas.{told-block, told-noted}
 use Rattle.md_containers.specs.ItemsStand.{AmongBlocks, InFront, InLabel, InLeaf, InMarker, InText, Inner, IsBetween}
@@ -77,11 +76,8 @@ begun-digits t _ h = absurd h
 
 pub front-digits : (t : List ℕ) (held : List Bool) (ls : List OpenList) (outer : List OpenContainer) → AgreeFront held ls outer →
     AgreeFront held ls (on_shape (named AsDigits t) outer)
-front-digits t [] ls outer h = absurd h
-front-digits t (false ∷ held) ls outer h = absurd h
-front-digits t (true ∷ held) [] outer h = absurd h
-front-digits t (true ∷ held) (l ∷ ls) [] h = absurd h
 front-digits t (true ∷ held) (l ∷ ls) (a ∷ arounds) h = (begun-digits t a.shape h.0, h.1, h.2, h.3)
+front-digits t _ _ _ h = absurd h
 
 pub digits-known : (bytes : List ℕ) (p : Point) (ls : List OpenList) (outer : List OpenContainer) (here : Blocks)
     (leaf : Option OpenLeaf) (text : Option Text) (ahead : ℕ) (next : Option ℕ) (held : List Bool) →
@@ -103,20 +99,14 @@ item-label t m _ h = absurd h
 
 pub no-item-label : (t : List ℕ) (shape : Shape) → IsNoItem shape → IsNoItem (named AsFootnoteLabel t shape)
 no-item-label t (ItemShape k d) h = absurd h
-no-item-label t OrderedShape h = absurd h
-no-item-label t UnorderedShape h = absurd h
-no-item-label t _ h = tt
+no-item-label t _ h = search
 
 pub agree-label : (t : List ℕ) (held : List Bool) (ls : List OpenList) (outer : List OpenContainer) → Agree held ls outer →
     Agree held ls (on_shape (named AsFootnoteLabel t) outer)
 agree-label t [] [] [] h = tt
-agree-label t [] [] (a ∷ arounds) h = absurd h
-agree-label t [] (l ∷ ls) outer h = absurd h
-agree-label t (true ∷ held) [] outer h = absurd h
-agree-label t (true ∷ held) (l ∷ ls) [] h = absurd h
 agree-label t (true ∷ held) (l ∷ ls) (a ∷ arounds) h = (item-label t l.marker a.shape h.0, h.1, h.2, h.3)
-agree-label t (false ∷ held) ls [] h = absurd h
 agree-label t (false ∷ held) ls (a ∷ arounds) h = (no-item-label t a.shape h.0, h.1, h.2)
+agree-label t _ _ _ h = absurd h
 
 pub apart-of : (m : ℕ) (b : Blocks) → b ≡ End → Apart m b
 apart-of m b e = subst (Apart m) (sym e) (apart-end m)
@@ -158,12 +148,9 @@ item-marked t m _ h e marker = absurd h
 pub front-marked : (t : List ℕ) (held : List Bool) (ls : List OpenList) (outer : List OpenContainer) → AgreeFront held ls outer →
     first_byte t ≡ first_marker ls → is_list_marker (first_marker ls) ≡ true →
     Agree held ls (on_shape (named AsItemMarker t) outer)
-front-marked t [] ls outer h e marker = absurd h
-front-marked t (false ∷ held) ls outer h e marker = absurd h
-front-marked t (true ∷ held) [] outer h e marker = absurd h
-front-marked t (true ∷ held) (l ∷ ls) [] h e marker = absurd h
 front-marked t (true ∷ held) (l ∷ ls) (a ∷ arounds) h e marker =
     (item-marked t l.marker a.shape h.0 e marker, h.1, h.2, h.3)
+front-marked t _ _ _ h e marker = absurd h
 
 pub marker-known : (bytes : List ℕ) (p q : Point) (ls : List OpenList) (outer : List OpenContainer) (here : Blocks)
     (leaf : Option OpenLeaf) (text : Option Text) (ahead : ℕ) (next : Option ℕ) (held : List Bool) →

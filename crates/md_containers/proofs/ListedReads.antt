@@ -35,26 +35,19 @@ step bytes InFront Enter x p None ls r ahead next held may known =
 step bytes InFront Exit x p None ls r ahead next held may known = front-end bytes x p ls r ahead next held may known
 step bytes (InMarker q) Enter x p None ls r ahead next held may known = absurd may
 step bytes (InMarker q) Exit x p None ls r ahead next held may known =
-    marker-end bytes x p q ls r ahead (marker_by Exit x (get_or bytes p.index 0) ahead) next
-    (next_by Exit x ahead next) held may known
+    marker-end bytes x p q ls r ahead _ next _ held may known
 step bytes InLabel Enter x p None ls r ahead next held may known =
-    label-begin bytes x p ls r ahead (marker_by Enter x (get_or bytes p.index 0) ahead) next
-    (next_by Enter x ahead next) held may known
+    label-begin bytes x p ls r ahead _ next _ held may known
 step bytes InLabel Exit x p None ls r ahead next held may known =
-    label-end bytes x p ls r ahead (marker_by Exit x (get_or bytes p.index 0) ahead) next
-    (next_by Exit x ahead next) held may known
+    label-end bytes x p ls r ahead _ next _ held may known
 step bytes InLeaf Enter x p None ls r ahead next held may known =
-    leaf-begin bytes x p ls r ahead (marker_by Enter x (get_or bytes p.index 0) ahead) next
-    (next_by Enter x ahead next) held may known
+    leaf-begin bytes x p ls r ahead _ next _ held may known
 step bytes InLeaf Exit x p None ls r ahead next held may known =
-    leaf-end bytes x p ls r ahead (marker_by Exit x (get_or bytes p.index 0) ahead) next
-    (next_by Exit x ahead next) held may known
+    leaf-end bytes x p ls r ahead _ next _ held may known
 step bytes InText Enter x p None ls r ahead next held may known =
-    text-begin bytes x p ls r ahead (marker_by Enter x (get_or bytes p.index 0) ahead) next
-    (next_by Enter x ahead next) held may known
+    text-begin bytes x p ls r ahead _ next _ held may known
 step bytes InText Exit x p None ls r ahead next held may known =
-    text-end bytes x p ls r ahead (marker_by Exit x (get_or bytes p.index 0) ahead) next
-    (next_by Exit x ahead next) held may known
+    text-end bytes x p ls r ahead _ next _ held may known
 step bytes inner kind x p (Some l) ls r ahead next held may known = absurd known.inner
 
 at-end : (bytes : List ℕ) (inner : Inner) (held : List Bool) (w : Option OpenList) (ls : List OpenList)
