@@ -34,6 +34,7 @@ use Rattle.md_seam.specs.Ahead.{begins_white, white_rest}
 use Rattle.md_seam.specs.Events.Nested.{enter, enter_link, exit, pair}
 use Rattle.md_seam.specs.Spaces.{any_size, is_current, sees_white}
 use Rattle.md_seam.proofs.WhiteMeaning.{begins-seen, white-tried}
+use Rattle.md_containers.proofs.ByteMeaning.{AsksFor, asked-some, asked-none}
 
 -- Events that are added one after another.
 
@@ -47,22 +48,9 @@ five events a b c d e = simp append_assoc
 
 -- The begin of the label.
 
-bracket-taken : (feed : Feed) (w : World) (h : Here) (o : Option ℕ) → is_current left_bracket o ≡ true →
-    at_bracket (ahead feed w o) h ≡
-    at_caret (feed (after w.setting w.point))
-    (record h {
-      events = h.events ++ bracket_events h.point (after w.setting w.point);
-      point = after w.setting w.point;
-    })
+asks-bracket : AsksFor left_bracket bracket_events at_bracket at_caret
 unfolding at_bracket
-bracket-taken feed w h None e = cc
-bracket-taken feed w h (Some b) e = rw e refl
-
-bracket-none : (feed : Feed) (w : World) (h : Here) (o : Option ℕ) → is_current left_bracket o ≡ false →
-    at_bracket (ahead feed w o) h ≡ Refuses h.scratch h.flags
-unfolding at_bracket
-bracket-none feed w h None e = refl
-bracket-none feed w h (Some b) e = rw e refl
+asks-bracket = record { none = λ h. refl; some = λ c cs h. refl }
 
 label_before_means : (B : Behaviour) (options : ParseOptions) (feed : Feed) (w : World) (x : Bool) →
     HasFootnote B options → Sees feed w → is_current left_bracket w.current ≡ x →
@@ -70,35 +58,16 @@ label_before_means : (B : Behaviour) (options : ParseOptions) (feed : Feed) (w :
     (label_before_code w x).world
 label_before_means B options feed w true has s e =
     let q = after w.setting w.point in
-    let same = four w.events (enter parts.GfmFootnoteDefinitionPrefix w.point)
-    (enter parts.GfmFootnoteDefinitionLabel w.point) (enter parts.GfmFootnoteDefinitionLabelMarker w.point)
-    (exit parts.GfmFootnoteDefinitionLabelMarker q) in
-    moves B feed _ _ w (label_before_code w true).world (bracket_events w.point q) refl same
-    (has.each its.LabelBefore _ _ ∙ ap (λ (x : List Cell). at_bracket x (here w)) s.next
-    ∙ bracket-taken feed w (here w) w.current e
-    ∙ ap (λ (es : List Event). at_caret (feed q) (record (here w) { events = es; point = q })) (sym same)
-    ∙ sym (has.each its.LabelAtMarker _ _))
+    asked-some B feed _ _ w (label_before_code w true).world asks-bracket (has.each its.LabelBefore)
+    (has.each its.LabelAtMarker) s e refl
+    (four w.events (enter parts.GfmFootnoteDefinitionPrefix w.point) (enter parts.GfmFootnoteDefinitionLabel w.point)
+    (enter parts.GfmFootnoteDefinitionLabelMarker w.point) (exit parts.GfmFootnoteDefinitionLabelMarker q)) refl refl
 label_before_means B options feed w false has s e =
-    passes B feed _ _ w w refl refl
-    (has.each its.LabelBefore _ _ ∙ ap (λ (x : List Cell). at_bracket x (here w)) s.next
-    ∙ bracket-none feed w (here w) w.current e)
+    asked-none B feed _ w asks-bracket (has.each its.LabelBefore) s e
 
-caret-taken : (feed : Feed) (w : World) (h : Here) (o : Option ℕ) → is_current caret o ≡ true →
-    at_caret (ahead feed w o) h ≡
-    in_label false (feed (after w.setting w.point))
-    (record h {
-      events = h.events ++ caret_events h.point (after w.setting w.point);
-      point = after w.setting w.point;
-    })
+asks-caret : AsksFor caret caret_events at_caret (in_label false)
 unfolding at_caret
-caret-taken feed w h None e = cc
-caret-taken feed w h (Some b) e = rw e refl
-
-caret-none : (feed : Feed) (w : World) (h : Here) (o : Option ℕ) → is_current caret o ≡ false →
-    at_caret (ahead feed w o) h ≡ Refuses h.scratch h.flags
-unfolding at_caret
-caret-none feed w h None e = refl
-caret-none feed w h (Some b) e = rw e refl
+asks-caret = record { none = λ h. refl; some = λ c cs h. refl }
 
 label_at_marker_means : (B : Behaviour) (options : ParseOptions) (feed : Feed) (w : World) (x : Bool) →
     HasFootnote B options → Sees feed w → is_current caret w.current ≡ x →
@@ -106,18 +75,12 @@ label_at_marker_means : (B : Behaviour) (options : ParseOptions) (feed : Feed) (
     (label_at_marker_code w x).world
 label_at_marker_means B options feed w true has s e =
     let q = after w.setting w.point in
-    let same = four w.events (enter parts.GfmFootnoteDefinitionMarker w.point)
-    (exit parts.GfmFootnoteDefinitionMarker q) (enter parts.GfmFootnoteDefinitionLabelString q)
-    (enter_link parts.Data q label_link) in
-    moves B feed _ _ w (label_at_marker_code w true).world (caret_events w.point q) refl same
-    (has.each its.LabelAtMarker _ _ ∙ ap (λ (x : List Cell). at_caret x (here w)) s.next
-    ∙ caret-taken feed w (here w) w.current e
-    ∙ ap (λ (es : List Event). in_label false (feed q) (record (here w) { events = es; point = q })) (sym same)
-    ∙ sym (has.each its.LabelInside _ _))
+    asked-some B feed _ _ w (label_at_marker_code w true).world asks-caret (has.each its.LabelAtMarker)
+    (has.each its.LabelInside) s e refl
+    (four w.events (enter parts.GfmFootnoteDefinitionMarker w.point) (exit parts.GfmFootnoteDefinitionMarker q)
+    (enter parts.GfmFootnoteDefinitionLabelString q) (enter_link parts.Data q label_link)) refl refl
 label_at_marker_means B options feed w false has s e =
-    passes B feed _ _ w w refl refl
-    (has.each its.LabelAtMarker _ _ ∙ ap (λ (x : List Cell). at_caret x (here w)) s.next
-    ∙ caret-none feed w (here w) w.current e)
+    asked-none B feed _ w asks-caret (has.each its.LabelAtMarker) s e
 
 -- What is left in the label: at the end of the text,
 
@@ -306,40 +269,20 @@ label_escape_means B options feed w (Some b) false has s is e =
 
 -- Behind the label.
 
-colon-taken : (feed : Feed) (w : World) (h : Here) (o : Option ℕ) → is_current colon o ≡ true →
-    at_colon (ahead feed w o) h ≡
-    behind_colon (feed (after w.setting w.point))
-    (record h {
-      events = h.events ++ pair parts.DefinitionMarker h.point (after w.setting w.point);
-      point = after w.setting w.point;
-    })
+asks-colon : AsksFor colon (pair parts.DefinitionMarker) at_colon behind_colon
 unfolding at_colon
-colon-taken feed w h None e = cc
-colon-taken feed w h (Some b) e = rw e refl
-
-colon-none : (feed : Feed) (w : World) (h : Here) (o : Option ℕ) → is_current colon o ≡ false →
-    at_colon (ahead feed w o) h ≡ Refuses h.scratch h.flags
-unfolding at_colon
-colon-none feed w h None e = refl
-colon-none feed w h (Some b) e = rw e refl
+asks-colon = record { none = λ h. refl; some = λ c cs h. refl }
 
 label_after_means : (B : Behaviour) (options : ParseOptions) (feed : Feed) (w : World) (x : Bool) →
     HasFootnote B options → Sees feed w → is_current colon w.current ≡ x →
     Steps B feed (Next (n.GfmFootnoteDefinition its.LabelAfter)) w (label_after_code w x).to
     (label_after_code w x).world
 label_after_means B options feed w true has s e =
-    let q = after w.setting w.point in
-    let same = append_assoc w.events (enter parts.DefinitionMarker w.point ∷ [])
-    (exit parts.DefinitionMarker q ∷ []) in
-    moves B feed _ _ w (label_after_code w true).world (pair parts.DefinitionMarker w.point q) refl same
-    (has.each its.LabelAfter _ _ ∙ ap (λ (x : List Cell). at_colon x (here w)) s.next
-    ∙ colon-taken feed w (here w) w.current e
-    ∙ ap (λ (es : List Event). behind_colon (feed q) (record (here w) { events = es; point = q })) (sym same)
-    ∙ sym (has.each its.MarkerAfter _ _))
-label_after_means B options feed w false has s e =
-    passes B feed _ _ w w refl refl
-    (has.each its.LabelAfter _ _ ∙ ap (λ (x : List Cell). at_colon x (here w)) s.next
-    ∙ colon-none feed w (here w) w.current e)
+    asked-some B feed _ _ w (label_after_code w true).world asks-colon (has.each its.LabelAfter)
+    (has.each its.MarkerAfter) s e refl
+    (append_assoc w.events (enter parts.DefinitionMarker w.point ∷ [])
+    (exit parts.DefinitionMarker (after w.setting w.point) ∷ [])) refl refl
+label_after_means B options feed w false has s e = asked-none B feed _ w asks-colon (has.each its.LabelAfter) s e
 
 -- Behind `:`.
 

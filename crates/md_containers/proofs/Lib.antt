@@ -13,6 +13,7 @@ pub mod Shorter
 pub mod LaterStart
 pub mod StartLooked
 pub mod BehindIndent
+pub mod ByteMeaning
 pub mod FootnoteTermination
 pub mod FootnoteMeaning
 pub mod FootnoteShorter

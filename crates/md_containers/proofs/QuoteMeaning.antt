@@ -1,6 +1,7 @@
 -- Each state of the prefix of a quote takes one step of its rule.
-use Rattle.std.proofs.Common.{◌≡◌, ℕ, suc, ◌+◌, Bool, true, false, nat_eq, List, [], ◌∷◌, ◌++◌, drop, slice_get}
-use Rattle.std.proofs.Common.{Option, Some, None, refl, sym, ◌∙◌, ap, arith, append_assoc, add-one, drop-cons, inl, inr}
+use Rattle.std.proofs.Common.{◌≡◌, ℕ, suc, ◌+◌, Bool, true, false, nat_eq, List, [], ◌∷◌, ◌++◌, drop, slice_get, Option}
+use Rattle.std.proofs.Common.{Some, None, refl, sym, ◌∙◌, ap, arith, append_assoc, add-one, drop-cons, inl, inr}
+use Rattle.std.proofs.Common.{append-nil, cond}
 use Rattle.std.proofs.lemmas.List.{drop_all}
 use Rattle.std.proofs.lemmas.Option.{get_or_from_slice_get, slice_get_cases, slice_get_within}
 use Rattle.std.specs.Char.{to_ascii_lowercase}
@@ -33,6 +34,7 @@ use Rattle.md_seam.specs.Events.Nested.{enter, exit}
 use Rattle.md_seam.specs.Spaces.{is_current, sees_white, small_indent}
 use Rattle.md_seam.proofs.AheadLemmas.{small-some}
 use Rattle.md_seam.proofs.WhiteMeaning.{begins-seen, behind_white, white-tried}
+use Rattle.md_containers.proofs.ByteMeaning.{AsksFor, asked-some, asked-none}
 
 -- what is left of the rule at some state
 abbrev Left : Type 0
@@ -106,23 +108,11 @@ indent_means B feed w false state behind next white is then s e =
 
 -- The marker.
 
-marker-taken : (next : Left) (feed : Feed) (w : World) (h : Here) (o : Option ℕ) → is_current 62 o ≡ true →
-    at_marker next (ahead feed w o) h ≡ behind_marker next (feed (after w.setting w.point))
-    (record h {
-      events =
-          h.events ++ enter BlockQuotePrefix h.point ∷ enter BlockQuoteMarker h.point
-          ∷ exit BlockQuoteMarker (after w.setting w.point) ∷ [];
-      point = after w.setting w.point;
-    })
+asks-marker : (next : Left) →
+    AsksFor 62 (λ p q. enter BlockQuotePrefix p ∷ enter BlockQuoteMarker p ∷ exit BlockQuoteMarker q ∷ []) (at_marker next)
+    (behind_marker next)
 unfolding at_marker
-marker-taken next feed w h None e = cc
-marker-taken next feed w h (Some b) e = rw e refl
-
-marker-none : (next : Left) (feed : Feed) (w : World) (h : Here) (o : Option ℕ) → is_current 62 o ≡ false →
-    at_marker next (ahead feed w o) h ≡ Refuses h.scratch h.flags
-unfolding at_marker
-marker-none next feed w h None e = refl
-marker-none next feed w h (Some b) e = rw e refl
+asks-marker next = record { none = λ h. refl; some = λ c cs h. refl }
 
 -- three events, one after another
 three : (events : List Event) (a b c : Event) → ((events ++ a ∷ []) ++ b ∷ []) ++ c ∷ [] ≡ events ++ a ∷ b ∷ c ∷ []
@@ -133,18 +123,10 @@ marker_means : (B : Behaviour) (feed : Feed) (w : World) (x : Bool) (state behin
     is_current 62 w.current ≡ x →
     Steps B feed (Next (n.BlockQuote state)) w (marker_code behind w x).to (marker_code behind w x).world
 marker_means B feed w true state behind next is then s e =
-    let q = after w.setting w.point in
-    let a = enter BlockQuotePrefix w.point in
-    let b = enter BlockQuoteMarker w.point in
-    let c = exit BlockQuoteMarker q in
-    moves B feed _ _ w (marker_code behind w true).world (a ∷ b ∷ c ∷ []) refl (three w.events a b c)
-    (is _ _ ∙ ap (λ (x : List Cell). at_marker next x (here w)) s.next ∙ marker-taken next feed w (here w) w.current e
-    ∙ ap (λ (es : List Event). behind_marker next (feed q) (record (here w) { events = es; point = q }))
-    (sym (three w.events a b c))
-    ∙ sym (then _ _))
-marker_means B feed w false state behind next is then s e =
-    passes B feed _ _ w w refl refl
-    (is _ _ ∙ ap (λ (x : List Cell). at_marker next x (here w)) s.next ∙ marker-none next feed w (here w) w.current e)
+    asked-some B feed _ _ w (marker_code behind w true).world (asks-marker next) is then s e refl
+    (three w.events (enter BlockQuotePrefix w.point) (enter BlockQuoteMarker w.point)
+    (exit BlockQuoteMarker (after w.setting w.point))) refl refl
+marker_means B feed w false state behind next is then s e = asked-none B feed _ w (asks-marker next) is s e
 
 -- Behind the marker.
 
@@ -224,56 +206,36 @@ try_means B feed w has =
     ∙ ended-resumed B _ feed w (alert_at w.setting.options (feed w.point) (here w)) has
     ∙ ap (resume B feed w.events f) (sym (has.each its.AlertStart _ _)))
 
-bracket-taken : (feed : Feed) (w : World) (h : Here) (o : Option ℕ) → is_current 91 o ≡ true →
-    alert_marker (ahead feed w o) h ≡
-    alert_mark (feed (after w.setting w.point))
-    (record h { events = h.events ++ enter BlockQuoteMarker h.point ∷ []; point = after w.setting w.point })
+asks-bracket : AsksFor 91 (λ p q. enter BlockQuoteMarker p ∷ []) alert_marker alert_mark
 unfolding alert_marker
-bracket-taken feed w h None e = cc
-bracket-taken feed w h (Some b) e = rw e refl
-
-bracket-none : (feed : Feed) (w : World) (h : Here) (o : Option ℕ) → is_current 91 o ≡ false →
-    alert_marker (ahead feed w o) h ≡ Refuses h.scratch h.flags
-unfolding alert_marker
-bracket-none feed w h None e = refl
-bracket-none feed w h (Some b) e = rw e refl
+asks-bracket = record { none = λ h. refl; some = λ c cs h. refl }
 
 alert_before_means : (B : Behaviour) (options : ParseOptions) (feed : Feed) (w : World) (x : Bool) →
     HasQuote B options → Sees feed w → is_current 91 w.current ≡ x →
     Steps B feed (Next (n.BlockQuote its.AlertBefore)) w (alert_before_code w x).to (alert_before_code w x).world
 alert_before_means B options feed w true has s e =
-    moves B feed _ _ w (alert_before_code w true).world (enter BlockQuoteMarker w.point ∷ []) refl refl
-    (has.each its.AlertBefore _ _ ∙ ap (λ (x : List Cell). alert_marker x (here w)) s.next
-    ∙ bracket-taken feed w (here w) w.current e ∙ sym (has.each its.AlertMark _ _))
-alert_before_means B options feed w false has s e =
-    passes B feed _ _ w w refl refl
-    (has.each its.AlertBefore _ _ ∙ ap (λ (x : List Cell). alert_marker x (here w)) s.next
-    ∙ bracket-none feed w (here w) w.current e)
+    asked-some B feed _ _ w (alert_before_code w true).world asks-bracket (has.each its.AlertBefore)
+    (has.each its.AlertMark) s e refl refl refl refl
+alert_before_means B options feed w false has s e = asked-none B feed _ w asks-bracket (has.each its.AlertBefore) s e
 
-mark-taken : (feed : Feed) (w : World) (h : Here) (o : Option ℕ) → is_current 33 o ≡ true →
-    alert_mark (ahead feed w o) h ≡
-    alert_letter (feed (after w.setting w.point)) (record h { point = after w.setting w.point })
+asks-mark : AsksFor 33 (λ p q. []) alert_mark alert_letter
 unfolding alert_mark
-mark-taken feed w h None e = cc
-mark-taken feed w h (Some b) e = rw e refl
-
-mark-none : (feed : Feed) (w : World) (h : Here) (o : Option ℕ) → is_current 33 o ≡ false →
-    alert_mark (ahead feed w o) h ≡ Refuses h.scratch h.flags
-unfolding alert_mark
-mark-none feed w h None e = refl
-mark-none feed w h (Some b) e = rw e refl
+asks-mark = record {
+  none = λ h. refl;
+  some = λ c cs h.
+      ap
+      (λ (es : List Event).
+      cond (nat_eq c.byte 33) (alert_letter cs (record h { events = es; point = c.after })) (Refuses h.scratch h.flags))
+      (sym (append-nil h.events));
+}
 
 alert_mark_means : (B : Behaviour) (options : ParseOptions) (feed : Feed) (w : World) (x : Bool) →
     HasQuote B options → Sees feed w → is_current 33 w.current ≡ x →
     Steps B feed (Next (n.BlockQuote its.AlertMark)) w (alert_mark_code w x).to (alert_mark_code w x).world
 alert_mark_means B options feed w true has s e =
-    passes B feed _ _ w (alert_mark_code w true).world refl refl
-    (has.each its.AlertMark _ _ ∙ ap (λ (x : List Cell). alert_mark x (here w)) s.next
-    ∙ mark-taken feed w (here w) w.current e ∙ sym (has.each its.AlertLetter _ _))
-alert_mark_means B options feed w false has s e =
-    passes B feed _ _ w w refl refl
-    (has.each its.AlertMark _ _ ∙ ap (λ (x : List Cell). alert_mark x (here w)) s.next
-    ∙ mark-none feed w (here w) w.current e)
+    asked-some B feed _ _ w (alert_mark_code w true).world asks-mark (has.each its.AlertMark) (has.each its.AlertLetter) s e
+    refl (sym (append-nil w.events)) refl refl
+alert_mark_means B options feed w false has s e = asked-none B feed _ w asks-mark (has.each its.AlertMark) s e
 
 -- The name of its kind.
 
