@@ -1,14 +1,14 @@
 -- A quote that a marker gives a kind: its line is the last that is shown as long as nothing in the quote is, since the
 -- lines of its blocks are deeper.
-use Rattle.std.proofs.Common.{◌≡◌, ℕ, ◌+◌, ◌≤◌, Bool, true, false, cond, ◌==◌, List, [], ◌∷◌, ◌++◌, length, refl, sym}
-use Rattle.std.proofs.Common.{◌∙◌, ap, append-nil, arith}
+use Rattle.std.proofs.Common.{◌≡◌, ℕ, ◌+◌, ◌≤◌, Bool, true, false, cond, ◌==◌, List, [], ◌∷◌, ◌++◌, refl, sym, ◌∙◌, ap}
+use Rattle.std.proofs.Common.{append-nil, arith}
 use Rattle.std.specs.Prelude.{Option, Some, None}
 use Rattle.std.proofs.lemmas.Bool.{eq-eqb, eqb-true}
 use Rattle.md_meaning.specs.declared.alert.AlertKind.{AlertKind}
 use Rattle.md_meaning.specs.declared.outline.Word.{Word}
 use Rattle.md_meaning.specs.declared.outline.Word.TheVariants as word
 use Rattle.md_meaning.specs.Outline.{Entry, block_entries, entries, entry, entry_with, line_entries, outline}
-use Rattle.md_meaning.specs.Outline.{part_entry, quote_word, row_entries, rows_entries, table_entries, title_entries}
+use Rattle.md_meaning.specs.Outline.{part_entry, row_entries, rows_entries, table_entries, title_entries}
 use Rattle.md_meaning.specs.State.{then_block}
 use Rattle.md_meaning.specs.Tree.{Block, Blocks, Break, Code, Definition, End, Fence, Footnote, Frontmatter, Heading}
 use Rattle.md_meaning.specs.Tree.{Html, Item, Line, ListOf, Math, More, Paragraph, Quote, Table}
@@ -29,99 +29,81 @@ deep-append : (depth : ℕ) (xs ys : List Entry) → Deep depth xs → Deep dept
 deep-append depth [] ys h k = k
 deep-append depth (x ∷ xs) ys h k = (h.0, deep-append depth xs ys h.1 k)
 
-deeper : (depth : ℕ) (xs : List Entry) → Deep (depth + 1) xs → Deep depth xs
-deeper depth [] h = tt
-deeper depth (x ∷ xs) h = (omega (arith, h.0), deeper depth xs h.1)
+deep-entries : (depth d : ℕ) (w : Word) (texts : List (List ℕ)) → depth ≤ d → Deep depth (entries d w texts)
+deep-entries depth d w [] le = tt
+deep-entries depth d w (text ∷ texts) le = (le, deep-entries depth d w texts le)
 
-same-depth : (depth : ℕ) → depth ≤ depth
-same-depth depth = omega arith
+deep-lines : (depth d : ℕ) (lines : List Line) → depth ≤ d → Deep depth (line_entries d lines)
+deep-lines depth d [] le = tt
+deep-lines depth d (line ∷ lines) le = (le, deep-lines depth d lines le)
 
-deep-entries : (depth : ℕ) (w : Word) (texts : List (List ℕ)) → Deep depth (entries depth w texts)
-deep-entries depth w [] = tt
-deep-entries depth w (text ∷ texts) = (same-depth depth, deep-entries depth w texts)
+deep-part : (depth d : ℕ) (w : Word) (text : Option (List ℕ)) → depth ≤ d → Deep depth (part_entry d w text)
+deep-part depth d w None le = tt
+deep-part depth d w (Some text) le = (le, tt)
 
-deep-lines : (depth : ℕ) (lines : List Line) → Deep depth (line_entries depth lines)
-deep-lines depth [] = tt
-deep-lines depth (line ∷ lines) = (same-depth depth, deep-lines depth lines)
+deep-title : (depth d : ℕ) (title : Option (List (List ℕ))) → depth ≤ d → Deep depth (title_entries d title)
+deep-title depth d None le = tt
+deep-title depth d (Some lines) le = deep-entries depth d word.Title lines le
 
-deep-part : (depth : ℕ) (w : Word) (text : Option (List ℕ)) → Deep depth (part_entry depth w text)
-deep-part depth w None = tt
-deep-part depth w (Some text) = (same-depth depth, tt)
+deep-row : (depth d : ℕ) (cells : List (List ℕ)) → depth ≤ d → Deep depth (row_entries d cells)
+deep-row depth d cells le = (le, deep-entries depth (d + 1) word.Cell cells (omega arith))
 
-deep-title : (depth : ℕ) (title : Option (List (List ℕ))) → Deep depth (title_entries depth title)
-deep-title depth None = tt
-deep-title depth (Some lines) = deep-entries depth word.Title lines
+deep-rows : (depth d : ℕ) (rows : List (List (List ℕ))) → depth ≤ d → Deep depth (rows_entries d rows)
+deep-rows depth d [] le = tt
+deep-rows depth d (cells ∷ rows) le =
+    deep-append depth (row_entries d cells) (rows_entries d rows) (deep-row depth d cells le) (deep-rows depth d rows le)
 
-deep-row : (depth : ℕ) (cells : List (List ℕ)) → Deep depth (row_entries depth cells)
-deep-row depth cells =
-    (same-depth depth, deeper depth (entries (depth + 1) word.Cell cells) (deep-entries (depth + 1) word.Cell cells))
-
-deep-rows : (depth : ℕ) (rows : List (List (List ℕ))) → Deep depth (rows_entries depth rows)
-deep-rows depth [] = tt
-deep-rows depth (cells ∷ rows) =
-    deep-append depth (row_entries depth cells) (rows_entries depth rows) (deep-row depth cells) (deep-rows depth rows)
-
--- the first line of a block, and those in it
-deep-in : (depth : ℕ) (w : Word) (lines : List Entry) → Deep (depth + 1) lines → Deep depth (entry depth w ∷ lines)
-deep-in depth w lines h = (same-depth depth, deeper depth lines h)
-
-deep-table : (depth : ℕ) (delimiter : List ℕ) (rows : List (List (List ℕ))) →
-    Deep depth (table_entries depth delimiter rows)
-deep-table depth delimiter [] =
-    deep-in depth (word.Table 0) (entry_with (depth + 1) word.Delimiter delimiter ∷ []) (same-depth (depth + 1), tt)
-deep-table depth delimiter (head ∷ rows) =
-    deep-in depth (word.Table (length head))
-    (row_entries (depth + 1) head ++ entry_with (depth + 1) word.Delimiter delimiter ∷ rows_entries (depth + 1) rows)
-    (deep-append (depth + 1) (row_entries (depth + 1) head)
-    (entry_with (depth + 1) word.Delimiter delimiter ∷ rows_entries (depth + 1) rows) (deep-row (depth + 1) head)
-    (same-depth (depth + 1), deep-rows (depth + 1) rows))
+deep-table : (depth d : ℕ) (delimiter : List ℕ) (rows : List (List (List ℕ))) → depth ≤ d →
+    Deep depth (table_entries d delimiter rows)
+deep-table depth d delimiter [] le = (le, (omega arith, tt))
+deep-table depth d delimiter (head ∷ rows) le =
+    let more : depth ≤ d + 1 = omega arith in (
+      le,
+      deep-append depth (row_entries (d + 1) head)
+          (entry_with (d + 1) word.Delimiter delimiter ∷ rows_entries (d + 1) rows) (deep-row depth (d + 1) head more)
+          (more, deep-rows depth (d + 1) rows more),
+    )
 
 mutual
-  deep-block : (depth : ℕ) (b : Block) → Deep depth (block_entries depth b)
-  deep-block depth (Frontmatter marker lines) =
-      deep-in depth (word.Frontmatter marker) (entries (depth + 1) word.Line lines)
-      (deep-entries (depth + 1) word.Line lines)
-  deep-block depth (Quote kind bs) = deep-in depth (quote_word kind) (outline (depth + 1) bs) (deep-all (depth + 1) bs)
-  deep-block depth (ListOf marker items) =
-      deep-in depth (word.List marker) (outline (depth + 1) items) (deep-all (depth + 1) items)
-  deep-block depth (Item marker digits bs) =
-      deep-in depth word.Item (outline (depth + 1) bs) (deep-all (depth + 1) bs)
-  deep-block depth (Footnote label bs) =
-      deep-in depth word.Footnote (entry_with (depth + 1) word.Label label ∷ outline (depth + 1) bs)
-      (same-depth (depth + 1), deep-all (depth + 1) bs)
-  deep-block depth (Heading n lines) =
-      deep-in depth (word.Heading n) (entries (depth + 1) word.Line lines) (deep-entries (depth + 1) word.Line lines)
-  deep-block depth Break = (same-depth depth, tt)
-  deep-block depth (Code lines) =
-      deep-in depth word.Code (line_entries (depth + 1) lines) (deep-lines (depth + 1) lines)
-  deep-block depth (Html lines) =
-      deep-in depth word.Html (line_entries (depth + 1) lines) (deep-lines (depth + 1) lines)
-  deep-block depth (Fence marker info meta lines closed) =
-      deep-in depth (word.Fence marker closed)
-      (part_entry (depth + 1) word.Info info ++ part_entry (depth + 1) word.Meta meta ++ line_entries (depth + 1) lines)
-      (deep-append (depth + 1) (part_entry (depth + 1) word.Info info ++ part_entry (depth + 1) word.Meta meta)
-      (line_entries (depth + 1) lines)
-      (deep-append (depth + 1) (part_entry (depth + 1) word.Info info) (part_entry (depth + 1) word.Meta meta)
-      (deep-part (depth + 1) word.Info info) (deep-part (depth + 1) word.Meta meta)) (deep-lines (depth + 1) lines))
-  deep-block depth (Math meta lines closed) =
-      deep-in depth (word.Math closed) (part_entry (depth + 1) word.Meta meta ++ line_entries (depth + 1) lines)
-      (deep-append (depth + 1) (part_entry (depth + 1) word.Meta meta) (line_entries (depth + 1) lines)
-      (deep-part (depth + 1) word.Meta meta) (deep-lines (depth + 1) lines))
-  deep-block depth (Definition label destination title) =
-      deep-in depth word.Definition
-      (entries (depth + 1) word.Label label ++ entry_with (depth + 1) word.Destination destination
-      ∷ title_entries (depth + 1) title)
-      (deep-append (depth + 1) (entries (depth + 1) word.Label label)
-      (entry_with (depth + 1) word.Destination destination ∷ title_entries (depth + 1) title)
-      (deep-entries (depth + 1) word.Label label) (same-depth (depth + 1), deep-title (depth + 1) title))
-  deep-block depth (Paragraph lines) =
-      deep-in depth word.Paragraph (entries (depth + 1) word.Line lines) (deep-entries (depth + 1) word.Line lines)
-  deep-block depth (Table delimiter rows) = deep-table depth delimiter rows
+  deep-block : (depth d : ℕ) (b : Block) → depth ≤ d → Deep depth (block_entries d b)
+  deep-block depth d (Frontmatter marker lines) le = (le, deep-entries depth (d + 1) word.Line lines (omega arith))
+  deep-block depth d (Quote kind bs) le = (le, deep-all depth (d + 1) bs (omega arith))
+  deep-block depth d (ListOf marker items) le = (le, deep-all depth (d + 1) items (omega arith))
+  deep-block depth d (Item marker digits bs) le = (le, deep-all depth (d + 1) bs (omega arith))
+  deep-block depth d (Footnote label bs) le = (le, (omega arith, deep-all depth (d + 1) bs (omega arith)))
+  deep-block depth d (Heading n lines) le = (le, deep-entries depth (d + 1) word.Line lines (omega arith))
+  deep-block depth d Break le = (le, tt)
+  deep-block depth d (Code lines) le = (le, deep-lines depth (d + 1) lines (omega arith))
+  deep-block depth d (Html lines) le = (le, deep-lines depth (d + 1) lines (omega arith))
+  deep-block depth d (Fence marker info meta lines closed) le =
+      let more : depth ≤ d + 1 = omega arith in (
+        le,
+        deep-append depth (part_entry (d + 1) word.Info info ++ part_entry (d + 1) word.Meta meta)
+            (line_entries (d + 1) lines)
+            (deep-append depth (part_entry (d + 1) word.Info info) (part_entry (d + 1) word.Meta meta)
+            (deep-part depth (d + 1) word.Info info more) (deep-part depth (d + 1) word.Meta meta more))
+            (deep-lines depth (d + 1) lines more),
+      )
+  deep-block depth d (Math meta lines closed) le =
+      let more : depth ≤ d + 1 = omega arith in (
+        le,
+        deep-append depth (part_entry (d + 1) word.Meta meta) (line_entries (d + 1) lines)
+            (deep-part depth (d + 1) word.Meta meta more) (deep-lines depth (d + 1) lines more),
+      )
+  deep-block depth d (Definition label destination title) le =
+      let more : depth ≤ d + 1 = omega arith in (
+        le,
+        deep-append depth (entries (d + 1) word.Label label)
+            (entry_with (d + 1) word.Destination destination ∷ title_entries (d + 1) title)
+            (deep-entries depth (d + 1) word.Label label more) (more, deep-title depth (d + 1) title more),
+      )
+  deep-block depth d (Paragraph lines) le = (le, deep-entries depth (d + 1) word.Line lines (omega arith))
+  deep-block depth d (Table delimiter rows) le = deep-table depth d delimiter rows le
 
-  deep-all : (depth : ℕ) (bs : Blocks) → Deep depth (outline depth bs)
-  deep-all depth End = tt
-  deep-all depth (More b bs) =
-      deep-append depth (block_entries depth b) (outline depth bs) (deep-block depth b) (deep-all depth bs)
+  deep-all : (depth d : ℕ) (bs : Blocks) → depth ≤ d → Deep depth (outline d bs)
+  deep-all depth d End le = tt
+  deep-all depth d (More b bs) le =
+      deep-append depth (block_entries d b) (outline d bs) (deep-block depth d b le) (deep-all depth d bs le)
 
 -- Each block has a line.
 
@@ -176,7 +158,7 @@ kept-shown kind outer b bs =
     let depth : ℕ = depth_of outer in
     ap (kind_given kind depth) (shown-fronts outer (More b bs))
     ∙ kept-behind kind depth (fronts outer (More b bs)) (outline depth (More b bs))
-    (some-more (block_entries depth b) (outline depth bs) (some-block depth b)) (deep-all depth (More b bs))
+    (some-more (block_entries depth b) (outline depth bs) (some-block depth b)) (deep-all depth depth (More b bs) (omega arith))
     ∙ sym (shown-fronts outer (More b bs))
 
 -- and no kind changes nothing.
