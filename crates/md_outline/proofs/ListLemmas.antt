@@ -13,10 +13,11 @@ use Rattle.md_meaning.specs.declared.outline.Word.TheVariants as word
 use Rattle.md_meaning.specs.Outline.{Entry, block_entries, entry, entry_of, outline}
 use Rattle.md_meaning.specs.Texts.{first_byte}
 use Rattle.md_meaning.specs.Tree.{Block, Blocks, End, Item, More}
-use Rattle.md_seam.specs.Events.Spelled.{OpenContainer, AsDigits, AsFootnoteLabel, AsItemMarker, FootnoteShape, ContainerRole}
-use Rattle.md_seam.specs.Events.Spelled.{IsEnding, IsPrefix, IsQuiet, IsQuoteMarker, ItemShape, OrderedShape}
-use Rattle.md_seam.specs.Events.Spelled.{Reading, Shape, TextRole, Text, UnorderedShape, begun, block_around, byte_at}
-use Rattle.md_seam.specs.Events.Spelled.{columns_left, first_told, read_by, read_enter, text_to}
+use Rattle.md_seam.specs.Events.Spelled.{OpenContainer, AsDigits, AsFootnoteLabel, AsItemMarker, FootnoteShape}
+use Rattle.md_seam.specs.Events.Spelled.{ContainerRole, IsEnding, IsPrefix, IsQuiet, IsQuoteMarker, ItemShape}
+use Rattle.md_seam.specs.Events.Spelled.{OrderedShape, Reading, Shape, TextRole, Text, UnorderedShape, begun}
+use Rattle.md_seam.specs.Events.Spelled.{block_around, byte_at, columns_left, first_told, read_by, read_enter, text_to}
+use Rattle.md_seam.specs.Events.Spelled.{OpenLeaf}
 use Rattle.md_seam.specs.Events.Spelled as spelled
 use Rattle.md_outline.specs.HeadingDepths.{are_shallow}
 use Rattle.md_outline.specs.ListsBegin.{AllTold, AtItem, AtLabel, AtMarker, InMarker, MayFollow, Stage, marks, stage_by}
@@ -31,6 +32,7 @@ use Rattle.md_outline.proofs.FootnoteLemmas.{AwaitsLabel, awaits-given, awaits-l
 use Rattle.md_outline.proofs.OutlineAgrees.{Agrees, KnowsOpen, TextIs, agrees-begun, agrees-left, agrees-step, apart}
 use Rattle.md_outline.proofs.OutlineAgrees.{text-lines, text-stays}
 use Rattle.md_outline.proofs.RoleLemmas.{IsFresh, by-ending, by-marker}
+use Rattle.md_outline.specs.declared.outline.lined.Lined.{Lined}
 
 -- The line of a list.
 
@@ -88,40 +90,45 @@ item-told _ b d h m = absurd h
 
 -- What agrees where a list has begun.
 
--- its first item is to come
-pub record AwaitsItem (shape : Shape) (s : OutlineState) (r : Reading) : Type 0 where
+-- it stands behind these blocks, and its line is not told its marker
+pub record ListWaits (shape : Shape) (untold : Option ℕ) (lined : Option Lined) (known read : Option OpenLeaf)
+    : Type 0 where
   pub list : IsList shape
   pub outer : List OpenContainer
   pub before : Blocks
-  pub opened : r.outer ≡ record { shape = shape; before = before } ∷ outer
-  pub empty : r.here ≡ End
   pub words : HaveWords outer before
-  pub depth : s.depth ≡ depth_of outer + 1
-  pub untold : s.untold ≡ Some (length (shown outer before))
-  pub lined : s.lined ≡ None
-  pub leaf : s.leaf ≡ r.leaf
-  pub known : KnowsOpen r.leaf
-  pub text : TextIs (shown outer before ++ entry (depth_of outer) (word.List 0) ∷ []) s.depth s.lines s.text r.text
+  pub marks : untold ≡ Some (length (shown outer before))
+  pub none : lined ≡ None
+  pub leaf : known ≡ read
+  pub knows : KnowsOpen read
+
+-- what is shown once its first item has begun
+abbrev list_lines : List OpenContainer → Blocks → List Entry
+list_lines outer before =
+    shown outer before ++ entry (depth_of outer) (word.List 0) ∷ entry (depth_of outer + 1) word.Item ∷ []
+
+-- its first item is to come
+pub record AwaitsItem (shape : Shape) (s : OutlineState) (r : Reading) : Type 0 where
+  pub waits : ListWaits shape s.untold s.lined s.leaf r.leaf
+  pub open waits use *
+  pub opened : r.outer ≡ record { shape = shape; before = waits.before } ∷ waits.outer
+  pub empty : r.here ≡ End
+  pub depth : s.depth ≡ depth_of waits.outer + 1
+  pub text :
+      TextIs (shown waits.outer waits.before ++ entry (depth_of waits.outer) (word.List 0) ∷ []) s.depth s.lines s.text
+      r.text
 
 -- the marker of that is to come
 pub record AwaitsMarker (shape : Shape) (s : OutlineState) (r : Reading) : Type 0 where
-  pub list : IsList shape
-  pub outer : List OpenContainer
-  pub before : Blocks
+  pub waits : ListWaits shape s.untold s.lined s.leaf r.leaf
+  pub open waits use *
   pub digits : List ℕ
   pub opened : r.outer
-      ≡ record { shape = ItemShape 0 digits; before = End } ∷ record { shape = shape; before = before } ∷ outer
+      ≡ record { shape = ItemShape 0 digits; before = End } ∷ record { shape = shape; before = waits.before }
+      ∷ waits.outer
   pub empty : r.here ≡ End
-  pub words : HaveWords outer before
-  pub depth : s.depth ≡ (depth_of outer + 1) + 1
-  pub untold : s.untold ≡ Some (length (shown outer before))
-  pub lined : s.lined ≡ None
-  pub leaf : s.leaf ≡ r.leaf
-  pub known : KnowsOpen r.leaf
-  pub text :
-      TextIs
-      (shown outer before ++ entry (depth_of outer) (word.List 0) ∷ entry (depth_of outer + 1) word.Item ∷ [])
-      s.depth s.lines s.text r.text
+  pub depth : s.depth ≡ (depth_of waits.outer + 1) + 1
+  pub text : TextIs (list_lines waits.outer waits.before) s.depth s.lines s.text r.text
 
 abbrev pub AgreesAt : Stage → OutlineState → Reading → Type 0
 AgreesAt AllTold s r = Agrees s r
@@ -138,17 +145,19 @@ list-begins bytes shape p s r h k is =
     let same : s.lines ≡ shown r.outer r.here =
     text-lines (shown r.outer r.here) s.depth s.lines s.text r.text k is.text in
     record {
-      list = h;
-      outer = r.outer;
-      before = r.here;
+      waits = record {
+        list = h;
+        outer = r.outer;
+        before = r.here;
+        words = is.words;
+        marks = ap (λ (l : List Entry). Some (length l)) same;
+        none = is.lined;
+        leaf = is.leaf;
+        knows = is.known;
+      };
       opened = refl;
       empty = refl;
-      words = is.words;
       depth = ap (λ d. d + 1) is.depth;
-      untold = ap (λ (l : List Entry). Some (length l)) same;
-      leaf = is.leaf;
-      lined = is.lined;
-      known = is.known;
       text =
           text-stays (shown r.outer r.here) (shown r.outer r.here ++ entry (depth_of r.outer) (word.List 0) ∷ [])
           s.depth (s.depth + 1) s.lines (s.lines ++ entry s.depth (word.List 0) ∷ []) s.text r.text k
@@ -166,21 +175,14 @@ item-begins bytes shape m d p s r zero k is =
     let before : List Entry = shown is.outer is.before in
     let list : Entry = entry (depth_of is.outer) (word.List 0) in
     record {
-      list = is.list;
-      outer = is.outer;
-      before = is.before;
+      waits = is.waits;
       digits = d;
       opened =
           ap (λ (m : ℕ). record { shape = ItemShape m d; before = r.here } ∷ r.outer) zero
           ∙ ap (λ (b : Blocks). record { shape = ItemShape 0 d; before = b } ∷ r.outer) is.empty
           ∙ ap (λ (o : List OpenContainer). record { shape = ItemShape 0 d; before = End } ∷ o) is.opened;
       empty = refl;
-      words = is.words;
       depth = ap (λ d. d + 1) is.depth;
-      untold = is.untold;
-      leaf = is.leaf;
-      lined = is.lined;
-      known = is.known;
       text =
           text-stays (before ++ list ∷ []) (before ++ list ∷ entry (depth_of is.outer + 1) word.Item ∷ []) s.depth
           (s.depth + 1) s.lines (s.lines ++ entry s.depth word.Item ∷ []) s.text r.text k
@@ -198,25 +200,15 @@ front-begins : (shape : Shape) (p : Point) (s : OutlineState) (r : Reading) → 
     (record s { text = Some (record { from = byte_at p; is_parted = false }); spaces = columns_left p })
     (record r { text = Some (begun p) })
 front-begins shape p s r k is = record {
-  list = is.list;
-  outer = is.outer;
-  before = is.before;
+  waits = is.waits;
   digits = is.digits;
   opened = is.opened;
   empty = is.empty;
-  words = is.words;
   depth = is.depth;
-  untold = is.untold;
-  leaf = is.leaf;
-  lined = is.lined;
-  known = is.known;
   text = (
     refl,
     (
-      text-lines
-          (shown is.outer is.before ++ entry (depth_of is.outer) (word.List 0)
-          ∷ entry (depth_of is.outer + 1) word.Item ∷ [])
-          s.depth s.lines s.text r.text k is.text,
+      text-lines (list_lines is.outer is.before) s.depth s.lines s.text r.text k is.text,
       refl,
     ),
   );
@@ -225,30 +217,17 @@ front-begins shape p s r k is = record {
 -- digits end there
 digits-end : (bytes : List ℕ) (shape : Shape) (p : Point) (s : OutlineState) (r : Reading) (span : Option TextSpan)
     (text : Option Text) (is : AwaitsMarker shape s r) →
-    TextIs
-    (shown is.outer is.before ++ entry (depth_of is.outer) (word.List 0) ∷ entry (depth_of is.outer + 1) word.Item ∷ [])
-    s.depth s.lines span text →
+    TextIs (list_lines is.outer is.before) s.depth s.lines span text →
     is_unparted span ≡ true →
     AwaitsMarker shape (told_at bytes purpose.Digits p.index span s) (spelled.told_at bytes AsDigits p text r)
 digits-end bytes shape p s r None None is h k = is
 digits-end bytes shape p s r (Some span) (Some text) is h k = record {
-  list = is.list;
-  outer = is.outer;
-  before = is.before;
+  waits = is.waits;
   digits = first_told is.digits (text_to bytes p.index text);
   opened = ap (spelled.on_shape (spelled.named AsDigits (text_to bytes p.index text))) is.opened;
   empty = is.empty;
-  words = is.words;
   depth = is.depth;
-  untold = is.untold;
-  leaf = is.leaf;
-  lined = is.lined;
-  known = is.known;
-  text =
-      text-lines
-      (shown is.outer is.before ++ entry (depth_of is.outer) (word.List 0)
-      ∷ entry (depth_of is.outer + 1) word.Item ∷ [])
-      s.depth s.lines (Some span) (Some text) k h;
+  text = text-lines (list_lines is.outer is.before) s.depth s.lines (Some span) (Some text) k h;
 }
 digits-end bytes shape p s r _ _ is h k = absurd h
 
@@ -258,9 +237,7 @@ text_or t None = t
 text_or t (Some text) = text
 
 marked-agrees : (shape : Shape) (now : List ℕ) (s : OutlineState) (r : Reading) (is : AwaitsMarker shape s r) →
-    s.lines
-    ≡ shown is.outer is.before ++ entry (depth_of is.outer) (word.List 0)
-    ∷ entry (depth_of is.outer + 1) word.Item ∷ [] →
+    s.lines ≡ list_lines is.outer is.before →
     marks shape (first_byte now) ≡ true →
     Agrees (marked_at (Some (length (shown is.outer is.before))) now (record s { text = None }))
     (record r {
@@ -278,8 +255,8 @@ marked-agrees shape now s r is same m =
       words = (tt, (item-told shape b is.digits is.list m, words-then is.outer is.before list is.words));
       untold = refl;
       leaf = is.leaf;
-      lined = is.lined;
-      known = is.known;
+      lined = is.none;
+      known = is.knows;
       text =
           ap (with_marker (length before) now) same
           ∙ entry-marked before (entry (depth_of is.outer + 1) word.Item ∷ []) (depth_of is.outer) (length before) now
@@ -290,9 +267,7 @@ marked-agrees shape now s r is same m =
 
 marker-ends : (bytes : List ℕ) (shape : Shape) (p q : Point) (s : OutlineState) (r : Reading) (span : Option TextSpan)
     (text : Option Text) (is : AwaitsMarker shape s r) → text ≡ Some (begun q) →
-    TextIs
-    (shown is.outer is.before ++ entry (depth_of is.outer) (word.List 0) ∷ entry (depth_of is.outer + 1) word.Item ∷ [])
-    s.depth s.lines span text →
+    TextIs (list_lines is.outer is.before) s.depth s.lines span text →
     is_unparted span ≡ true → marks shape (first_byte (slice_range bytes (byte_at q) p.index)) ≡ true →
     Agrees (told_at bytes purpose.Marker p.index span s) (spelled.told_at bytes AsItemMarker p text r)
 marker-ends bytes shape p q s r span None is e h k m = absurd (no-none (begun q) e)
@@ -308,7 +283,7 @@ marker-ends bytes shape p q s r (Some span) (Some text) is e h k m =
     (λ untold.
     Agrees (marked_at untold (slice_range bytes span.from p.index) (record s { text = None }))
     (spelled.told_at bytes AsItemMarker p (Some text) r))
-    (sym is.untold)
+    (sym is.marks)
     (subst
     (λ i.
     Agrees
@@ -336,10 +311,7 @@ marker-ends bytes shape p q s r (Some span) (Some text) is e h k m =
     }))
     (sym is.empty)
     (marked-agrees shape now s r is
-    (text-lines
-    (shown is.outer is.before ++ entry (depth_of is.outer) (word.List 0)
-    ∷ entry (depth_of is.outer + 1) word.Item ∷ [])
-    s.depth s.lines (Some span) (Some text) k h)
+    (text-lines (list_lines is.outer is.before) s.depth s.lines (Some span) (Some text) k h)
     m)))))
 
 -- All events.
