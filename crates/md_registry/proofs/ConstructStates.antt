@@ -5,24 +5,21 @@ use Rattle.std.specs.Prelude.{Some}
 use Rattle.md_engine.specs.declared.configuration.ParseOptions.{ParseOptions}
 use Rattle.md_engine.specs.declared.state.Name.{Name as StateName}
 use Rattle.md_engine.specs.declared.state.Name.TheVariants as n
-use Rattle.md_engine.specs.declared.state.block_quote.State.TheVariants as its
 use Rattle.md_engine.specs.declared.state.document.State.{State as DocumentState}
 use Rattle.md_engine.specs.declared.state.document.State.TheVariants as document
 use Rattle.md_engine.specs.declared.state.flow.State.{State as FlowState}
 use Rattle.md_engine.specs.declared.state.flow.State.TheVariants as flow
-use Rattle.md_engine.specs.declared.state.gfm_footnote_definition.State.TheVariants as footnote
-use Rattle.md_engine.specs.declared.state.list_item.State.TheVariants as item
 use Rattle.md_engine.specs.declared.state.State.TheVariants.{Next}
 use Rattle.md_engine.specs.declared.tokenizer.container.name.ContainerKind.{ContainerKind}
 use Rattle.md_engine.specs.declared.tokenizer.container.name.ContainerKind.TheVariants as kind
 use Rattle.md_engine.specs.Meaning.{Cell, Feed, Here, Steps}
-use Rattle.md_engine.specs.Scheme.{After, Position, after_all, position}
+use Rattle.md_engine.specs.Scheme.{After, EndsLater, Position, after_all, position}
 use Rattle.md_engine.specs.World.{World, looks}
 use Rattle.md_engine.proofs.Local.{fits}
 use Rattle.md_engine.specs.Sees.{Sees}
-use Rattle.md_containers.specs.Footnote.{footnote_scheme}
-use Rattle.md_containers.specs.Item.{item_scheme}
-use Rattle.md_containers.specs.Quote.{quote_scheme}
+use Rattle.md_container_rooms.specs.Containers.BlockQuote.{quote_rules}
+use Rattle.md_container_rooms.specs.Containers.GfmFootnoteDefinition.{footnote_rules}
+use Rattle.md_container_rooms.specs.Containers.ListItem.{item_rules}
 use Rattle.md_containers.proofs.FootnoteTermination.{FootnoteFits, footnote_terminates}
 use Rattle.md_containers.proofs.FootnoteMeaning.{footnote_means}
 use Rattle.md_containers.proofs.ItemTermination.{ItemFits, item_terminates}
@@ -37,7 +34,7 @@ use Rattle.md_leaves.proofs.HeadingMeaning.{heading_means}
 use Rattle.md_leaves.proofs.SetextTermination.{SetextFits, setext_terminates}
 use Rattle.md_leaves.proofs.SetextMeaning.{setext_means}
 use Rattle.md_seam.specs.Ahead.{HasWhite}
-use Rattle.md_seam.specs.Spaces.{rest_ready}
+use Rattle.md_seam.specs.Spaces.{IsRest, rest_ready}
 use Rattle.md_code.proofs.CodeTermination.{CodeFits, code_terminates}
 use Rattle.md_code.proofs.CodeMeaning.{code_means}
 use Rattle.md_code.proofs.FenceTermination.{FenceFits, fence_terminates}
@@ -79,16 +76,11 @@ NextIs [] = Unit {0}
 NextIs (m ∷ ms) = HasTrial m × (behind m ≡ ms)
 
 pub leaf-next : (l : LeafName) → HasTrial l → NextIs (behind l)
-leaf-next CodeIndented is = (refl, refl)
 leaf-next CodeFurther is = absurd (cc)
-leaf-next Fence is = (refl, refl)
 leaf-next FenceFurther is = absurd (cc)
-leaf-next HtmlFlow is = (refl, refl)
 leaf-next HtmlFurther is = absurd (cc)
-leaf-next HeadingAtx is = (refl, refl)
-leaf-next HeadingSetext is = (refl, refl)
-leaf-next ThematicBreak is = (refl, refl)
 leaf-next GfmTable is = tt
+leaf-next _ is = (refl, refl)
 
 -- what the table has of a leaf: its first state is ready at rest, and of a lower level than flow; and what is left
 -- there is the trial of the leaf, whatever the text is
@@ -101,23 +93,7 @@ pub record LeafStates (l : LeafName) : Type 1 where
 pub leaf-states : (l : LeafName) → LeafStates l
 leaf-states CodeIndented =
     record { level = omega arith; ready = λ x K is. is; starts = λ bytes options next cells h. refl }
-leaf-states CodeFurther =
-    record { level = omega arith; ready = λ x K is. is; starts = λ bytes options next cells h. refl }
-leaf-states Fence = record { level = omega arith; ready = λ x K is. is; starts = λ bytes options next cells h. refl }
-leaf-states FenceFurther =
-    record { level = omega arith; ready = λ x K is. is; starts = λ bytes options next cells h. refl }
-leaf-states HtmlFlow =
-    record { level = omega arith; ready = λ x K is. is; starts = λ bytes options next cells h. refl }
-leaf-states HtmlFurther =
-    record { level = omega arith; ready = λ x K is. is; starts = λ bytes options next cells h. refl }
-leaf-states HeadingAtx =
-    record { level = omega arith; ready = λ x K is. is; starts = λ bytes options next cells h. refl }
-leaf-states HeadingSetext =
-    record { level = omega arith; ready = λ x K is. is; starts = λ bytes options next cells h. refl }
-leaf-states ThematicBreak =
-    record { level = omega arith; ready = λ x K is. is; starts = λ bytes options next cells h. refl }
-leaf-states GfmTable =
-    record { level = omega arith; ready = λ x K is. is; starts = λ bytes options next cells h. refl }
+leaf-states _ = record { level = omega arith; ready = λ x K is. is; starts = λ bytes options next cells h. refl }
 
 -- a container is tried only at the state before it
 pub opener-before : (state : DocumentState) (k : ContainerKind) → opener_at state ≡ Some k →
@@ -135,8 +111,7 @@ NextOpener (k ∷ ks) = openers_behind k ≡ ks
 -- what the table has of a container: its states have their place in it, and what is left at them is what the
 -- container says
 pub record ContainerStates (k : ContainerKind) : Type 1 where
-  -- where it is tried, and which is tried next
-  pub tried : opener_at (container_rules k).before ≡ Some k
+  -- which is tried next
   pub next : NextOpener (openers_behind k)
   pub begins : ContainerFits flow_table_scheme Anywhere (container_rules k).start
   pub begins_is : (bytes : List ℕ) (options : ParseOptions) (next : Rule) (cells : List Cell) (h : Here) →
@@ -146,58 +121,34 @@ pub record ContainerStates (k : ContainerKind) : Type 1 where
       flow_behaves_by bytes options next (container_rules k).further cells h ≡
       (container_rules k).continues options cells h
 
--- a further line of an item, and of a footnote definition
-item_further : ContainerFits flow_table_scheme IsWithin (n.ListItem item.ContStart)
-item_further = record {
-  own = item_scheme;
-  starts = fits flow_owner (n.ListItem item.ContStart);
-  level = omega arith;
-  ready = λ x K rest here ends. ((rest, ends), here);
-}
+-- a state of one stands in it as its construct has it
+placed : (Where : Position → Type 0) (start : StateName) → (flow_owner start).level start < 3 →
+    ((x : Position) (K : After) → IsRest x.scratch → Where x → EndsLater IsRest IsRest x K →
+    (flow_owner start).ready start x K) →
+    ContainerFits flow_table_scheme Where start
+placed Where start level ready =
+    record { own = flow_owner start; starts = fits flow_owner start; level = level; ready = ready }
 
 pub container-states : (k : ContainerKind) → ContainerStates k
 container-states kind.BlockQuote = record {
-  tried = refl;
   next = refl;
-  begins = record {
-    own = quote_scheme;
-    starts = fits flow_owner (n.BlockQuote its.Start);
-    level = omega arith;
-    ready = λ x K rest here ends. (rest, ends);
-  };
+  begins = placed Anywhere quote_rules.start (omega arith) (λ x K rest here ends. (rest, ends));
   begins_is = λ bytes options next cells h. refl;
-  goes_on = record {
-    own = quote_scheme;
-    starts = fits flow_owner (n.BlockQuote its.ContStart);
-    level = omega arith;
-    ready = λ x K rest here ends. (rest, ends);
-  };
+  goes_on = placed IsWithin quote_rules.further (omega arith) (λ x K rest here ends. (rest, ends));
   goes_on_is = λ bytes options next cells h. refl;
 }
 container-states kind.ListItem = record {
-  tried = refl;
   next = refl;
-  begins = record {
-    own = item_scheme;
-    starts = fits flow_owner (n.ListItem item.Start);
-    level = omega arith;
-    ready = λ x K rest here ends. (rest, ends);
-  };
+  begins = placed Anywhere item_rules.start (omega arith) (λ x K rest here ends. (rest, ends));
   begins_is = λ bytes options next cells h. refl;
-  goes_on = item_further;
+  goes_on = placed IsWithin item_rules.further (omega arith) (λ x K rest here ends. ((rest, ends), here));
   goes_on_is = λ bytes options next cells h. refl;
 }
 container-states kind.GfmFootnoteDefinition = record {
-  tried = refl;
   next = tt;
-  begins = record {
-    own = footnote_scheme;
-    starts = fits flow_owner (n.GfmFootnoteDefinition footnote.Start);
-    level = omega arith;
-    ready = λ x K rest here ends. (rest, ends);
-  };
+  begins = placed Anywhere footnote_rules.start (omega arith) (λ x K rest here ends. (rest, ends));
   begins_is = λ bytes options next cells h. refl;
-  goes_on = item_further;
+  goes_on = placed IsWithin footnote_rules.further (omega arith) (λ x K rest here ends. ((rest, ends), here));
   goes_on_is = λ bytes options next cells h. refl;
 }
 
@@ -273,39 +224,39 @@ pub construct-steps : (feed : Feed) (next : Rule) (name : StateName)
 construct-steps feed next (n.BlockQuote state) w s c at =
     quote_means _ feed state w
     (record {
-      white = white_has w.setting.bytes w.setting.options next;
-      blank = record { white = white_has w.setting.bytes w.setting.options next; each = λ _ _ _. refl };
+      white = white_has _ _ _;
+      blank = record { white = white_has _ _ _; each = λ _ _ _. refl };
       each = λ _ _ _. refl;
     }) s
 construct-steps feed next (n.CodeIndented state) w s c at =
     code_means _ feed state w
-    (record { white = white_has w.setting.bytes w.setting.options next; each = λ _ _ _. refl }) s at.0
+    (record { white = white_has _ _ _; each = λ _ _ _. refl }) s at.0
 construct-steps feed next (n.GfmFootnoteDefinition state) w s c at =
     footnote_means _ feed state w _
-    (record { white = white_has w.setting.bytes w.setting.options next; each = λ _ _ _. refl }) s at
+    (record { white = white_has _ _ _; each = λ _ _ _. refl }) s at
 construct-steps feed next (n.GfmTable state) w s c at =
     table_means _ feed state w _
-    (record { white = white_has w.setting.bytes w.setting.options next; each = λ _ _ _. refl }) s at
+    (record { white = white_has _ _ _; each = λ _ _ _. refl }) s at
 construct-steps feed next (n.HeadingAtx state) w s c at =
     heading_means _ feed state w _
-    (record { white = white_has w.setting.bytes w.setting.options next; each = λ _ _ _. refl }) s at
+    (record { white = white_has _ _ _; each = λ _ _ _. refl }) s at
 construct-steps feed next (n.HeadingSetext state) w s c at =
     setext_means _ feed state w _
-    (record { white = white_has w.setting.bytes w.setting.options next; each = λ _ _ _. refl }) s at
+    (record { white = white_has _ _ _; each = λ _ _ _. refl }) s at
 construct-steps feed next (n.HtmlFlow state) w s c at =
     html_means _ feed state w _ (record { each = λ _ _ _. refl }) s c at
 construct-steps feed next (n.ListItem state) w s c at =
     item_means _ feed state w _
     (record {
-      white = white_has w.setting.bytes w.setting.options next;
-      blank = record { white = white_has w.setting.bytes w.setting.options next; each = λ _ _ _. refl };
-      breaks = record { white = white_has w.setting.bytes w.setting.options next; each = λ _ _ _. refl };
+      white = white_has _ _ _;
+      blank = record { white = white_has _ _ _; each = λ _ _ _. refl };
+      breaks = record { white = white_has _ _ _; each = λ _ _ _. refl };
       each = λ _ _ _. refl;
     }) s at
 construct-steps feed next (n.RawFlow state) w s c at =
     fence_means _ feed state w _
-    (record { white = white_has w.setting.bytes w.setting.options next; each = λ _ _ _. refl }) s at
+    (record { white = white_has _ _ _; each = λ _ _ _. refl }) s at
 construct-steps feed next (n.ThematicBreak state) w s c at =
     break_means _ feed state w _
-    (record { white = white_has w.setting.bytes w.setting.options next; each = λ _ _ _. refl }) s at
+    (record { white = white_has _ _ _; each = λ _ _ _. refl }) s at
 construct-steps feed next name w s c at = absurd at

@@ -1,17 +1,17 @@
 -- By the first byte of the rest of a line: the leaves outside its row refuse, so those of the row give what all do, tried
 -- in order.
-use Rattle.std.proofs.Common.{◌≡◌, ◌∙◌, ◌<◌, ℕ, Bool, true, false, cond, ◌||◌, not, List, [], ◌∷◌, ap, arith, refl}
+use Rattle.std.proofs.Common.{◌≡◌, ◌∙◌, ◌<◌, ◌+◌, ◌*◌, ℕ, Bool, true, false, cond, ◌||◌, not, List, [], ◌∷◌, length, ap}
+use Rattle.std.proofs.Common.{arith, nat_eq, refl, subst, sym}
 use Rattle.std.specs.Prelude.{◌==◌, Some}
-use Rattle.std.proofs.lemmas.Bool.Decides.{nat_tests}
+use Rattle.std.proofs.lemmas.Bool.{eqb-true}
 use Rattle.md_engine.specs.declared.configuration.ParseOptions.{ParseOptions}
 use Rattle.md_engine.specs.declared.state.Name.TheVariants as n
 use Rattle.md_engine.specs.declared.state.flow.State.TheVariants as flow
 use Rattle.md_engine.specs.declared.tokenizer.Scratch.{Scratch}
 use Rattle.md_engine.specs.declared.tokenizer.held_leaf.HeldLeaf.{HeldLeaf}
+use Rattle.md_engine.specs.declared.tokenizer.held_leaf.HeldLeaf.TheVariants as held_leaf
 use Rattle.md_engine.specs.Meaning.{Cell, Here, Outcome}
-use Rattle.md_engine.specs.Scheme.{Fits, Scheme}
 use Rattle.md_engine.specs.World.{Flags}
-use Rattle.md_engine.proofs.Local.{fits}
 use Rattle.md_meaning.specs.Ascii.{asterisk, backtick, dollar, equals_sign, hash, hyphen, less_than, tilde, underscore}
 use Rattle.md_seam.specs.Ahead.{begins_white}
 use Rattle.md_seam.specs.Look.{seen_behind}
@@ -20,10 +20,9 @@ use Rattle.md_frame.specs.LeafName.{CodeIndented, Fence, GfmTable, HeadingAtx, H
 use Rattle.md_frame.specs.LeafName.{ThematicBreak}
 use Rattle.md_frame.specs.Rule.{Rule, tried}
 use Rattle.md_registry.specs.AtOnce.{is_common}
-use Rattle.md_registry.specs.Flow.{flow_rank, flow_scheme}
+use Rattle.md_registry.specs.Flow.{flow_rank}
 use Rattle.md_registry.specs.FlowRule.{behind_leaf, leaves_of}
-use Rattle.md_registry.specs.Registry.{front_of, leaf, row, trials}
-use Rattle.md_registry.specs.States.{flow_owner, flow_table_scheme}
+use Rattle.md_registry.specs.Registry.{leaf, row, trials}
 use Rattle.md_registry.proofs.ConstructStates.{NextIs}
 use Rattle.md_registry.proofs.Fence.Rests.{fence-rests}
 use Rattle.md_registry.proofs.LeafRests.{Rests, break-rests, heading-rests, html-rests, setext-rests, table-rests}
@@ -58,134 +57,75 @@ row_left options next b _ _ (Skips l ls ks without more) asked cells h seen dark
     ((laws l).refused options cells h (asked.0 on) is ((laws l).looked options on cells b seen none))
     ∙ row_left options next b ls ks more asked.1 cells h seen dark is
 
--- what the table has of the state behind the first leaf of a row
-pub record RowNext (T : Scheme) (ls : List LeafName) : Type 1 where
-  pub is : NextIs ls
-  pub fits : Fits T flow_scheme (n.Flow (front_of ls))
-  pub falls : (flow_scheme.tries (n.Flow (front_of ls))).number < (flow_rank (n.Flow flow.Start)).number
-  pub next_low : (flow_rank (n.Flow (front_of ls))).number < (flow_scheme.tries (n.Flow (front_of ls))).number
-  pub behind_low : 1 < (flow_scheme.tries (n.Flow (front_of ls))).number
+-- those behind the first of a row are tried one after another, and rank below the state in front of it
+abbrev pub AreNext : List LeafName → Type 0
+AreNext [] = Unit {0}
+AreNext (l ∷ ls) = NextIs ls × (5 + 2 * length ls < (flow_rank (n.Flow flow.Start)).number)
 
-abbrev pub AreNext : List LeafName → Type 1
-AreNext [] = Unit {1}
-AreNext (l ∷ ls) = RowNext flow_table_scheme ls
+-- a leaf is kept or skipped, by whether it may begin with this byte
+abbrev kept : LeafName → ℕ → List LeafName → List LeafName
+kept l b ls = cond ((leaf l).may_begin held_leaf.None false b) (l ∷ ls) ls
 
-content-next : RowNext flow_table_scheme []
-content-next = record {
-  is = tt;
-  fits = fits flow_owner (n.Flow flow.BeforeContent);
-  falls = omega arith;
-  next_low = omega arith;
-  behind_low = omega arith;
-}
+place : (l : LeafName) (b : ℕ) (ls ks : List LeafName) → Rests l →
+    ((on : HeldLeaf) → (leaf l).may_begin on false b ≡ (leaf l).may_begin held_leaf.None false b) → LeavesRow b ls ks →
+    LeavesRow b (l ∷ ls) (kept l b ks)
+place l b ls ks rests same more = go ((leaf l).may_begin held_leaf.None false b) refl
+  where
+    go : (x : Bool) → (leaf l).may_begin held_leaf.None false b ≡ x → LeavesRow b (l ∷ ls) (cond x (l ∷ ks) ks)
+    go true e = Keeps l ls ks rests more
+    go false e = Skips l ls ks (λ on. same on ∙ e) more
 
-table-next : RowNext flow_table_scheme (GfmTable ∷ [])
-table-next = record {
-  is = (refl, refl);
-  fits = fits flow_owner (n.Flow flow.BeforeGfmTable);
-  falls = omega arith;
-  next_low = omega arith;
-  behind_low = omega arith;
-}
-
-break-next : RowNext flow_table_scheme (ThematicBreak ∷ GfmTable ∷ [])
-break-next = record {
-  is = (refl, refl);
-  fits = fits flow_owner (n.Flow flow.BeforeThematicBreak);
-  falls = omega arith;
-  next_low = omega arith;
-  behind_low = omega arith;
-}
+places : (b : ℕ) →
+    LeavesRow b trials
+    (kept Fence b
+    (kept HtmlFlow b (kept HeadingAtx b (kept HeadingSetext b (kept ThematicBreak b (GfmTable ∷ []))))))
+places b =
+    Skips CodeIndented _ _ (λ on. refl)
+    (place Fence b _ _ fence-rests (λ on. refl)
+    (place HtmlFlow b _ _ html-rests (λ on. refl)
+    (place HeadingAtx b _ _ heading-rests (λ on. refl)
+    (place HeadingSetext b _ _ setext-rests (λ on. refl)
+    (place ThematicBreak b _ _ break-rests (λ on. refl) (Keeps GfmTable _ _ table-rests Done))))))
 
 record IsRow (b : ℕ) (ks : List LeafName) : Type 1 where
   left : LeavesRow b trials ks
   next : AreNext ks
 
--- each row, by the test of its byte
+-- it is this byte, or another
+either : (P : ℕ → Type 1) (b c : ℕ) → P c → (nat_eq b c ≡ false → P b) → P b
+either P b c at other = go (nat_eq b c) refl
+  where
+    go : (x : Bool) → nat_eq b c ≡ x → P b
+    go true e = subst P (sym (eqb-true b c e)) at
+    go false e = other e
+
+-- each row, by its byte
 row-is : (b : ℕ) → IsRow b (row b)
 unfolding row
 row-is b =
-    go (b == hash) (b == dollar || b == backtick || b == tilde) (b == asterisk || b == underscore) (b == hyphen)
-    (b == equals_sign) (b == less_than) refl refl refl refl refl refl
+    either P b hash (record { left = places hash; next = ((refl, refl), omega arith) }) (λ h.
+    either P b dollar (record { left = places dollar; next = ((refl, refl), omega arith) }) (λ d.
+    either P b backtick (record { left = places backtick; next = ((refl, refl), omega arith) }) (λ t.
+    either P b tilde (record { left = places tilde; next = ((refl, refl), omega arith) }) (λ l.
+    either P b asterisk (record { left = places asterisk; next = ((refl, refl), omega arith) }) (λ a.
+    either P b underscore (record { left = places underscore; next = ((refl, refl), omega arith) }) (λ u.
+    either P b hyphen (record { left = places hyphen; next = ((refl, refl), omega arith) }) (λ m.
+    either P b equals_sign (record { left = places equals_sign; next = ((refl, refl), omega arith) }) (λ q.
+    either P b less_than (record { left = places less_than; next = ((refl, refl), omega arith) }) (λ s.
+    rw (h, d, t, l, a, u, m, q, s)
+    (record {
+      left =
+          Skips CodeIndented _ _ (λ on. refl)
+          (Skips Fence _ _ (λ on. rw (d, t, l) refl)
+          (Skips HtmlFlow _ _ (λ on. s)
+          (Skips HeadingAtx _ _ (λ on. h)
+          (Skips HeadingSetext _ _ (λ on. rw (m, q) refl)
+          (Skips ThematicBreak _ _ (λ on. rw (a, u, m) refl) (Keeps GfmTable _ _ table-rests Done))))));
+      next = (tt, omega arith);
+    }))))))))))
   where
-    go : (x y z u v w : Bool) → (b == hash) ≡ x → (b == dollar || b == backtick || b == tilde) ≡ y →
-        (b == asterisk || b == underscore) ≡ z → (b == hyphen) ≡ u → (b == equals_sign) ≡ v → (b == less_than) ≡ w →
-        IsRow b
-        (cond x (HeadingAtx ∷ GfmTable ∷ [])
-        (cond y (Fence ∷ GfmTable ∷ [])
-        (cond z (ThematicBreak ∷ GfmTable ∷ [])
-        (cond u (HeadingSetext ∷ ThematicBreak ∷ GfmTable ∷ [])
-        (cond v (HeadingSetext ∷ GfmTable ∷ []) (cond w (HtmlFlow ∷ GfmTable ∷ []) (GfmTable ∷ [])))))))
-    go true y z u v w p q r s t k = record {
-      left =
-          Skips CodeIndented _ _ (λ on. refl)
-          (Skips Fence _ _ (λ on. grind (arith, nat_tests))
-          (Skips HtmlFlow _ _ (λ on. grind (arith, nat_tests))
-          (Keeps HeadingAtx _ _ heading-rests
-          (Skips HeadingSetext _ _ (λ on. grind (arith, nat_tests))
-          (Skips ThematicBreak _ _ (λ on. grind (arith, nat_tests)) (Keeps GfmTable _ _ table-rests Done))))));
-      next = table-next;
-    }
-    go false true z u v w p q r s t k = record {
-      left =
-          Skips CodeIndented _ _ (λ on. refl)
-          (Keeps Fence _ _ fence-rests
-          (Skips HtmlFlow _ _ (λ on. grind (arith, nat_tests))
-          (Skips HeadingAtx _ _ (λ on. p)
-          (Skips HeadingSetext _ _ (λ on. grind (arith, nat_tests))
-          (Skips ThematicBreak _ _ (λ on. grind (arith, nat_tests)) (Keeps GfmTable _ _ table-rests Done))))));
-      next = table-next;
-    }
-    go false false true u v w p q r s t k = record {
-      left =
-          Skips CodeIndented _ _ (λ on. refl)
-          (Skips Fence _ _ (λ on. grind (arith, nat_tests))
-          (Skips HtmlFlow _ _ (λ on. grind (arith, nat_tests))
-          (Skips HeadingAtx _ _ (λ on. p)
-          (Skips HeadingSetext _ _ (λ on. grind (arith, nat_tests))
-          (Keeps ThematicBreak _ _ break-rests (Keeps GfmTable _ _ table-rests Done))))));
-      next = table-next;
-    }
-    go false false false true v w p q r s t k = record {
-      left =
-          Skips CodeIndented _ _ (λ on. refl)
-          (Skips Fence _ _ (λ on. grind (arith, nat_tests))
-          (Skips HtmlFlow _ _ (λ on. grind (arith, nat_tests))
-          (Skips HeadingAtx _ _ (λ on. p)
-          (Keeps HeadingSetext _ _ setext-rests
-          (Keeps ThematicBreak _ _ break-rests (Keeps GfmTable _ _ table-rests Done))))));
-      next = break-next;
-    }
-    go false false false false true w p q r s t k = record {
-      left =
-          Skips CodeIndented _ _ (λ on. refl)
-          (Skips Fence _ _ (λ on. grind (arith, nat_tests))
-          (Skips HtmlFlow _ _ (λ on. grind (arith, nat_tests))
-          (Skips HeadingAtx _ _ (λ on. p)
-          (Keeps HeadingSetext _ _ setext-rests
-          (Skips ThematicBreak _ _ (λ on. grind (arith, nat_tests)) (Keeps GfmTable _ _ table-rests Done))))));
-      next = table-next;
-    }
-    go false false false false false true p q r s t k = record {
-      left =
-          Skips CodeIndented _ _ (λ on. refl)
-          (Skips Fence _ _ (λ on. grind (arith, nat_tests))
-          (Keeps HtmlFlow _ _ html-rests
-          (Skips HeadingAtx _ _ (λ on. p)
-          (Skips HeadingSetext _ _ (λ on. grind (arith, nat_tests))
-          (Skips ThematicBreak _ _ (λ on. grind (arith, nat_tests)) (Keeps GfmTable _ _ table-rests Done))))));
-      next = table-next;
-    }
-    go false false false false false false p q r s t k = record {
-      left =
-          Skips CodeIndented _ _ (λ on. refl)
-          (Skips Fence _ _ (λ on. grind (arith, nat_tests))
-          (Skips HtmlFlow _ _ (λ on. k)
-          (Skips HeadingAtx _ _ (λ on. p)
-          (Skips HeadingSetext _ _ (λ on. grind (arith, nat_tests))
-          (Skips ThematicBreak _ _ (λ on. grind (arith, nat_tests)) (Keeps GfmTable _ _ table-rests Done))))));
-      next = content-next;
-    }
+    P : ℕ → Type 1
+    P c = IsRow c (row c)
 
 pub row-next : (b : ℕ) → AreNext (row b)
 row-next b = (row-is b).next
@@ -212,12 +152,4 @@ common-row b e =
         (cond q (HeadingSetext ∷ GfmTable ∷ []) (cond s (HtmlFlow ∷ GfmTable ∷ []) (GfmTable ∷ [])))))) ≡
         GfmTable ∷ []
     go false false false false false false false false false e = refl
-    go true d t l a u m q s e = cc
-    go false true t l a u m q s e = cc
-    go false false true l a u m q s e = cc
-    go false false false true a u m q s e = cc
-    go false false false false true u m q s e = cc
-    go false false false false false true m q s e = cc
-    go false false false false false false true q s e = cc
-    go false false false false false false false true s e = cc
-    go false false false false false false false false true e = cc
+    go _ _ _ _ _ _ _ _ _ e = cc

@@ -7,7 +7,7 @@ use Rattle.md_registry.specs.FlowRule.{leaf_of, all_on, inside_by, inside_of, be
 use Rattle.md_registry.specs.FlowRule.{ContainersMean, DocumentMeans, FlowInvariant, FlowMeans, FrontMeans, GoesOn}
 use Rattle.md_registry.specs.FlowRule.{feeds, HasFlow, blank_ended, ended, ended_to, existing_at, existing_by}
 use Rattle.md_registry.specs.FlowRule.{leaves_of, line_ended, line_then, new_of, nonblank_of, opened, openers_of}
-use Rattle.md_registry.specs.Flow.{behind_all, inside_code, leaf_front, leaf_end, after_transition}
+use Rattle.md_registry.specs.Flow.{behind_all, inside_code, leaf_front, leaf_end}
 use Rattle.md_registry.specs.Flow.{before_content_transition, before_transition, blank_line_after_transition}
 use Rattle.md_registry.specs.Flow.{blank_line_code, containers_after_transition, existing_after_transition}
 use Rattle.md_registry.specs.Flow.{existing_before_code, flow_end_code, flow_end_transition, flow_own_transition}
@@ -55,14 +55,14 @@ use Rattle.md_frame.specs.EndingName.{ending_name}
 use Rattle.md_registry.specs.LineFlags.{asking, blank_here, next_container, next_line, nothing_stands, went_on}
 use Rattle.md_frame.specs.LeafName.{LeafName}
 use Rattle.md_registry.proofs.FlowLemmas.{line_by_container, new_by_container}
-use Rattle.md_registry.proofs.Openers as opening
-use Rattle.md_registry.proofs.Openers.{left-front}
-use Rattle.md_registry.proofs.Trials.{left-before, left-list, left-next}
+use Rattle.md_registry.proofs.Openers.{at-opener, left-front}
+use Rattle.md_registry.proofs.Trials.{at-trial, left-list}
 use Rattle.md_registry.proofs.Dispatch.{AreNext, row-left, row-next}
 use Rattle.md_registry.proofs.LinesAtOnce.{looks-dark}
 use Rattle.md_meaning.specs.Rest.{is_white}
 use Rattle.std.proofs.lemmas.Bool.{or_parts}
-use Rattle.md_registry.proofs.ConstructStates.{HasTrial, is-tried, opener-before, tried-before}
+use Rattle.md_registry.proofs.ConstructStates.{HasTrial, container-states, is-tried, leaf-next, opener-before}
+use Rattle.md_registry.proofs.ConstructStates.{tried-before}
 use Rattle.md_registry.proofs.Registry.{container-laws, laws, trial-asked}
 
 -- an attempt that was begun here
@@ -172,14 +172,6 @@ existing_before_means B feed w options next false (Some c) has s is e k =
           ∙ (container-laws c.kind).continues_looked options _ _ first.0 is first.1 first.2;
     })
 
-existing_after_means : (B : Behaviour) (feed : Feed) (w : World) (options : ParseOptions) (next : Rule) →
-    HasFlow B options next →
-    Steps B feed (Next (n.Document document.ContainerExistingAfter)) w (existing_after_transition w).to
-    (existing_after_transition w).world
-existing_after_means B feed w options next has =
-    passes B feed _ _ w (existing_after_transition w).world refl refl
-    (has.containers document.ContainerExistingAfter _ _ ∙ sym (has.containers document.ContainerExistingBefore _ _))
-
 new_before_means : (k : ContainerKind) (B : Behaviour) (feed : Feed) (w : World) (options : ParseOptions)
     (next : Rule) →
     HasFlow B options next → Sees feed w → IsRest w.scratch →
@@ -193,23 +185,16 @@ new_before_means k B feed w options next has s is =
       onward = onward;
       otherwise = otherwise;
       from_is =
-          has.containers (container_rules k).before _ _ ∙ opening.left-before options next k (feed w.point) (here w)
+          has.containers (container_rules k).before _ _ ∙ (at-opener k).left options next (feed w.point) (here w)
           ∙ ap (λ (o : Outcome). tried o onward otherwise) (sym (has.opens k _ _));
       ok_is = has.containers document.ContainerNewAfter;
-      nok_is = λ s g. has.containers (next_opener k) _ _ ∙ opening.left-next options next k _ _;
+      nok_is =
+          λ s g. has.containers (next_opener k) _ _
+          ∙ left-front options next (openers_behind k) _ _ (container-states k).next;
       looked = λ no.
           let first = refused-first (may_open k) feed w s no in
           has.opens k _ _ ∙ (container-laws k).begins_looked options _ _ first.0 is first.1 first.2;
     })
-
--- where containers end no attempt is around, so none goes back to events before these ends
-new_after_means : (B : Behaviour) (feed : Feed) (w : World) (options : ParseOptions) (next : Rule) →
-    HasFlow B options next → w.frames ≡ [] →
-    Steps B feed (Next (n.Document document.ContainerNewAfter)) w (new_after_transition w).to
-    (new_after_transition w).world
-new_after_means B feed w options next has none =
-    changes B feed _ _ w (new_after_transition w).world none none
-    (has.containers document.ContainerNewAfter _ _ ∙ sym (opening_left B options next has _ _))
 
 -- where a leaf may be asked first
 front_left : (B : Behaviour) (options : ParseOptions) (next : Rule) → HasFlow B options next → (cells : List Cell)
@@ -222,14 +207,6 @@ front_left B options next has cells h = go (asked_first h.flags.leaf) refl
     go None e = has.leaves flow.Start cells h
     go (Some l) e =
         has.containers document.FlowInside cells h ∙ ap (λ (o : Option LeafName). inside_by options next o cells h) e
-
-containers_after_means : (B : Behaviour) (feed : Feed) (w : World) (options : ParseOptions) (next : Rule) →
-    HasFlow B options next →
-    Steps B feed (Next (n.Document document.ContainersAfter)) w (containers_after_transition w).to
-    (containers_after_transition w).world
-containers_after_means B feed w options next has =
-    passes B feed _ _ w (containers_after_transition w).world refl refl
-    (has.containers document.ContainersAfter _ _ ∙ sym (front_left B options next has _ _))
 
 inside_means : (B : Behaviour) (feed : Feed) (w : World) (options : ParseOptions) (next : Rule) (o : Option LeafName) →
     HasFlow B options next → Sees feed w → asked_first w.flags.leaf ≡ o →
@@ -309,10 +286,11 @@ before_means l B feed w options next tried_is has s is asked =
       onward = behind_leaf (leaf l).ends next;
       otherwise = otherwise;
       from_is =
-          has.leaves (leaf l).before _ _ ∙ left-before options next l _ _ tried_is
+          has.leaves (leaf l).before _ _ ∙ (at-trial l tried_is).left options next _ _
           ∙ ap (λ (o : Outcome). tried o (behind_leaf (leaf l).ends next) otherwise) (sym (has.starts l _ _));
       ok_is = flow-ends B options next has (leaf l).ends;
-      nok_is = λ s g. has.leaves (next_of l) _ _ ∙ left-next options next l _ _ tried_is;
+      nok_is =
+          λ s g. has.leaves (next_of l) _ _ ∙ left-list options next (behind l) _ _ (leaf-next l tried_is);
       looked = λ no.
           let first = refused-first begins feed w s no in
           let none : (leaf l).may_begin w.flags.leaf (begins_white (feed w.point)) first.0 ≡ false =
@@ -336,7 +314,7 @@ row_means B feed w options next (l ∷ ls) has are e =
       otherwise = otherwise;
       from_is = e ∙ ap (λ (o : Outcome). tried o (behind_leaf (leaf l).ends next) otherwise) (sym (has.starts l _ _));
       ok_is = flow-ends B options next has (leaf l).ends;
-      nok_is = λ s g. has.leaves (front_of ls) _ _ ∙ left-list options next ls _ _ are.is;
+      nok_is = λ s g. has.leaves (front_of ls) _ _ ∙ left-list options next ls _ _ are.0;
       looked = λ no. cc;
     })
 
@@ -372,27 +350,6 @@ before_content_means B feed w options next has =
     ∙ resumed B feed w (Next (n.Flow flow.After)) Nok (chunk_at (feed w.point) (here w)) (line_ended next) Refuses
     (has.leaves flow.After) (λ s g. refl)
     ∙ ap (resume B feed w.events f) (sym (has.chunk _ _)))
-
-blank_line_after_means : (B : Behaviour) (feed : Feed) (w : World) (options : ParseOptions) (next : Rule) →
-    HasFlow B options next →
-    Steps B feed (Next (n.Flow flow.BlankLineAfter)) w (blank_line_after_transition w).to
-    (blank_line_after_transition w).world
-blank_line_after_means B feed w options next has =
-    passes B feed _ _ w (blank_line_after_transition w).world refl refl
-    (has.leaves flow.BlankLineAfter _ _ ∙ sym (has.containers document.FlowEnd _ _))
-
-leaf_after_means : (B : Behaviour) (feed : Feed) (w : World) (options : ParseOptions) (next : Rule) →
-    HasFlow B options next →
-    Steps B feed (Next (n.Flow flow.LeafAfter)) w (leaf_after_transition w).to (leaf_after_transition w).world
-leaf_after_means B feed w options next has =
-    passes B feed _ _ w (leaf_after_transition w).world refl refl
-    (has.leaves flow.LeafAfter _ _ ∙ sym (has.containers document.FlowEnd _ _))
-
-after_means : (B : Behaviour) (feed : Feed) (w : World) (options : ParseOptions) (next : Rule) →
-    HasFlow B options next →
-    Steps B feed (Next (n.Flow flow.After)) w (after_transition w).to (after_transition w).world
-after_means B feed w options next has =
-    passes B feed _ _ w w refl refl (has.leaves flow.After _ _ ∙ sym (has.containers document.FlowEnd _ _))
 
 -- The end of a line.
 
@@ -468,21 +425,23 @@ containers_means B feed next document.Start w has s at on a b = absurd (a refl)
 containers_means B feed next document.BeforeFrontmatter w has s at on a b = absurd (b refl)
 containers_means B feed next document.ContainerExistingBefore w has s at on a b =
     existing_before_means B feed w _ _ _ _ has s at refl refl
-containers_means B feed next document.ContainerExistingAfter w has s at on a b = existing_after_means B feed w _ _ has
-containers_means B feed next document.ContainerNewBefore w has s at on a b =
-    opener_means B feed next document.ContainerNewBefore _ refl w has s at
-containers_means B feed next document.ContainerNewBeforeNotBlockQuote w has s at on a b =
-    opener_means B feed next document.ContainerNewBeforeNotBlockQuote _ refl w has s at
-containers_means B feed next document.ContainerNewBeforeNotList w has s at on a b =
-    opener_means B feed next document.ContainerNewBeforeNotList _ refl w has s at
+containers_means B feed next document.ContainerExistingAfter w has s at on a b =
+    passes B feed _ _ w (existing_after_transition w).world refl refl
+    (has.containers document.ContainerExistingAfter _ _ ∙ sym (has.containers document.ContainerExistingBefore _ _))
 containers_means B feed next document.ContainerNewBeforeNotFootnoteDefinition w has s at on a b =
     passes B feed _ _ w w refl refl
     (has.containers document.ContainerNewBeforeNotFootnoteDefinition _ _
     ∙ sym (has.containers document.ContainersAfter _ _))
-containers_means B feed next document.ContainerNewAfter w has s at on a b = new_after_means B feed w _ _ has at
-containers_means B feed next document.ContainersAfter w has s at on a b = containers_after_means B feed w _ _ has
+containers_means B feed next document.ContainerNewAfter w has s at on a b =
+    -- where containers end no attempt is around, so none goes back to events before these ends
+    changes B feed _ _ w (new_after_transition w).world at at
+    (has.containers document.ContainerNewAfter _ _ ∙ sym (opening_left B _ next has _ _))
+containers_means B feed next document.ContainersAfter w has s at on a b =
+    passes B feed _ _ w (containers_after_transition w).world refl refl
+    (has.containers document.ContainersAfter _ _ ∙ sym (front_left B _ next has _ _))
 containers_means B feed next document.FlowInside w has s at on a b = inside_means B feed w _ _ _ has s refl
 containers_means B feed next document.FlowEnd w has s at on a b = flow_end_means B feed w _ _ has s at on
+containers_means B feed next state w has s at on a b = opener_means B feed next state _ refl w has s at
 
 leaf_means : (B : Behaviour) (feed : Feed) (next : Rule) (state : FlowState) (l : LeafName) → tried_at state ≡ Some l →
     (w : World) → HasFlow B w.setting.options next → Sees feed w → IsRest w.scratch →
@@ -499,21 +458,16 @@ pub leaves_means : (B : Behaviour) (feed : Feed) (next : Rule) (state : FlowStat
     Steps B feed (Next (n.Flow state)) w (flow_own_transition state w).to (flow_own_transition state w).world
 leaves_means B feed next flow.Start w has s at = start_means B feed w _ _ _ has s at refl
 leaves_means B feed next flow.BlankLineBefore w has s at = blank_line_before_means B feed w _ _ _ has s refl
-leaves_means B feed next flow.BeforeCodeIndented w has s at =
-    leaf_means B feed next flow.BeforeCodeIndented _ refl w has s at
-leaves_means B feed next flow.BeforeRaw w has s at = leaf_means B feed next flow.BeforeRaw _ refl w has s at
-leaves_means B feed next flow.BeforeHtml w has s at = leaf_means B feed next flow.BeforeHtml _ refl w has s at
-leaves_means B feed next flow.BeforeHeadingAtx w has s at =
-    leaf_means B feed next flow.BeforeHeadingAtx _ refl w has s at
-leaves_means B feed next flow.BeforeHeadingSetext w has s at =
-    leaf_means B feed next flow.BeforeHeadingSetext _ refl w has s at
-leaves_means B feed next flow.BeforeThematicBreak w has s at =
-    leaf_means B feed next flow.BeforeThematicBreak _ refl w has s at
-leaves_means B feed next flow.BeforeGfmTable w has s at = leaf_means B feed next flow.BeforeGfmTable _ refl w has s at
 leaves_means B feed next flow.BeforeContent w has s at = before_content_means B feed w _ _ has
-leaves_means B feed next flow.BlankLineAfter w has s at = blank_line_after_means B feed w _ _ has
-leaves_means B feed next flow.LeafAfter w has s at = leaf_after_means B feed w _ _ has
-leaves_means B feed next flow.After w has s at = after_means B feed w _ _ has
+leaves_means B feed next flow.BlankLineAfter w has s at =
+    passes B feed _ _ w (blank_line_after_transition w).world refl refl
+    (has.leaves flow.BlankLineAfter _ _ ∙ sym (has.containers document.FlowEnd _ _))
+leaves_means B feed next flow.LeafAfter w has s at =
+    passes B feed _ _ w (leaf_after_transition w).world refl refl
+    (has.leaves flow.LeafAfter _ _ ∙ sym (has.containers document.FlowEnd _ _))
+leaves_means B feed next flow.After w has s at =
+    passes B feed _ _ w w refl refl (has.leaves flow.After _ _ ∙ sym (has.containers document.FlowEnd _ _))
+leaves_means B feed next state w has s at = leaf_means B feed next state _ refl w has s at
 
 -- what answers as the transition of a state does means what the state means
 pub flow_rule : (state : FlowState) (w new : World) (to : State) → to ≡ (flow_own_transition state w).to →
@@ -540,23 +494,4 @@ pub document_rule : (state : DocumentState) (w new : World) (to : State) → to 
     new ≡ (document_own_transition state w).world → DocumentMeans state w to new
 document_rule document.Start w new to e k = front_means document.Start w new to tt e k
 document_rule document.BeforeFrontmatter w new to e k = front_means document.BeforeFrontmatter w new to tt e k
-document_rule document.ContainerExistingBefore w new to e k =
-    containers_mean document.ContainerExistingBefore w new to (λ x. cc) (λ x. cc) e k
-document_rule document.ContainerExistingAfter w new to e k =
-    containers_mean document.ContainerExistingAfter w new to (λ x. cc) (λ x. cc) e k
-document_rule document.ContainerNewBefore w new to e k =
-    containers_mean document.ContainerNewBefore w new to (λ x. cc) (λ x. cc) e k
-document_rule document.ContainerNewBeforeNotBlockQuote w new to e k =
-    containers_mean document.ContainerNewBeforeNotBlockQuote w new to (λ x. cc) (λ x. cc) e k
-document_rule document.ContainerNewBeforeNotList w new to e k =
-    containers_mean document.ContainerNewBeforeNotList w new to (λ x. cc) (λ x. cc) e k
-document_rule document.ContainerNewBeforeNotFootnoteDefinition w new to e k =
-    containers_mean document.ContainerNewBeforeNotFootnoteDefinition w new to (λ x. cc) (λ x. cc) e k
-document_rule document.ContainerNewAfter w new to e k =
-    containers_mean document.ContainerNewAfter w new to (λ x. cc) (λ x. cc) e k
-document_rule document.ContainersAfter w new to e k =
-    containers_mean document.ContainersAfter w new to (λ x. cc) (λ x. cc) e k
-document_rule document.FlowInside w new to e k =
-    containers_mean document.FlowInside w new to (λ x. cc) (λ x. cc) e k
-document_rule document.FlowEnd w new to e k =
-    containers_mean document.FlowEnd w new to (λ x. cc) (λ x. cc) e k
+document_rule state w new to e k = containers_mean state w new to (λ x. cc) (λ x. cc) e k

@@ -6,7 +6,7 @@ use Rattle.md_registry.specs.Flow.{inside_code, inside_transition, leaf_front, l
 use Rattle.md_registry.specs.Flow.{blank_line_code, flow_end_code, flow_end_transition, new_before_transition}
 use Rattle.md_registry.specs.Flow.{opener_transition, row_transition, start_by, start_code, start_transition}
 use Rattle.md_registry.specs.Flow.{trial_code}
-use Rattle.md_registry.specs.Registry.{asked_first, container_rules, front_of, leaf, may_open, next_opener, opener_at}
+use Rattle.md_registry.specs.Registry.{asked_first, container_rules, front_of, leaf, may_open, next_opener}
 use Rattle.md_registry.specs.Registry.{opener_front, openers, opens_with, row, trials}
 use Rattle.std.specs.Option.{is_some}
 use Rattle.std.specs.List.{list_any, All}
@@ -43,6 +43,7 @@ use Rattle.md_registry.specs.LineFlags.{nothing_stands, kept_containers}
 use Rattle.md_frame.specs.LeafName.{GfmTable, LeafName}
 use Rattle.md_registry.specs.States.{FlowStep, flow_transition}
 use Rattle.md_registry.proofs.ConstructStates.{NextOpener, container-states}
+use Rattle.md_registry.proofs.Openers.{at-opener}
 use Rattle.md_registry.proofs.Dispatch.{common-row}
 use Rattle.md_tables.specs.GfmTable.{begins_code as table_begins, may_begin as may_table, start_transition as table_start}
 use Rattle.std.proofs.Math.Bool.{or-true}
@@ -82,20 +83,6 @@ refused-rest may k ks w v same r = record {
 
 -- Containers that may open.
 
--- a state where one is tried
-at-opener : (x : DocumentState) (k : ContainerKind) (w : World) → opener_at x ≡ Some k →
-    document_own_transition x w ≡ new_before_transition k w
-at-opener document.Start k w e = cc
-at-opener document.BeforeFrontmatter k w e = cc
-at-opener document.ContainerExistingBefore k w e = cc
-at-opener document.ContainerExistingAfter k w e = cc
-at-opener document.ContainerNewAfter k w e = cc
-at-opener document.ContainersAfter k w e = cc
-at-opener document.FlowInside k w e = cc
-at-opener document.FlowEnd k w e = cc
-at-opener document.ContainerNewBeforeNotFootnoteDefinition k w e = cc
-at-opener _ k w e = ap (λ (o : Option ContainerKind). opener_transition o w) e
-
 -- none of these opens, so that one comes to those behind them
 pub openers-refuse : (is_end : Bool) (s : State) (v : World)
     (ks js : List ContainerKind) (w : World) →
@@ -108,7 +95,7 @@ openers-refuse is_end s v (k ∷ ks) js w next none seen within came =
     let a : World = asking (container_of k) w in
     let x : DocumentState = (container_rules k).before in
     let is : document_own_transition x w ≡ record { to = Retry (n.Document (opener_front (ks ++ js))); world = a } =
-    at-opener x k w (container-states k).tried
+    (at-opener k).does w
     ∙ ap
     (trial_code (opens_with k) (n.Document document.ContainerNewAfter) (n.Document (next_opener k)) a)
     (refused-first may_open k ks w none)

@@ -139,15 +139,7 @@ weight l = 6 + 2 * length (behind l)
 
 abbrev pub low_weight : (l : LeafName) → (nat_lt (weight l) 64 ≡ true) × (nat_lt (suc (weight l)) 64 ≡ true)
 low_weight CodeIndented = (refl, refl)
-low_weight CodeFurther = (refl, refl)
-low_weight Fence = (refl, refl)
-low_weight FenceFurther = (refl, refl)
-low_weight HtmlFlow = (refl, refl)
-low_weight HtmlFurther = (refl, refl)
-low_weight HeadingAtx = (refl, refl)
-low_weight HeadingSetext = (refl, refl)
-low_weight ThematicBreak = (refl, refl)
-low_weight GfmTable = (refl, refl)
+low_weight _ = (refl, refl)
 
 abbrev pub rank_of : LeafName → Rank
 rank_of l = ranked (weight l) (low_weight l).0
