@@ -1,5 +1,5 @@
 -- Calls of the table of flow, one or several at once.
-use Rattle.std.proofs.Common.{◌≡◌, ◌≢◌, false, refl}
+use Rattle.std.proofs.Common.{◌≡◌, ◌≢◌, false}
 use Rattle.md_engine.specs.declared.state.Name.{Name as StateName}
 use Rattle.md_engine.specs.declared.state.Name.TheVariants as n
 use Rattle.md_engine.specs.declared.state.State.{State}
@@ -40,8 +40,4 @@ called-once name w to new seen at within fine to_is new_is =
 pub flow-constructs : (name : StateName) (w : World) →
     is_flow_own name ≡ false → construct_transition name w ≡ flow_transition name w
 flow-constructs (n.BlankLine state) w e = cc
-flow-constructs (n.Content state) w e = cc
-flow-constructs (n.Document state) w e = cc
-flow-constructs (n.Flow state) w e = cc
-flow-constructs (n.SpaceOrTab state) w e = cc
-flow-constructs _ w e = refl
+flow-constructs _ w e = cc

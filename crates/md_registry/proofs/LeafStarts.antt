@@ -141,10 +141,7 @@ lost-none options at r depth may some no_table =
       where
         go : (x s u w : Bool) → (x && s && u) ≡ true → not w ≡ false → not ((x && w) && u) ≡ false
         go true true true true e k = refl
-        go true true true false e k = cc
-        go true true false w e k = cc
-        go true false u w e k = cc
-        go false s u w e k = cc
+        go _ _ _ _ e k = cc
 
     to : Bool → Bool → Bool → Bool → Bool → Bool → Bool → Option LeafName
     to c x h y s z t =

@@ -14,7 +14,7 @@ use Rattle.md_engine.specs.declared.state.flow.State.TheVariants as flow
 use Rattle.md_engine.specs.declared.tokenizer.container.name.ContainerKind.{ContainerKind}
 use Rattle.md_engine.specs.declared.tokenizer.container.name.ContainerKind.TheVariants as kind
 use Rattle.md_meaning.specs.Containers.{Taken, opens, opens_footnote, opens_item, opens_quote}
-use Rattle.md_meaning.specs.Rest.{Rest, indent}
+use Rattle.md_meaning.specs.Rest.{Rest}
 use Rattle.md_frame.specs.HeldLeaf.{has_lines}
 use Rattle.md_literal_rooms.specs.Leaf.CodeIndented.{is_code}
 use Rattle.md_code.specs.Fence.{is_open as is_fence}
@@ -89,23 +89,13 @@ trial-asked _ _ e on = cc
 pub insider-none : (on : HeldLeaf) → has_lines on ≡ false → asked_first on ≡ None
 unfolding asked_first
 insider-none held_leaf.None e = refl
-insider-none (held_leaf.Text at) e = refl
-insider-none (held_leaf.LazyText at) e = refl
-insider-none held_leaf.Code e = cc
-insider-none (held_leaf.Fence m size indent) e = cc
-insider-none (held_leaf.Html kind) e = cc
-insider-none held_leaf.Table e = cc
+insider-none _ e = cc
 
 -- and no container is barred there
 pub bars_containers-none : (on : HeldLeaf) → has_lines on ≡ false → bars_containers on ≡ false
 unfolding bars_containers
 bars_containers-none held_leaf.None e = refl
-bars_containers-none (held_leaf.Text at) e = refl
-bars_containers-none (held_leaf.LazyText at) e = refl
-bars_containers-none held_leaf.Code e = cc
-bars_containers-none (held_leaf.Fence m size indent) e = cc
-bars_containers-none (held_leaf.Html kind) e = cc
-bars_containers-none held_leaf.Table e = cc
+bars_containers-none _ e = cc
 
 -- A leaf that is asked first may have several lines, is asked of the leaf that is open, and takes a further line of
 -- it.
@@ -124,10 +114,7 @@ insider-is on l e = go (is_fence on) (is_html on) (is_code on) refl refl refl l 
     go true y z f h k FenceFurther e = record { ends = refl; asked = f; further = f }
     go false true z f h k HtmlFurther e = record { ends = refl; asked = h; further = h }
     go false false true f h k CodeFurther e = record { ends = refl; asked = k; further = k }
-    go true y z f h k l e = absurd (cc)
-    go false true z f h k l e = absurd (cc)
-    go false false true f h k l e = absurd (cc)
-    go false false false f h k l e = absurd (cc)
+    go _ _ _ f h k _ e = absurd (cc)
 
 pub insider-open : (on : HeldLeaf) (l : LeafName) → asked_first on ≡ Some l → (leaf l).ends ≡ false
 insider-open on l e = (insider-is on l e).ends

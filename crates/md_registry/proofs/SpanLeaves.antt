@@ -174,69 +174,26 @@ text-lazy _ e = cc
 -- a line that continues what a leaf has left open is one of the leaf that takes its further lines,
 pub further-is : (l m : LeafName) (options : ParseOptions) (on : HeldLeaf) (r : Rest) →
     (leaf m).further ((leaf l).holds options on r) ≡ true → m ≡ further_of l
-further-is CodeIndented CodeFurther options on r e = refl
-further-is CodeFurther CodeFurther options on r e = refl
-further-is Fence FenceFurther options on r e = refl
-further-is FenceFurther FenceFurther options on r e = refl
-further-is HeadingAtx FenceFurther options on r e = cc
-further-is ThematicBreak FenceFurther options on r e = cc
-further-is HeadingSetext FenceFurther options on r e = cc
-further-is CodeIndented FenceFurther options on r e = cc
-further-is CodeFurther FenceFurther options on r e = cc
-further-is Fence CodeFurther options on r e = cc
 further-is FenceFurther CodeFurther options on r e = absurd (fence-left is_code options on r refl (fence-not_code on) e)
-further-is HeadingAtx CodeFurther options on r e = cc
-further-is ThematicBreak CodeFurther options on r e = cc
-further-is HeadingSetext CodeFurther options on r e = cc
 further-is HtmlFlow CodeFurther options on r e =
     absurd (html-left is_code (kind_begun r) r.bytes code-not_html e)
 further-is HtmlFurther CodeFurther options on r e = absurd (further-left is_code on r.bytes code-not_html e)
 further-is HtmlFlow FenceFurther options on r e =
     absurd (html-left is_fence (kind_begun r) r.bytes fence-none_html e)
 further-is HtmlFurther FenceFurther options on r e = absurd (further-left is_fence on r.bytes fence-none_html e)
-further-is CodeIndented HtmlFurther options on r e = cc
-further-is CodeFurther HtmlFurther options on r e = cc
-further-is Fence HtmlFurther options on r e = cc
 further-is FenceFurther HtmlFurther options on r e = absurd (fence-left is_html options on r refl (fence-not_html on) e)
-further-is HtmlFlow HtmlFurther options on r e = refl
-further-is HtmlFurther HtmlFurther options on r e = refl
-further-is HeadingAtx HtmlFurther options on r e = cc
-further-is ThematicBreak HtmlFurther options on r e = cc
-further-is HeadingSetext HtmlFurther options on r e = cc
-further-is GfmTable CodeFurther options on r e = cc
-further-is GfmTable FenceFurther options on r e = cc
-further-is GfmTable HtmlFurther options on r e = cc
-further-is GfmTable GfmTable options on r e = refl
-further-is CodeIndented GfmTable options on r e = cc
-further-is CodeFurther GfmTable options on r e = cc
-further-is Fence GfmTable options on r e = cc
 further-is FenceFurther GfmTable options on r e =
     absurd (fence-left may_be_table options on r refl (fence-not_table on) e)
 further-is HtmlFlow GfmTable options on r e = absurd (html-left may_be_table (kind_begun r) r.bytes table-not_html e)
 further-is HtmlFurther GfmTable options on r e = absurd (further-left may_be_table on r.bytes table-not_html e)
-further-is HeadingAtx GfmTable options on r e = cc
-further-is HeadingSetext GfmTable options on r e = cc
-further-is ThematicBreak GfmTable options on r e = cc
-further-is l CodeIndented options on r e = cc
-further-is l Fence options on r e = cc
-further-is l HtmlFlow options on r e = cc
-further-is l HeadingAtx options on r e = cc
-further-is l ThematicBreak options on r e = cc
 further-is l HeadingSetext options on r e =
     let lazy = text-lazy ((leaf l).holds options on r) e in let none = ((laws l).not_lazy options on).1 r in cc
+further-is _ _ options on r e = cc
 
 -- which also takes the lines after its own
 pub further-further : (l : LeafName) → further_of (further_of l) ≡ further_of l
 further-further CodeIndented = refl
-further-further CodeFurther = refl
-further-further Fence = refl
-further-further FenceFurther = refl
-further-further HtmlFlow = refl
-further-further HtmlFurther = refl
-further-further HeadingAtx = refl
-further-further HeadingSetext = refl
-further-further ThematicBreak = refl
-further-further GfmTable = refl
+further-further _ = refl
 
 -- a further line begins no block, so there is nothing to say of lines that one begins
 further-span : (first l : LineLeaf) → SpanLaws first l →
@@ -281,28 +238,24 @@ lines-join CodeIndented e options on r starts begins =
     rw (code-rest options on r starts).enabled (third options.constructs.code_fenced options.constructs.math_flow)
   where
     third : (x y : Bool) → (x || y || true || options.constructs.html_flow || options.constructs.gfm_table) ≡ true
-    third true y = refl
-    third false true = refl
     third false false = refl
+    third _ _ = refl
 lines-join CodeFurther e options on r starts begins = absurd (code-begins options on r starts begins)
 lines-join Fence e options on r starts begins = go options.constructs.code_fenced refl options.constructs.math_flow refl
   where
     go : (x : Bool) → options.constructs.code_fenced ≡ x → (y : Bool) → options.constructs.math_flow ≡ y →
         (x || y || options.constructs.code_indented || options.constructs.html_flow || options.constructs.gfm_table) ≡
         true
-    go true f y g = refl
-    go false f true g = refl
     go false f false g = let none = ap is_some (fence-off options r f g) in absurd (cc)
+    go _ f _ g = refl
 lines-join FenceFurther e options on r starts begins = let bad : true ≡ false = sym starts ∙ begins in absurd (cc)
 lines-join HtmlFlow e options on r starts begins =
     rw (html-enabled options on r starts)
     (last options.constructs.code_fenced options.constructs.math_flow options.constructs.code_indented)
   where
     last : (x y z : Bool) → (x || y || z || true || options.constructs.gfm_table) ≡ true
-    last true y z = refl
-    last false true z = refl
-    last false false true = refl
     last false false false = refl
+    last _ _ _ = refl
 lines-join HtmlFurther e options on r starts begins = absurd (html-begins options on r starts begins)
 lines-join HeadingAtx e options on r starts begins = absurd (cc)
 lines-join HeadingSetext e options on r starts begins = absurd (setext-begins options on r starts begins)

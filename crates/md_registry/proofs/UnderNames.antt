@@ -6,22 +6,13 @@ use Rattle.md_engine.specs.declared.tokenizer.held_leaf.HeldLeaf.{HeldLeaf}
 use Rattle.md_engine.specs.declared.tokenizer.held_leaf.HeldLeaf.TheVariants as held_leaf
 use Rattle.md_engine.specs.declared.tokenizer.held_leaf.OpenText.{OpenText}
 use Rattle.md_meaning.specs.Rest.{Rest}
-use Rattle.md_frame.specs.LeafName.{CodeFurther, CodeIndented, Fence, FenceFurther, HeadingAtx, HeadingSetext}
-use Rattle.md_frame.specs.LeafName.{GfmTable, HtmlFlow, HtmlFurther, LeafName, ThematicBreak}
+use Rattle.md_frame.specs.LeafName.{GfmTable, HeadingSetext, LeafName}
 use Rattle.md_registry.specs.Registry.{leaf}
 
 pub further-text : (at : OpenText) (l : LeafName) → (leaf l).further (held_leaf.Text at) ≡ true → (leaf l).heads ≡ false →
     l ≡ HeadingSetext
-further-text at CodeIndented f h = cc
-further-text at CodeFurther f h = cc
-further-text at Fence f h = cc
-further-text at FenceFurther f h = cc
-further-text at HtmlFlow f h = cc
-further-text at HtmlFurther f h = cc
-further-text at HeadingAtx f h = cc
 further-text at HeadingSetext f h = refl
-further-text at ThematicBreak f h = cc
-further-text at GfmTable f h = cc
+further-text at _ f h = cc
 
 -- no leaf is open behind it
 pub under-shuts : (at : OpenText) (l : LeafName) → (leaf l).further (held_leaf.Text at) ≡ true → (leaf l).heads ≡ false →
@@ -30,13 +21,5 @@ under-shuts at l f h options on r = ap (λ (l : LeafName). (leaf l).holds option
 
 -- a line that takes one as its head is one of a table
 pub heads-table : (l : LeafName) → (leaf l).heads ≡ true → l ≡ GfmTable
-heads-table CodeIndented h = cc
-heads-table CodeFurther h = cc
-heads-table Fence h = cc
-heads-table FenceFurther h = cc
-heads-table HtmlFlow h = cc
-heads-table HtmlFurther h = cc
-heads-table HeadingAtx h = cc
-heads-table HeadingSetext h = cc
-heads-table ThematicBreak h = cc
 heads-table GfmTable h = refl
+heads-table _ h = cc

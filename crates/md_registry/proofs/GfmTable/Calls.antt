@@ -29,10 +29,7 @@ row-flows name w to new (OfRow p named to_is new_is) =
     at : (q : Place) → to ≡ (row_transition Body q w).to → new ≡ (row_transition Body q w).world →
         FlowStep (name_at Body q) w to new
     at place.Start e k = record { to_is = e; new_is = k }
-    at place.Break e k = record { to_is = e; new_is = k }
-    at place.Data e k = record { to_is = e; new_is = k }
-    at place.Escape e k = record { to_is = e; new_is = k }
-    at place.CellBefore e k = record { to_is = e; new_is = k }
+    at _ e k = record { to_is = e; new_is = k }
 row-flows name w to new (OfWhite state named to_is new_is) =
     subst (λ (x : StateName). FlowStep x w to new) (sym named) (record { to_is = to_is; new_is = new_is })
 
