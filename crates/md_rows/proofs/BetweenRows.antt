@@ -2,8 +2,8 @@
 use Rattle.md_engine.specs.declared.tokenizer.held_leaf.HeldLeaf.TheVariants as held_leaf
 use Rattle.md_engine.specs.declared.tokenizer.held_leaf.HeldLeaf.{HeldLeaf}
 use Rattle.std.proofs.Common.{◌≡◌, ℕ, true, List, [], ◌∷◌, ◌++◌, refl, sym, subst}
-use Rattle.md_rows.specs.Rows.{Headed, LeafLines, Turned, final_row, first_row, front_done, group_done, group_events}
-use Rattle.md_rows.specs.Rows.{Group, Lines, Single, groups, groups_events, tail_events, group_ending}
+use Rattle.md_rows.specs.Rows.{final_row, first_row, front_done, group_done, group_events, Group, groups, groups_events}
+use Rattle.md_rows.specs.Rows.{tail_events, group_ending}
 use Rattle.std.specs.Prelude.{Option, Some, None}
 use Rattle.md_engine.specs.declared.configuration.ParseOptions.{ParseOptions}
 use Rattle.md_engine.specs.declared.event.Event.{Event}
@@ -16,7 +16,7 @@ use Rattle.md_frame.specs.Change.{ends_of}
 use Rattle.md_rows.specs.Fronted.{contained, rest_from}
 use Rattle.md_frame.specs.RestLine.{rest_line}
 use Rattle.md_frame.specs.Row.{Row, behind_row, ending_events}
-use Rattle.md_rows.proofs.EachRow.{EachGroup, EachRow, OfGroup, groups-each, last-each}
+use Rattle.md_rows.proofs.EachRow.{EachGroup, EachRow, final-each, first-each, groups-each}
 use Rattle.md_frame.proofs.FrontStands.{fronts-between}
 use Rattle.md_rows.proofs.JoinedLemmas.{behind-is, behind-none}
 use Rattle.md_rows.proofs.NestedRows.{ByGroups, rows-hold}
@@ -64,21 +64,6 @@ line-between bytes name front inside row b h k =
     between-append bytes (front ++ inside) (tail_events name row) (between-append bytes front inside h k)
     (tail-between bytes name row b.end b.behind)
 
--- of a group, the first line and the last
-first-between : (bytes : List ℕ) (group : Group) → OfGroup (RowBetween bytes) group → RowBetween bytes (first_row group)
-first-between bytes (Single row) h = h
-first-between bytes (Lines row rows) h = h.0
-first-between bytes (Turned row rows under) h = h.0
-first-between bytes (Headed row next rows) h = h.0
-first-between bytes (LeafLines row rows) h = h.0
-
-final-between : (bytes : List ℕ) (group : Group) → OfGroup (RowBetween bytes) group → RowBetween bytes (final_row group)
-final-between bytes (Single row) h = h
-final-between bytes (Lines row rows) h = last-each (RowBetween bytes) row rows h.0 h.1
-final-between bytes (Turned row rows under) h = h.2
-final-between bytes (Headed row next rows) h = last-each (RowBetween bytes) next rows h.1 h.2
-final-between bytes (LeafLines row rows) h = last-each (RowBetween bytes) row rows h.0 h.1
-
 -- groups of such lines, the first of which begins between characters
 abbrev BetweenGroups : ParseOptions → List ℕ → List Name → Point → List Group → Type 0
 BetweenGroups options bytes names p gs =
@@ -90,8 +75,8 @@ between-by_groups options bytes = record {
   none = λ p from h. refl;
   group = λ names kept p group gs o keeps on from h.
       let row : Row = first_row group in
-      let first : RowBetween bytes row = first-between bytes group h.0 in
-      let last : RowBetween bytes (final_row group) = final-between bytes group h.0 in
+      let first : RowBetween bytes row = first-each (RowBetween bytes) group h.0 in
+      let last : RowBetween bytes (final_row group) = final-each (RowBetween bytes) group h.0 in
       between-append bytes (group_events options bytes group) (groups_events options bytes gs)
       (line-between bytes (group_ending group) (front_done bytes row) (group_done options bytes group)
       (final_row group) last

@@ -1,13 +1,12 @@
 -- The endings of blank lines are told from others, before the text of a document is read and once it is.
 use Rattle.md_engine.specs.declared.tokenizer.held_leaf.HeldLeaf.TheVariants as held_leaf
-use Rattle.std.proofs.Common.{◌≡◌, ℕ, Bool, true, false, cond, ◌&&◌, List, [], ◌∷◌, ◌++◌, refl, ap, sym, ◌∙◌}
-use Rattle.std.proofs.Common.{append_assoc, subst, ◌≤◌, length, append-nil}
+use Rattle.std.proofs.Common.{◌≡◌, ℕ, Bool, true, false, ◌&&◌, List, [], ◌∷◌, ◌++◌, refl, ap, sym, ◌∙◌, append_assoc}
+use Rattle.std.proofs.Common.{subst, ◌≤◌, length, append-nil}
 use Rattle.md_rows.proofs.GroupLines.{AreSpan, AreGroups, EndsBeforeGroups, IsSingle}
 use Rattle.md_registry.specs.Registry.{leaf}
-use Rattle.md_frame.specs.Row.{is_blank_by, last_row, BlankRow, Row, RowKind, TextRow, ending_events, LeafRow}
-use Rattle.md_rows.specs.Rows.{Headed, LeafLines, Turned, is_further, is_last, onto_leaf, takes_head, final_row}
-use Rattle.md_rows.specs.Rows.{first_row, front_done, group_done, Group, Lines, Single, goes_on, group_events, groups}
-use Rattle.md_rows.specs.Rows.{groups_events, onto_groups, tail_events, group_ending, is_blank_group}
+use Rattle.md_frame.specs.Row.{is_blank_by, last_row, Row, RowKind, ending_events}
+use Rattle.md_rows.specs.Rows.{Headed, LeafLines, Turned, final_row, first_row, front_done, group_done, Group, Lines}
+use Rattle.md_rows.specs.Rows.{Single, group_events, groups, groups_events, tail_events, group_ending, is_blank_group}
 use Rattle.std.specs.Prelude.{Option, Some, None, not}
 use Rattle.md_engine.specs.declared.configuration.ParseOptions.{ParseOptions}
 use Rattle.md_engine.specs.declared.event.Event.{Event}
@@ -21,6 +20,7 @@ use Rattle.md_frame.specs.ContainerNames.{container_name}
 use Rattle.md_frame.specs.Change.{ends_of}
 use Rattle.md_rows.specs.BlockList.{group_unread, tabled_group, tabled_groups}
 use Rattle.md_frame.proofs.EndingFacts.{ending-leads}
+use Rattle.md_rows.proofs.EachRow.{AsSingle, AsSpan, AsText, Onto, onto}
 use Rattle.md_rows.proofs.GroupsAre.{groups-are}
 use Rattle.md_frame.proofs.FrontNames.{HasFront}
 use Rattle.md_rows.proofs.GroupLemmas.{rows-end}
@@ -54,55 +54,19 @@ EachEnded [] = Unit {0}
 EachEnded (group ∷ gs) = EndsBeforeGroups (final_row group) gs × EachEnded gs
 
 -- a line goes in front of groups
-leaf-ended : (row : Row) (ends : Bool) (gs : List Group) → EndsBeforeGroups row gs → EachEnded gs →
-    EachEnded (onto_leaf ends row gs)
-leaf-ended row true gs h k = (h, k)
-leaf-ended row false [] h k = (h, k)
-leaf-ended row false (Single below ∷ gs) h k = (h, k)
-leaf-ended row false (Lines below rows ∷ gs) h k = (h, k)
-leaf-ended row false (Turned below rows under ∷ gs) h k = (h, k)
-leaf-ended row false (Headed below next rows ∷ gs) h k = (h, k)
-leaf-ended row false (LeafLines below rows ∷ gs) h k = go (is_further below.kind below.on)
-  where
-    go : (x : Bool) → EachEnded (cond x (LeafLines row (below ∷ rows) ∷ gs) (LeafLines row [] ∷ LeafLines below rows ∷ gs))
-    go true = k
-    go false = (h, k)
-
-onto-ended : (row : Row) (kind : RowKind) (gs : List Group) → EndsBeforeGroups row gs → EachEnded gs →
-    EachEnded (onto_groups row kind gs)
-onto-ended row BlankRow gs h k = (h, k)
-onto-ended row (LeafRow l) gs h k = leaf-ended row (leaf l).ends gs h k
-onto-ended row TextRow [] h k = (h, k)
-onto-ended row TextRow (Single below ∷ gs) h k = (h, k)
-onto-ended row TextRow (Turned below rows under ∷ gs) h k = go (goes_on row below)
-  where
-    go : (x : Bool) →
-        EachEnded (cond x (Turned row (below ∷ rows) under ∷ gs) (Lines row [] ∷ Turned below rows under ∷ gs))
-    go true = k
-    go false = (h, k)
-onto-ended row TextRow (Headed below next rows ∷ gs) h k = (h, k)
-onto-ended row TextRow (LeafLines below rows ∷ gs) h k = go (is_further below.kind below.on) (takes_head below.kind) rows k
-  where
-    go : (x y : Bool) (rows : List Row) → EachEnded (LeafLines below rows ∷ gs) →
-        EachEnded
-        (cond (x && y) (Headed row below rows ∷ gs)
-        (cond (x && is_last rows) (Turned row [] below ∷ gs) (Lines row [] ∷ LeafLines below rows ∷ gs)))
-    go true true rows k = k
-    go true false [] k = k
-    go true false (next ∷ rows) k = (h, k)
-    go false y rows k = (h, k)
-onto-ended row TextRow (Lines below rows ∷ gs) h k = go (goes_on row below)
-  where
-    go : (x : Bool) → EachEnded (cond x (Lines row (below ∷ rows) ∷ gs) (Lines row [] ∷ Lines below rows ∷ gs))
-    go true = k
-    go false = (h, k)
+onto-ended : (row : Row) (gs all : List Group) → Onto row gs all → EndsBeforeGroups row gs → EachEnded gs → EachEnded all
+onto-ended row _ _ (AsSingle gs) h k = (h, k)
+onto-ended row _ _ (AsText gs) h k = (h, k)
+onto-ended row _ _ (AsSpan gs) h k = (h, k)
+onto-ended row _ _ _ h k = k
 
 -- so it is with the groups of lines
 pub groups-ended : (rows : List Row) → EachEnds rows → EachEnded (groups rows)
 groups-ended [] h = tt
-groups-ended (row ∷ []) h = onto-ended row row.kind [] tt tt
+groups-ended (row ∷ []) h = onto-ended row [] _ (onto row row.kind []) tt tt
 groups-ended (row ∷ below ∷ rows) h =
-    onto-ended row row.kind (groups (below ∷ rows)) (ends (groups (below ∷ rows))) (groups-ended (below ∷ rows) h.2)
+    onto-ended row (groups (below ∷ rows)) _ (onto row row.kind (groups (below ∷ rows))) (ends (groups (below ∷ rows)))
+    (groups-ended (below ∷ rows) h.2)
   where
     ends : (gs : List Group) → EndsBeforeGroups row gs
     ends [] = tt

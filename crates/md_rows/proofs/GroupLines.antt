@@ -1,6 +1,6 @@
 -- Lines that belong together: lines of text, with the line that turns them if one does, a line of text that is the
 -- head of a table, and the lines of a leaf of several; and the groups of such lines.
-use Rattle.std.proofs.Common.{◌≡◌, ◌≢◌, ℕ, Bool, true, false, cond, ◌&&◌, List, [], ◌∷◌, refl, ap, sym, ◌∙◌, subst}
+use Rattle.std.proofs.Common.{◌≡◌, ◌≢◌, ℕ, Bool, true, false, ◌&&◌, List, [], ◌∷◌, refl, ap, sym, ◌∙◌, subst}
 use Rattle.std.specs.Prelude.{Some}
 use Rattle.md_engine.specs.declared.configuration.ParseOptions.{ParseOptions}
 use Rattle.md_engine.specs.declared.event.Point.{Point}
@@ -9,11 +9,12 @@ use Rattle.md_meaning.specs.State.{ParagraphLine, kept, texts}
 use Rattle.md_link_definitions.specs.Progress.{progress, progress_of, steps}
 use Rattle.md_frame.specs.LeafName.{LeafName}
 use Rattle.md_registry.specs.Registry.{further_of, leaf}
-use Rattle.md_frame.specs.Row.{BlankRow, LeafRow, Row, RowKind, TextRow, last_row}
-use Rattle.md_rows.specs.Rows.{Group, Headed, Lines, Single, LeafLines, Turned, first_row, takes_head, goes_on}
-use Rattle.md_rows.specs.Rows.{is_further, is_last, onto_groups, onto_leaf}
+use Rattle.md_frame.specs.Row.{LeafRow, Row, RowKind, TextRow, last_row}
+use Rattle.md_rows.specs.Rows.{Group, Headed, Lines, Single, LeafLines, Turned, first_row, takes_head, is_further}
+use Rattle.md_rows.specs.Rows.{onto_groups}
 use Rattle.md_frame.proofs.FrontFacts.{LinePrefix}
 use Rattle.md_frame.proofs.FrontNames.{HasFront}
+use Rattle.md_rows.proofs.EachRow.{AsSingle, Onto, onto}
 use Rattle.md_rows.proofs.JoinedLemmas.{EachNoContent, HasNoContent}
 use Rattle.md_registry.proofs.SpanLeaves.{further-further, further-is}
 use Rattle.md_rows.proofs.RowFacts.{IsRow}
@@ -145,46 +146,13 @@ abbrev pub FirstIs : (Row → Type 0) → List Group → Type 0
 FirstIs P [] = Unit {0}
 FirstIs P (group ∷ gs) = P (first_row group)
 
-span-first : (P : Row → Type 0) (row : Row) (ends : Bool) (gs : List Group) → P row → FirstIs P (onto_leaf ends row gs)
-span-first P row true gs h = h
-span-first P row false [] h = h
-span-first P row false (Single first ∷ gs) h = h
-span-first P row false (Lines first rows ∷ gs) h = h
-span-first P row false (Turned first rows under ∷ gs) h = h
-span-first P row false (Headed first next rows ∷ gs) h = h
-span-first P row false (LeafLines first rows ∷ gs) h = go (is_further first.kind first.on)
-  where
-    go : (x : Bool) → FirstIs P (cond x (LeafLines row (first ∷ rows) ∷ gs) (LeafLines row [] ∷ LeafLines first rows ∷ gs))
-    go true = h
-    go false = h
-
 pub onto-first : (P : Row → Type 0) (row : Row) (kind : RowKind) (gs : List Group) → P row →
     FirstIs P (onto_groups row kind gs)
-onto-first P row BlankRow gs h = h
-onto-first P row (LeafRow l) gs h = span-first P row (leaf l).ends gs h
-onto-first P row TextRow [] h = h
-onto-first P row TextRow (Single first ∷ gs) h = h
-onto-first P row TextRow (Headed first next rows ∷ gs) h = h
-onto-first P row TextRow (LeafLines first rows ∷ gs) h =
-    go (is_further first.kind first.on && takes_head first.kind) (is_further first.kind first.on && is_last rows)
+onto-first P row kind gs h = go gs _ (onto row kind gs)
   where
-    go : (x y : Bool) →
-        FirstIs P
-        (cond x (Headed row first rows ∷ gs) (cond y (Turned row [] first ∷ gs) (Lines row [] ∷ LeafLines first rows ∷ gs)))
-    go true y = h
-    go false true = h
-    go false false = h
-onto-first P row TextRow (Turned first rows under ∷ gs) h = go (goes_on row first)
-  where
-    go : (x : Bool) →
-        FirstIs P (cond x (Turned row (first ∷ rows) under ∷ gs) (Lines row [] ∷ Turned first rows under ∷ gs))
-    go true = h
-    go false = h
-onto-first P row TextRow (Lines first rows ∷ gs) h = go (goes_on row first)
-  where
-    go : (x : Bool) → FirstIs P (cond x (Lines row (first ∷ rows) ∷ gs) (Lines row [] ∷ Lines first rows ∷ gs))
-    go true = h
-    go false = h
+    go : (gs all : List Group) → Onto row gs all → FirstIs P all
+    go _ _ (AsSingle gs) = h
+    go _ _ _ = h
 
 abbrev pub span-begins : (options : ParseOptions) (bytes : List ℕ) (row : Row) (rows : List Row) →
     AreSpan options bytes row rows → IsSpanLine options bytes row

@@ -4,8 +4,8 @@ use Rattle.md_engine.specs.declared.tokenizer.held_leaf.HeldLeaf.{HeldLeaf}
 use Rattle.md_outline.specs.Roles.{is_plain}
 use Rattle.std.proofs.Common.{◌≡◌, ℕ, Bool, true, false, List, [], ◌∷◌, ◌++◌, map, refl, sym, subst}
 use Rattle.md_frame.specs.EndingName.{ending_name}
-use Rattle.md_rows.specs.Rows.{Headed, LeafLines, Turned, final_row, first_row, front_done, group_done, Group, Lines}
-use Rattle.md_rows.specs.Rows.{Single, group_events, groups, groups_events, tail_events, group_ending, is_blank_group}
+use Rattle.md_rows.specs.Rows.{final_row, first_row, front_done, group_done, Group, group_events, groups, groups_events}
+use Rattle.md_rows.specs.Rows.{tail_events, group_ending, is_blank_group}
 use Rattle.std.specs.Prelude.{Option, Some, None}
 use Rattle.std.specs.List.{list_all}
 use Rattle.std.specs.Str.{IsUtf8}
@@ -26,11 +26,12 @@ use Rattle.md_frame.specs.RestLine.{rest_line}
 use Rattle.md_frame.specs.Row.{Row, ending_events}
 use Rattle.md_frame.specs.ContainerNames.{container_name, shape_of}
 use Rattle.md_rows.proofs.ContainedLemmas.{contained-shapes}
-use Rattle.md_rows.proofs.EachRow.{EachGroup, EachRow, OfGroup, groups-each, last-each}
+use Rattle.md_rows.proofs.EachRow.{EachGroup, EachRow, final-each, first-each, groups-each}
 use Rattle.md_frame.proofs.FrontFacts.{Begins, Behind, LinePrefix, Goes}
 use Rattle.md_rows.proofs.PartedRows.{rows-parted}
 use Rattle.md_rows.proofs.Text.Parted.{rest-clear}
 use Rattle.md_frame.proofs.FrontStands.{plain-front}
+use Rattle.md_rows.proofs.LineBehind.{first-line}
 use Rattle.md_rows.proofs.RowFacts.{AreRows, IsLine, behind_line}
 use Rattle.md_frame.proofs.PlainFacts.{ArePlain, Untold, plain-append, plain-nil, plain-untold}
 use Rattle.md_frame.proofs.PartedFacts.{clear}
@@ -101,21 +102,6 @@ ending-untold : (blank : Bool) → Untold (role (ending_name blank))
 ending-untold true = (refl, refl)
 ending-untold false = (refl, refl)
 
--- of a group, the first line and the last
-first-plain : (bytes : List ℕ) (group : Group) → OfGroup (IsPlainRow bytes) group → IsPlainRow bytes (first_row group)
-first-plain bytes (Single row) h = h
-first-plain bytes (Lines row rows) h = h.0
-first-plain bytes (Turned row rows under) h = h.0
-first-plain bytes (Headed row next rows) h = h.0
-first-plain bytes (LeafLines row rows) h = h.0
-
-final-plain : (bytes : List ℕ) (group : Group) → OfGroup (IsPlainRow bytes) group → IsPlainRow bytes (final_row group)
-final-plain bytes (Single row) h = h
-final-plain bytes (Lines row rows) h = last-each (IsPlainRow bytes) row rows h.0 h.1
-final-plain bytes (Turned row rows under) h = h.2
-final-plain bytes (Headed row next rows) h = last-each (IsPlainRow bytes) next rows h.1 h.2
-final-plain bytes (LeafLines row rows) h = last-each (IsPlainRow bytes) row rows h.0 h.1
-
 -- groups of such rows
 abbrev PlainGroups : ParseOptions → List ℕ → List Name → Point → List Group → Type 0
 PlainGroups options bytes names p gs = EachGroup (IsPlainRow bytes) gs → ArePlain bytes (groups_events options bytes gs)
@@ -128,9 +114,9 @@ plain-by_groups options bytes = record {
       plain-append bytes (group_events options bytes group) (groups_events options bytes gs)
       (plain-line bytes (group_ending group) (front_done bytes row) (group_done options bytes group) (final_row group)
       (ending-untold (is_blank_group group))
-      (final-plain bytes group h.0).closed_after
+      (final-each (IsPlainRow bytes) group h.0).closed_after
       (plain-front bytes row.change.opens p row.first (front_done bytes row) o.front_read.is)
-      (o.leaf.1.plain (first-plain bytes group h.0).first))
+      (o.leaf.1.plain (first-each (IsPlainRow bytes) group h.0).first))
       (on h.1);
 }
 
@@ -151,15 +137,6 @@ line-shown options bytes open_before still p line row at h =
     (fronts-shown bytes row.change.opens p row.first row.front at.front) in
     (subst (λ (x : Change). AreShown x.closes) (sym at.change) parts.1, shown-append c.stays c.opens parts.0 opens)
 
--- the first line
-first-line : (options : ParseOptions) (bytes : List ℕ) (open_before : List Container) (still : HeldLeaf) (p : Point)
-    (line : List ℕ) (lines : List (List ℕ)) (row : Row) (rows : List Row) →
-    AreRows options bytes open_before still p (line ∷ lines) (row ∷ rows) →
-    IsLine options bytes open_before still p line row
-first-line options bytes open_before still p line [] row [] h = h.0
-first-line options bytes open_before still p line (next ∷ lines) row (below ∷ rows) h = h.0
-first-line options bytes open_before still p line lines row rows h = absurd h
-
 line-plain : (options : ParseOptions) (bytes : List ℕ) (open_before : List Container) (still : HeldLeaf) (p : Point)
     (line : List ℕ) (row : Row) →
     IsLine options bytes open_before still p line row → AreShown row.closed_after → IsPlainRow bytes row
@@ -177,7 +154,7 @@ plain-rows options bytes open_before still p (line ∷ next ∷ lines) (row ∷ 
     let behind : List Container = behind_line options open_before still p line in
     let here = line-shown options bytes open_before still p line row h.0 shown in
     let there = line-shown options bytes behind row.behind h.2 next below
-    (first-line options bytes behind row.behind h.2 next lines below rows h.5) here.1 in (
+    (first-line options bytes behind row.behind h.2 (next ∷ lines) below rows h.5) here.1 in (
       line-plain options bytes open_before still p line row h.0 (subst AreShown (sym h.1) there.0),
       plain-rows options bytes behind row.behind h.2 (next ∷ lines) (below ∷ rows) h.5 here.1,
     )

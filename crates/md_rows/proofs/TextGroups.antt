@@ -1,10 +1,10 @@
 -- Lines of text in front of the groups of the lines behind them.
 use Rattle.std.proofs.Common.{◌≡◌, Bool, true, false, cond, ◌&&◌, List, [], ◌∷◌, refl}
 use Rattle.std.specs.Prelude.{Option, Some, None}
-use Rattle.md_registry.specs.Registry.{leaf}
-use Rattle.md_frame.specs.Row.{BlankRow, LeafRow, Row, RowKind, TextRow}
-use Rattle.md_rows.specs.Rows.{Group, Headed, Lines, Single, LeafLines}
-use Rattle.md_rows.specs.Rows.{Turned, goes_on, groups, is_further, is_last, onto_groups, onto_leaf, takes_head}
+use Rattle.md_frame.specs.Row.{Row, RowKind, TextRow}
+use Rattle.md_rows.proofs.EachRow.{AsSpan, OfSpan, Onto, onto}
+use Rattle.md_rows.specs.Rows.{Group, Headed, Lines, Single, LeafLines, Turned, goes_on, groups, is_further, is_last}
+use Rattle.md_rows.specs.Rows.{onto_groups, takes_head}
 
 -- lines of text, and the line that turns them if one does
 abbrev pub text_group : Option Row → Row → List Row → Group
@@ -67,29 +67,14 @@ abbrev pub HeadsNone : List Group → Type 0
 HeadsNone (LeafLines first rows ∷ gs) = (is_further first.kind first.on && takes_head first.kind) ≡ false
 HeadsNone gs = Unit {0}
 
-leaf-unheaded : (ends : Bool) (row : Row) (gs : List Group) →
-    (is_further row.kind row.on && takes_head row.kind) ≡ false → HeadsNone (onto_leaf ends row gs)
-leaf-unheaded true row gs none = tt
-leaf-unheaded false row [] none = none
-leaf-unheaded false row (Single below ∷ gs) none = none
-leaf-unheaded false row (Lines below rows ∷ gs) none = none
-leaf-unheaded false row (Turned below rows under ∷ gs) none = none
-leaf-unheaded false row (Headed below next rows ∷ gs) none = none
-leaf-unheaded false row (LeafLines below rows ∷ gs) none = go (is_further below.kind below.on)
-  where
-    go : (x : Bool) → HeadsNone (cond x (LeafLines row (below ∷ rows) ∷ gs) (LeafLines row [] ∷ LeafLines below rows ∷ gs))
-    go true = none
-    go false = none
-
 pub onto-unheaded : (row : Row) (kind : RowKind) (gs : List Group) →
     (is_further row.kind row.on && takes_head row.kind) ≡ false → HeadsNone (onto_groups row kind gs)
-onto-unheaded row BlankRow gs none = tt
-onto-unheaded row (LeafRow l) gs none = leaf-unheaded (leaf l).ends row gs none
-onto-unheaded row TextRow gs none = lines-first HeadsNone row gs text (λ next more rest same heads. tt)
+onto-unheaded row kind gs none = go gs _ (onto row kind gs)
   where
-    text : (o : Option Row) (more : List Row) (rest : List Group) → HeadsNone (text_group o row more ∷ rest)
-    text None more rest = tt
-    text (Some under) more rest = tt
+    go : (gs all : List Group) → Onto row gs all → HeadsNone all
+    go _ _ (AsSpan gs) = none
+    go _ _ (OfSpan below rows gs) = none
+    go _ _ _ = tt
 
 pub groups-unheaded : (row : Row) (rows : List Row) → row.kind ≡ TextRow → NoHeads (row ∷ rows) → HeadsNone (groups rows)
 groups-unheaded row [] e none = tt

@@ -2,8 +2,8 @@
 -- read.
 use Rattle.md_engine.specs.declared.tokenizer.held_leaf.HeldLeaf.TheVariants as held_leaf
 use Rattle.md_engine.specs.declared.tokenizer.held_leaf.HeldLeaf.{HeldLeaf}
-use Rattle.std.proofs.Common.{◌≡◌, ℕ, Bool, true, false, cond, ◌&&◌, List, [], ◌∷◌, ◌++◌, length, refl, subst}
-use Rattle.std.proofs.Common.{append-nil, ap, ◌∙◌}
+use Rattle.std.proofs.Common.{◌≡◌, ℕ, true, ◌&&◌, List, [], ◌∷◌, ◌++◌, length, refl, subst, append-nil, ap, ◌∙◌}
+use Rattle.md_rows.proofs.EachRow.{AsSingle, Onto, onto}
 use Rattle.md_rows.proofs.NestedRows.{ByGroups, rows-hold}
 use Rattle.std.specs.Prelude.{Option, Some, None}
 use Rattle.std.proofs.lemmas.Bool.{and_from, eq-eqb}
@@ -20,10 +20,8 @@ use Rattle.md_seam.proofs.InlineLemmas.{same-refl}
 use Rattle.md_frame.specs.ContainerNames.{container_name}
 use Rattle.md_registry.specs.Registry.{leaf}
 use Rattle.md_frame.specs.Change.{ends_of}
-use Rattle.md_rows.specs.Rows.{Headed, LeafLines, Turned, final_row, first_row, group_ending, is_further, onto_leaf}
-use Rattle.md_rows.specs.Rows.{takes_head, Group, Lines, Single, goes_on as joins_on, groups, is_last, onto_groups}
-use Rattle.md_rows.specs.Rows.{tail_events}
-use Rattle.md_frame.specs.Row.{LeafRow, BlankRow, Row, RowKind, TextRow, behind_row, ending_events, last_row}
+use Rattle.md_rows.specs.Rows.{final_row, first_row, group_ending, Group, groups, tail_events}
+use Rattle.md_frame.specs.Row.{Row, behind_row, ending_events}
 use Rattle.md_rows.specs.BlockList.{group_unread, tabled_group, tabled_groups}
 use Rattle.md_rows.proofs.JoinedLemmas.{behind-is, behind-none}
 use Rattle.md_frame.proofs.PiecesLemmas.{Follows, Covered, follows-append, follows-tiled, tiled-append, tiled-none}
@@ -92,54 +90,10 @@ laid-by_groups options bytes = record {
 }
 
 -- a line in front of groups ends where they begin
-leaf-behind : (p : Point) (row : Row) (ends : Bool) (gs : List Group) →
-    behind_groups p (onto_leaf ends row gs) ≡ behind_groups (behind_row row) gs
-leaf-behind p row true gs = refl
-leaf-behind p row false [] = refl
-leaf-behind p row false (Single below ∷ gs) = refl
-leaf-behind p row false (Lines below rows ∷ gs) = refl
-leaf-behind p row false (Turned below rows under ∷ gs) = refl
-leaf-behind p row false (Headed below next rows ∷ gs) = refl
-leaf-behind p row false (LeafLines below rows ∷ gs) = go (is_further below.kind below.on)
-  where
-    go : (x : Bool) →
-        behind_groups p (cond x (LeafLines row (below ∷ rows) ∷ gs) (LeafLines row [] ∷ LeafLines below rows ∷ gs)) ≡
-        behind_groups (behind_row (last_row below rows)) gs
-    go true = refl
-    go false = refl
-
-onto-behind : (p : Point) (row : Row) (kind : RowKind) (gs : List Group) →
-    behind_groups p (onto_groups row kind gs) ≡ behind_groups (behind_row row) gs
-onto-behind p row BlankRow gs = refl
-onto-behind p row (LeafRow l) gs = leaf-behind p row (leaf l).ends gs
-onto-behind p row TextRow [] = refl
-onto-behind p row TextRow (Single below ∷ gs) = refl
-onto-behind p row TextRow (Turned below rows under ∷ gs) = go (joins_on row below)
-  where
-    go : (x : Bool) →
-        behind_groups p (cond x (Turned row (below ∷ rows) under ∷ gs) (Lines row [] ∷ Turned below rows under ∷ gs)) ≡
-        behind_groups (behind_row under) gs
-    go true = refl
-    go false = refl
-onto-behind p row TextRow (Headed below next rows ∷ gs) = refl
-onto-behind p row TextRow (LeafLines below rows ∷ gs) = go (is_further below.kind below.on) (takes_head below.kind) rows
-  where
-    go : (x y : Bool) (rows : List Row) →
-        behind_groups p
-        (cond (x && y) (Headed row below rows ∷ gs)
-        (cond (x && is_last rows) (Turned row [] below ∷ gs) (Lines row [] ∷ LeafLines below rows ∷ gs))) ≡
-        behind_groups (behind_row (last_row below rows)) gs
-    go true true rows = refl
-    go true false [] = refl
-    go true false (next ∷ rows) = refl
-    go false y rows = refl
-onto-behind p row TextRow (Lines below rows ∷ gs) = go (joins_on row below)
-  where
-    go : (x : Bool) →
-        behind_groups p (cond x (Lines row (below ∷ rows) ∷ gs) (Lines row [] ∷ Lines below rows ∷ gs)) ≡
-        behind_groups (behind_row (last_row below rows)) gs
-    go true = refl
-    go false = refl
+onto-behind : (p : Point) (row : Row) (gs all : List Group) → Onto row gs all →
+    behind_groups p all ≡ behind_groups (behind_row row) gs
+onto-behind p row _ _ (AsSingle gs) = refl
+onto-behind p row _ _ _ = refl
 
 -- the groups of a text end where it does
 groups-reach : (options : ParseOptions) (bytes : List ℕ) (open_before : List Container) (still : HeldLeaf) (p : Point)
@@ -150,10 +104,10 @@ groups-reach options bytes open_before still p (line ∷ []) (row ∷ []) are =
     let is : IsLine options bytes open_before still p line row = are.0 in
     let at_end : same_place row.end (end_point bytes) ≡
     true = and_from _ _ (eq-eqb row.end.index (length bytes) are.3) (eq-eqb row.end.vs 0 is.is.end_whole) in
-    ap (λ (q : Point). same_place q (end_point bytes)) (onto-behind p row row.kind [] ∙ behind-none row are.2) ∙ at_end
+    ap (λ (q : Point). same_place q (end_point bytes)) (onto-behind p row [] _ (onto row row.kind []) ∙ behind-none row are.2) ∙ at_end
 groups-reach options bytes open_before still p (line ∷ next ∷ lines) (row ∷ below ∷ rows) are =
     ap (λ (q : Point). same_place q (end_point bytes))
-    (onto-behind p row row.kind (groups (below ∷ rows))
+    (onto-behind p row (groups (below ∷ rows)) _ (onto row row.kind (groups (below ∷ rows)))
     ∙ ap (λ (q : Point). behind_groups q (groups (below ∷ rows))) (behind-is row are.2 are.3))
     ∙ groups-reach options bytes (behind_line options open_before still p line) row.behind are.2 (next ∷ lines)
     (below ∷ rows) are.5
