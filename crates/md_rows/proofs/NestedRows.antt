@@ -93,50 +93,33 @@ pub record ByGroups (options : ParseOptions) (bytes : List ℕ) (P : List Name �
         Keeps names group kept →
         P kept (behind_row (final_row group)) gs → P names p (group ∷ gs)
 
--- lines of text in front of groups, as far as they are known
-record Lined (options : ParseOptions) (bytes : List ℕ) (P : List Name → Point → List Group → Type 0) (names : List Name)
-    (p : Point) (row : Row) (rows : List Row) (gs : List Group) : Type 0 where
-  front : LinePrefix bytes row.change.opens p row.first row.front
-  front_read : ReadFront bytes row.change.opens p row.first row.front
-  are : AreLines options bytes row rows
-  ends : IsTrue (at_or_before (last_row row rows).end (behind_row (last_row row rows)))
+-- A group in front of others, as far as it is known: what its lines are, by the first and the last.
+record Known (bytes : List ℕ) (P : List Name → Point → List Group → Type 0) (names : List Name) (p : Point)
+    (first last : Row) (Lines_are : Type 0) (gs : List Group) : Type 0 where
+  front : LinePrefix bytes first.change.opens p first.first first.front
+  front_read : ReadFront bytes first.change.opens p first.first first.front
+  are : Lines_are
+  ends : IsTrue (at_or_before last.end (behind_row last))
   kept : List Name
-  keeps : Keeps names (Lines row rows) kept
-  more : P kept (behind_row (last_row row rows)) gs
+  keeps : open_names first.change.opens ++ names ≡ open_names last.closed_after ++ kept
+  more : P kept (behind_row last) gs
 
--- lines of text and the one that turns them in front of groups
-record UnderLined (options : ParseOptions) (bytes : List ℕ) (P : List Name → Point → List Group → Type 0)
-    (names : List Name) (p : Point) (row : Row) (rows : List Row) (under : Row) (gs : List Group) : Type 0 where
-  front : LinePrefix bytes row.change.opens p row.first row.front
-  front_read : ReadFront bytes row.change.opens p row.first row.front
+-- lines of text and the one that turns them
+record AreTurned (options : ParseOptions) (bytes : List ℕ) (row : Row) (rows : List Row) (under : Row) : Type 0 where
   are : AreLines options bytes row rows
   is : IsUnder options bytes (last_row row rows) under
   closed_after : Leaves options bytes row rows are
-  ends : IsTrue (at_or_before under.end (behind_row under))
-  kept : List Name
-  keeps : Keeps names (Turned row rows under) kept
-  more : P kept (behind_row under) gs
-
--- lines of a leaf of several in front of groups
-record Spanned (options : ParseOptions) (bytes : List ℕ) (P : List Name → Point → List Group → Type 0)
-    (names : List Name) (p : Point) (row : Row) (rows : List Row) (gs : List Group) : Type 0 where
-  front : LinePrefix bytes row.change.opens p row.first row.front
-  front_read : ReadFront bytes row.change.opens p row.first row.front
-  are : AreSpan options bytes row rows
-  ends : IsTrue (at_or_before (last_row row rows).end (behind_row (last_row row rows)))
-  kept : List Name
-  keeps : Keeps names (LeafLines row rows) kept
-  more : P kept (behind_row (last_row row rows)) gs
 
 -- lines with which groups begin
 abbrev Begun : ParseOptions → List ℕ → (List Name → Point → List Group → Type 0) → List Name → Point → List Group →
     Type 0
-Begun options bytes P names p [] = Unit {0}
-Begun options bytes P names p (Single row ∷ gs) = Unit {0}
-Begun options bytes P names p (Headed row next rows ∷ gs) = Unit {0}
-Begun options bytes P names p (Lines row rows ∷ gs) = Lined options bytes P names p row rows gs
-Begun options bytes P names p (Turned row rows under ∷ gs) = UnderLined options bytes P names p row rows under gs
-Begun options bytes P names p (LeafLines row rows ∷ gs) = Spanned options bytes P names p row rows gs
+Begun options bytes P names p (Lines row rows ∷ gs) =
+    Known bytes P names p row (last_row row rows) (AreLines options bytes row rows) gs
+Begun options bytes P names p (Turned row rows under ∷ gs) =
+    Known bytes P names p row under (AreTurned options bytes row rows under) gs
+Begun options bytes P names p (LeafLines row rows ∷ gs) =
+    Known bytes P names p row (last_row row rows) (AreSpan options bytes row rows) gs
+Begun options bytes P names p _ = Unit {0}
 
 -- a line has an ending if more follows
 abbrev Ended : List ℕ → Row → List Group → Type 0
@@ -160,67 +143,57 @@ module _ (options : ParseOptions) (bytes line : List ℕ) (P : List Name → Poi
   abbrev Both_of : List Group → Type 0
   Both_of groups = (FirstBegins groups → P names p groups) × Begun options bytes P names p groups
 
+  -- it holds of a group that is known, if its lines are its leaf
+  known-holds : (group : Group) (gs : List Group) (A : Type 0) →
+      Known bytes P names p (first_row group) (final_row group) A gs → IsGroupLeaf options bytes group →
+      P names p (group ∷ gs)
+  known-holds group gs A known leaf =
+      by.group names known.kept p group gs
+      (record { front = known.front; front_read = known.front_read; leaf = leaf; ends = known.ends }) known.keeps
+      known.more
+
+  -- a line that no line continues
+  alone : (A : Type 0) → A → (gs : List Group) → P kept (behind_row row) gs → Known bytes P names p row row A gs
+  alone A are gs h = record {
+    front = begun.front;
+    front_read = begun.front_read;
+    are = are;
+    ends = begun.ends;
+    kept = kept;
+    keeps = begun.keeps;
+    more = h;
+  }
+
   -- a line that is a group of its own
   single-holds : row.kind ≢ TextRow → EndsOnLine row.kind → (gs : List Group) → P kept (behind_row row) gs →
       Both_of (Single row ∷ gs)
   single-holds other ends gs h = (
-    λ begins. by.group names kept p (Single row) gs
-        (record {
-          front = begun.front;
-          front_read = begun.front_read;
-          leaf = single-leaf options bytes line row begun.is other ends;
-          ends = begun.ends;
-        })
-        begun.keeps h,
+    λ begins. known-holds (Single row) gs (Unit {0}) (alone (Unit {0}) tt gs h)
+        (single-leaf options bytes line row begun.is other ends),
     tt,
   )
 
   -- lines of text
-  text-holds : (rows : List Row) (gs : List Group) → Lined options bytes P names p row rows gs →
+  text-holds : (rows : List Row) (gs : List Group) → Begun options bytes P names p (Lines row rows ∷ gs) →
       Both_of (Lines row rows ∷ gs)
-  text-holds rows gs lined = (
-    λ begins. by.group names lined.kept p (Lines row rows) gs
-        (record {
-          front = lined.front;
-          front_read = lined.front_read;
-          leaf = text-leaf options bytes row rows lined.are;
-          ends = lined.ends;
-        })
-        lined.keeps lined.more,
-    lined,
-  )
+  text-holds rows gs lined =
+      (λ begins. known-holds (Lines row rows) gs _ lined (text-leaf options bytes row rows lined.are), lined)
 
   -- lines of text with the one that turns them
   turned-holds : (rows : List Row) (under : Row) (gs : List Group) →
-      UnderLined options bytes P names p row rows under gs → Both_of (Turned row rows under ∷ gs)
+      Begun options bytes P names p (Turned row rows under ∷ gs) → Both_of (Turned row rows under ∷ gs)
   turned-holds rows under gs lined = (
-    λ begins. by.group names lined.kept p (Turned row rows under) gs
-        (record {
-          front = lined.front;
-          front_read = lined.front_read;
-          leaf =
-              turned-leaf options bytes row rows under lined.are lined.is
-              (leaves-left options bytes row rows lined.are lined.closed_after begins);
-          ends = lined.ends;
-        })
-        lined.keeps lined.more,
+    λ begins. known-holds (Turned row rows under) gs _ lined
+        (turned-leaf options bytes row rows under lined.are.are lined.are.is
+        (leaves-left options bytes row rows lined.are.are lined.are.closed_after begins)),
     lined,
   )
 
   -- lines of a leaf of several
-  span-holds : (rows : List Row) (gs : List Group) → Spanned options bytes P names p row rows gs →
+  span-holds : (rows : List Row) (gs : List Group) → Begun options bytes P names p (LeafLines row rows ∷ gs) →
       Both_of (LeafLines row rows ∷ gs)
-  span-holds rows gs spanned = (
-    λ begins. by.group names spanned.kept p (LeafLines row rows) gs
-        (record {
-          front = spanned.front;
-          front_read = spanned.front_read;
-          leaf = span-group options bytes row rows spanned.are begins;
-          ends = spanned.ends;
-        })
-        spanned.keeps spanned.more,
-    spanned,
-  )
+  span-holds rows gs spanned =
+      (λ begins. known-holds (LeafLines row rows) gs _ spanned (span-group options bytes row rows spanned.are begins), spanned)
 
   -- where no leaf is open after the line, the next line begins one, so it holds of the groups below
   fresh-holds : (gs : List Group) → EndsOnLine row.kind → row.kind ≢ TextRow → FirstIs (IsBehind bytes q row) gs →
@@ -231,16 +204,7 @@ module _ (options : ParseOptions) (bytes line : List ℕ) (P : List Name → Poi
   -- a line of text that no line continues
   alone-holds : row.kind ≡ TextRow → (gs : List Group) → P kept (behind_row row) gs → Both_of (Lines row [] ∷ gs)
   alone-holds e gs h =
-      text-holds [] gs
-      (record {
-        front = begun.front;
-        front_read = begun.front_read;
-        are = (line, begun.is, e);
-        ends = begun.ends;
-        kept = kept;
-        keeps = begun.keeps;
-        more = h;
-      })
+      text-holds [] gs (alone (AreLines options bytes row []) (line, begun.is, e) gs h)
 
   -- the prefixes of a line that continues this one, from the point after the ending of this one
   further-prefixes : (next : Row) (to : Point) → row.after ≡ Some to → next.change.opens ≡ [] →
@@ -260,6 +224,19 @@ module _ (options : ParseOptions) (bytes line : List ℕ) (P : List Name → Poi
       ∙ ap (λ (cs : List Container). open_names cs ++ kept) (sym opens)
       ∙ keeps
 
+  -- a group that begins with the line behind this one begins with this one
+  longer : (A B : Type 0) → A → (next last : Row) (gs : List Group) → row.closed_after ≡ [] → next.change.opens ≡ [] →
+      Known bytes P kept (behind_row row) next last B gs → Known bytes P names p row last A gs
+  longer A B are next last gs leaves opens below = record {
+    front = begun.front;
+    front_read = begun.front_read;
+    are = are;
+    ends = below.ends;
+    kept = below.kept;
+    keeps = keeps-both next last below.kept leaves opens below.keeps;
+    more = below.more;
+  }
+
   -- a line of a leaf of several
   span_row-holds : (l : LeafName) → row.kind ≡ LeafRow l → (leaf l).ends ≡ false → (gs : List Group) → Ended bytes row gs →
       FirstIs (IsBehind bytes q row) gs → Begun options bytes P kept (behind_row row) gs →
@@ -277,25 +254,11 @@ module _ (options : ParseOptions) (bytes line : List ℕ) (P : List Name → Poi
       }
 
       one : (gs : List Group) → P kept (behind_row row) gs → Both_of (LeafLines row [] ∷ gs)
-      one gs h =
-          span-holds [] gs
-          (record {
-            front = begun.front;
-            front_read = begun.front_read;
-            are = is;
-            ends = begun.ends;
-            kept = kept;
-            keeps = begun.keeps;
-            more = h;
-          })
+      one gs h = span-holds [] gs (alone (AreSpan options bytes row []) is gs h)
 
       go : (gs : List Group) → Ended bytes row gs → FirstIs (IsBehind bytes q row) gs →
           Begun options bytes P kept (behind_row row) gs → (FirstBegins gs → P kept (behind_row row) gs) →
           Both_of (onto_leaf false row gs)
-      go [] ended first below h = one [] (h tt)
-      go (Single next ∷ gs) ended first below h = one (Single next ∷ gs) (h tt)
-      go (Lines next rows ∷ gs) ended first below h = one (Lines next rows ∷ gs) (h tt)
-      go (Headed next below_it rows ∷ gs) ended first below h = one (Headed next below_it rows ∷ gs) (h tt)
       go (Turned next rows under ∷ gs) ended first below h =
           one (Turned next rows under ∷ gs)
           (h (behind-fresh bytes q row next first (leaf-fresh options bytes line row l begun.is e)))
@@ -306,25 +269,19 @@ module _ (options : ParseOptions) (bytes line : List ℕ) (P : List Name → Poi
           joins false f = one (LeafLines next rows ∷ gs) (h f)
           joins true f =
               let met = first.met f in
-              span-holds (next ∷ rows) gs (record {
-                front = begun.front;
-                front_read = begun.front_read;
-                are = (
-                  is,
-                  ended.0,
-                  ended.1,
-                  ended.2,
-                  further-prefixes next ended.0 ended.1 met.1 below.front,
-                  met.0,
-                  met.2,
-                  f,
-                  below.are,
-                );
-                ends = below.ends;
-                kept = below.kept;
-                keeps = keeps-both next (last_row next rows) below.kept met.0 met.1 below.keeps;
-                more = below.more;
-              })
+              span-holds (next ∷ rows) gs
+              (longer (AreSpan options bytes row (next ∷ rows)) _ (
+                is,
+                ended.0,
+                ended.1,
+                ended.2,
+                further-prefixes next ended.0 ended.1 met.1 below.front,
+                met.0,
+                met.2,
+                f,
+                below.are,
+              ) next (last_row next rows) gs met.0 met.1 below)
+      go gs ended first below h = one gs (h tt)
 
   -- lines of text that continue this one are lines of text with it
   abbrev text-longer : row.kind ≡ TextRow → (next : Row) (rows : List Row) (gs : List Group) →
@@ -350,45 +307,36 @@ module _ (options : ParseOptions) (bytes line : List ℕ) (P : List Name → Poi
 
   -- a line of text before the line that turns it
   underline-holds : row.kind ≡ TextRow → (next : Row) (gs : List Group) → Ended bytes row (LeafLines next [] ∷ gs) →
-      IsBehind bytes q row next → Spanned options bytes P kept (behind_row row) next [] gs →
+      IsBehind bytes q row next → Begun options bytes P kept (behind_row row) (LeafLines next [] ∷ gs) →
       is_further next.kind next.on ≡ true → takes_head next.kind ≡ false → Both_of (Turned row [] next ∷ gs)
   underline-holds e next gs ended first below f headless =
       let met = first.met f in
       let is : IsSpanLine options bytes next = below.are in
       let text = text-open options bytes row [] (line, begun.is, e) in
       let behind : IsBehind bytes ended.0 row next = behind-ending next ended.0 ended.1 below.front first in
-      turned-holds [] next gs (record {
-        front = begun.front;
-        front_read = begun.front_read;
+      turned-holds [] next gs
+      (longer (AreTurned options bytes row [] next) _
+      (record {
         are = (line, begun.is, e);
         is =
             text-under options bytes line row ended.0 next ended.1 ended.2 behind f headless is
             (further-quiet options bytes is.line next is.name text.0 is.is is.kind (met.2 ∙ text.1) f headless);
         closed_after = under-leaves options bytes line row next begun.is e is met.2 f headless;
-        ends = below.ends;
-        kept = below.kept;
-        keeps = keeps-both next next below.kept met.0 met.1 below.keeps;
-        more = below.more;
-      })
+      }) next next gs met.0 met.1 below)
 
   -- a line of text before the lines of a table that take it as their head
   headed-holds : row.kind ≡ TextRow → (next : Row) (rows : List Row) (gs : List Group) →
       Ended bytes row (LeafLines next rows ∷ gs) → IsBehind bytes q row next →
-      Spanned options bytes P kept (behind_row row) next rows gs → is_further next.kind next.on ≡ true →
+      Begun options bytes P kept (behind_row row) (LeafLines next rows ∷ gs) → is_further next.kind next.on ≡ true →
       takes_head next.kind ≡ true → Both_of (Headed row next rows ∷ gs)
   headed-holds e next rows gs ended first below f heads =
       let met = first.met f in
       let behind : IsBehind bytes ended.0 row next = behind-ending next ended.0 ended.1 below.front first in
       let head : IsHead options bytes row next =
       text-head options bytes line row ended.0 next begun.is e ended.1 ended.2 behind f heads in (
-        λ begins. by.group names below.kept p (Headed row next rows) gs
-            (record {
-              front = begun.front;
-              front_read = begun.front_read;
-              leaf = headed-leaf options bytes row next rows head below.are;
-              ends = below.ends;
-            })
-            (keeps-both next (last_row next rows) below.kept met.0 met.1 below.keeps) below.more,
+        λ begins. known-holds (Headed row next rows) gs (Unit {0})
+            (longer (Unit {0}) _ tt next (last_row next rows) gs met.0 met.1 below)
+            (headed-leaf options bytes row next rows head below.are),
         tt,
       )
 
@@ -396,38 +344,31 @@ module _ (options : ParseOptions) (bytes line : List ℕ) (P : List Name → Poi
   text_row-holds : row.kind ≡ TextRow → (gs : List Group) → Ended bytes row gs → FirstIs (IsBehind bytes q row) gs →
       Begun options bytes P kept (behind_row row) gs → (FirstBegins gs → P kept (behind_row row) gs) →
       Both_of (onto_groups row TextRow gs)
-  text_row-holds e [] ended first below h = alone-holds e [] (h tt)
-  text_row-holds e (Single next ∷ gs) ended first below h = alone-holds e (Single next ∷ gs) (h tt)
-  text_row-holds e (Headed next below_it rows ∷ gs) ended first below h = alone-holds e (Headed next below_it rows ∷ gs) (h tt)
   text_row-holds e (Turned next rows under ∷ gs) ended first below h = joins (goes_on row next) refl
     where
       joins : (x : Bool) → goes_on row next ≡ x →
           Both_of (cond x (Turned row (next ∷ rows) under ∷ gs) (Lines row [] ∷ Turned next rows under ∷ gs))
       joins false k =
           alone-holds e (Turned next rows under ∷ gs)
-          (h (unjoined-fresh bytes q row next first (first-text options bytes next rows below.are) k))
+          (h (unjoined-fresh bytes q row next first (first-text options bytes next rows below.are.are) k))
       joins true k =
           let parts = and_parts (is_none row.closed_after) (is_none next.change.opens) k in
           let leaves : row.closed_after ≡ [] = none-nil row.closed_after parts.0 in
           let opens : next.change.opens ≡ [] = none-nil next.change.opens parts.1 in
-          turned-holds (next ∷ rows) under gs (record {
-            front = begun.front;
-            front_read = begun.front_read;
-            are = text-longer e next rows gs ended opens below.front below.are;
-            is = below.is;
+          turned-holds (next ∷ rows) under gs
+          (longer (AreTurned options bytes row (next ∷ rows) under) _
+          (record {
+            are = text-longer e next rows gs ended opens below.front below.are.are;
+            is = below.are.is;
             closed_after =
-                leaves-longer options bytes line row next rows below.are begun.is e
-                (behind-on bytes q row next first opens) below.closed_after;
-            ends = below.ends;
-            kept = below.kept;
-            keeps = keeps-both next under below.kept leaves opens below.keeps;
-            more = below.more;
-          })
+                leaves-longer options bytes line row next rows below.are.are begun.is e
+                (behind-on bytes q row next first opens) below.are.closed_after;
+          }) next under gs leaves opens below)
   text_row-holds e (LeafLines next rows ∷ gs) ended first below h =
       joins rows (is_further next.kind next.on) refl (takes_head next.kind) refl below h
     where
       joins : (rows : List Row) (x : Bool) → is_further next.kind next.on ≡ x → (y : Bool) →
-          takes_head next.kind ≡ y → Spanned options bytes P kept (behind_row row) next rows gs →
+          takes_head next.kind ≡ y → Begun options bytes P kept (behind_row row) (LeafLines next rows ∷ gs) →
           (Begins next → P kept (behind_row row) (LeafLines next rows ∷ gs)) →
           Both_of
           (cond (x && y) (Headed row next rows ∷ gs)
@@ -448,15 +389,10 @@ module _ (options : ParseOptions) (bytes line : List ℕ) (P : List Name → Poi
           let parts = and_parts (is_none row.closed_after) (is_none next.change.opens) k in
           let leaves : row.closed_after ≡ [] = none-nil row.closed_after parts.0 in
           let opens : next.change.opens ≡ [] = none-nil next.change.opens parts.1 in
-          text-holds (next ∷ rows) gs (record {
-            front = begun.front;
-            front_read = begun.front_read;
-            are = text-longer e next rows gs ended opens below.front below.are;
-            ends = below.ends;
-            kept = below.kept;
-            keeps = keeps-both next (last_row next rows) below.kept leaves opens below.keeps;
-            more = below.more;
-          })
+          text-holds (next ∷ rows) gs
+          (longer (AreLines options bytes row (next ∷ rows)) _
+          (text-longer e next rows gs ended opens below.front below.are) next (last_row next rows) gs leaves opens below)
+  text_row-holds e gs ended first below h = alone-holds e gs (h tt)
 
   -- a line of a leaf, by whether the leaf always ends on it
   leaf_row-holds : (l : LeafName) → row.kind ≡ LeafRow l → (ends : Bool) → (leaf l).ends ≡ ends → (gs : List Group) →
