@@ -117,28 +117,17 @@ lazy-opens still (c ∷ cs) kind e = let some = lazy-some still c cs kind in cc
 
 -- one of several lines takes no lazy line
 pub lines-unlazy : (still : HeldLeaf) → has_lines still ≡ true → takes_lazy still ≡ false
-lines-unlazy held_leaf.None lines = cc
-lines-unlazy (held_leaf.Text at) lines = cc
-lines-unlazy (held_leaf.LazyText at) lines = cc
 lines-unlazy held_leaf.Code lines = refl
-lines-unlazy (held_leaf.Fence marker size indent) lines = refl
-lines-unlazy (held_leaf.Html kind) lines = refl
-lines-unlazy held_leaf.Table lines = refl
+lines-unlazy _ lines = cc
 
 -- it may be gone on
 pub lines-open : (still : HeldLeaf) → has_lines still ≡ true → may_go_on still ≡ true
-lines-open held_leaf.None lines = cc
-lines-open (held_leaf.Text at) lines = cc
-lines-open (held_leaf.LazyText at) lines = cc
 lines-open held_leaf.Code lines = refl
-lines-open (held_leaf.Fence marker size indent) lines = refl
-lines-open (held_leaf.Html kind) lines = refl
-lines-open held_leaf.Table lines = refl
+lines-open _ lines = cc
 
 -- none such is against where its containers did not go on
 pub ended-open : (still : HeldLeaf) → may_go_on (met_by false still) ≡ false
-ended-open (held_leaf.Text at) = refl
-ended-open (held_leaf.LazyText at) = refl
+ended-open held_leaf.None = refl
 ended-open _ = refl
 
 -- no container opens on that line, and none ends in front of it

@@ -47,19 +47,13 @@ none-further options on r none = go (line_kind options on r) refl
 
 -- Where what is open is no text, a line whose containers do not all go on meets no leaf,
 pub met-none : (still : HeldLeaf) → takes_lazy still ≡ false → met_by false still ≡ held_leaf.None
-met-none (held_leaf.Text at) unlazy = cc
-met-none (held_leaf.LazyText at) unlazy = cc
-met-none _ unlazy = refl
+met-none held_leaf.None unlazy = refl
+met-none _ unlazy = cc
 
 -- and one that meets it, or no leaf, stands against no text.
 pub context-none : (on : HeldLeaf) → takes_lazy on ≡ false → IsAgainst NoText on
 context-none held_leaf.None unlazy = refl
-context-none (held_leaf.Text at) unlazy = cc
-context-none (held_leaf.LazyText at) unlazy = cc
-context-none held_leaf.Code unlazy = refl
-context-none (held_leaf.Fence marker size indent) unlazy = refl
-context-none (held_leaf.Html kind) unlazy = refl
-context-none held_leaf.Table unlazy = refl
+context-none _ unlazy = cc
 
 -- A leaf of several lines takes no lazy line.
 pub span-lazy : (options : ParseOptions) (r : Rest) (open_leaf : Leaf) → has_lines (kind_of_leaf open_leaf) ≡ true →

@@ -60,31 +60,26 @@ use Rattle.md_rows.proofs.TextProgress.{IsShut}
 pub rows-end : (options : ParseOptions) (bytes : List ℕ) (open_before : List Container) (still : HeldLeaf) (p : Point)
     (lines : List (List ℕ)) (rows : List Row) →
     AreRows options bytes open_before still p lines rows → EachEnds rows
-rows-end options bytes open_before still p lines [] h = tt
-rows-end options bytes open_before still p lines (row ∷ []) h = tt
-rows-end options bytes open_before still p [] (row ∷ below ∷ rows) h = absurd h
-rows-end options bytes open_before still p (line ∷ []) (row ∷ below ∷ rows) h = absurd h
+rows-end options bytes open_before still p (line ∷ []) (row ∷ []) h = tt
 rows-end options bytes open_before still p (line ∷ next ∷ lines) (row ∷ below ∷ rows) h = (
   h.2,
   h.3,
   rows-end options bytes (behind_line options open_before still p line) row.behind h.2 (next ∷ lines)
       (below ∷ rows) h.5,
 )
+rows-end options bytes open_before still p lines rows h = absurd h
 
 -- in front of each line of a text stand prefixes and begins of containers
 pub rows-front : (options : ParseOptions) (bytes : List ℕ) (open_before : List Container) (still : HeldLeaf) (p : Point)
     (lines : List (List ℕ)) (rows : List Row) →
     AreRows options bytes open_before still p lines rows → EachFront bytes rows
-rows-front options bytes open_before still p lines [] h = tt
-rows-front options bytes open_before still p [] (row ∷ rows) h = absurd h
 rows-front options bytes open_before still p (line ∷ []) (row ∷ []) h = ((p, h.0.front, h.0.front_read), tt)
-rows-front options bytes open_before still p (line ∷ next ∷ lines) (row ∷ []) h = absurd h
-rows-front options bytes open_before still p (line ∷ []) (row ∷ below ∷ rows) h = absurd h
 rows-front options bytes open_before still p (line ∷ next ∷ lines) (row ∷ below ∷ rows) h = (
   (p, h.0.front, h.0.front_read),
   rows-front options bytes (behind_line options open_before still p line) row.behind h.2
       (next ∷ lines) (below ∷ rows) h.5,
 )
+rows-front options bytes open_before still p lines rows h = absurd h
 
 -- Where the lines stand.
 

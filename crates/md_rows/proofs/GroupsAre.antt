@@ -21,8 +21,8 @@ use Rattle.md_frame.specs.RestLine.{rest_line}
 use Rattle.md_frame.specs.LeafName.{HeadingSetext, LeafName}
 use Rattle.md_registry.specs.Registry.{leaf}
 use Rattle.md_frame.specs.Row.{BlankRow, LeafRow, Row, RowKind, TextRow, last_row}
-use Rattle.md_rows.specs.Rows.{Group, Headed, Lines, Single, LeafLines, Turned, takes_head, groups, is_further}
-use Rattle.md_rows.specs.Rows.{line_behind, is_last, onto_groups, onto_leaf, onto_underline}
+use Rattle.md_rows.specs.Rows.{Group, Headed, Lines, LeafLines, Turned, takes_head, groups, is_further, line_behind}
+use Rattle.md_rows.specs.Rows.{is_last, onto_groups, onto_leaf, onto_underline}
 use Rattle.md_frame.proofs.FrontFacts.{LinePrefix, ReadFront}
 use Rattle.md_frame.proofs.FrontNames.{HasFront}
 use Rattle.md_rows.proofs.JoinedLemmas.{EachNoContent, HasNoContent}
@@ -53,10 +53,6 @@ AreBelow options bytes gs = AreGroups options bytes gs
 
 below-are : (options : ParseOptions) (bytes : List ℕ) (gs : List Group) → FirstBegins gs → AreBelow options bytes gs →
     AreGroups options bytes gs
-below-are options bytes [] begins are = are
-below-are options bytes (Single row ∷ gs) begins are = are
-below-are options bytes (Lines row rows ∷ gs) begins are = are
-below-are options bytes (Headed row next rows ∷ gs) begins are = are
 below-are options bytes (Turned row rows under ∷ gs) begins are = (
   are.0,
   are.1,
@@ -66,6 +62,7 @@ below-are options bytes (Turned row rows under ∷ gs) begins are = (
   leaves-left options bytes row rows are.0 are.5 begins,
 )
 below-are options bytes (LeafLines row rows ∷ gs) begins are = (are.0, are.1, are.2, are.3, begins)
+below-are options bytes gs begins are = are
 
 -- a line, with what stands in front of it
 record IsBegun (options : ParseOptions) (bytes line : List ℕ) (p : Point) (row : Row) : Type 0 where
@@ -111,12 +108,6 @@ leaf-are options bytes line p row l q gs is e after ending first are true k =
     )
 leaf-are options bytes line p row l q [] is e after ending first are false k =
     (span-line options bytes line p row l is e k, tt, tt, (is.quiet, tt))
-leaf-are options bytes line p row l q (Single below ∷ gs) is e after ending first are false k =
-    (span-line options bytes line p row l is e k, (q, after), are, (is.quiet, tt))
-leaf-are options bytes line p row l q (Lines below rows ∷ gs) is e after ending first are false k =
-    (span-line options bytes line p row l is e k, (q, after), are, (is.quiet, tt))
-leaf-are options bytes line p row l q (Headed below next rows ∷ gs) is e after ending first are false k =
-    (span-line options bytes line p row l is e k, (q, after), are, (is.quiet, tt))
 leaf-are options bytes line p row l q (Turned below rows under ∷ gs) is e after ending first are false k = (
   span-line options bytes line p row l is e k,
   (q, after),
@@ -152,6 +143,8 @@ leaf-are options bytes line p row l q (LeafLines below rows ∷ gs) is e after e
       (are.0, are.1, are.2, are.3, f),
       (is.quiet, tt),
     )
+leaf-are options bytes line p row l q gs is e after ending first are false k =
+    (span-line options bytes line p row l is e k, (q, after), are, (is.quiet, tt))
 
 -- a text goes before a line that goes on none
 text-begins : (options : ParseOptions) (bytes line : List ℕ) (p : Point) (row : Row) (q : Point) (gs : List Group) →
@@ -277,10 +270,6 @@ text-are : (options : ParseOptions) (bytes line : List ℕ) (p : Point) (row : R
     AreBelow options bytes (onto_groups row TextRow gs)
 text-are options bytes line p row q [] is e after ending first are =
     text-begins options bytes line p row q [] is e tt are
-text-are options bytes line p row q (Single below ∷ gs) is e after ending first are =
-    text-begins options bytes line p row q (Single below ∷ gs) is e (q, after) are
-text-are options bytes line p row q (Headed below next rows ∷ gs) is e after ending first are =
-    text-begins options bytes line p row q (Headed below next rows ∷ gs) is e (q, after) are
 text-are options bytes line p row q (LeafLines below rows ∷ gs) is e after ending first are =
     text-span options bytes line p row q below rows gs is e after ending first are
 text-are options bytes line p row q (Turned below rows under ∷ gs) is e after ending first are =
@@ -337,9 +326,9 @@ text-are options bytes line p row q (Lines below rows ∷ gs) is e after ending 
       (p, is.front, is.front_read),
       are.3,
     )
-    go true (c ∷ opens) k =
-        text-begins options bytes line p row q (Lines below rows ∷ gs) is e (q, after) are
-    go false opens k = text-begins options bytes line p row q (Lines below rows ∷ gs) is e (q, after) are
+    go _ _ k = text-begins options bytes line p row q (Lines below rows ∷ gs) is e (q, after) are
+text-are options bytes line p row q gs is e after ending first are =
+    text-begins options bytes line p row q gs is e (q, after) are
 
 -- a line goes before groups
 onto-are : (options : ParseOptions) (bytes line : List ℕ) (p : Point) (row : Row) (q : Point) (gs : List Group) →
@@ -386,20 +375,16 @@ line-begun options bytes open_before still p line row is quiet = record {
 groups-below : (options : ParseOptions) (bytes : List ℕ) (open_before : List Container) (still : HeldLeaf) (p : Point)
     (lines : List (List ℕ)) (rows : List Row) →
     AreRows options bytes open_before still p lines rows → EachNoContent rows → AreBelow options bytes (groups rows)
-groups-below options bytes open_before still p [] rows h k = absurd h
-groups-below options bytes open_before still p (line ∷ []) [] h k = absurd h
-groups-below options bytes open_before still p (line ∷ next ∷ lines) [] h k = absurd h
 groups-below options bytes open_before still p (line ∷ []) (row ∷ []) h k =
     last-are options bytes (rest_line (contained options open_before still (rest_from p line)).rest) p row
     (line-begun options bytes open_before still p line row h.0 k.0) row.kind refl
-groups-below options bytes open_before still p (line ∷ []) (row ∷ below ∷ rows) h k = absurd h
-groups-below options bytes open_before still p (line ∷ next ∷ lines) (row ∷ []) h k = absurd h
 groups-below options bytes open_before still p (line ∷ next ∷ lines) (row ∷ below ∷ rows) h k =
     let open_next = behind_line options open_before still p line in
     onto-are options bytes (rest_line (contained options open_before still (rest_from p line)).rest) p row h.2
     (groups (below ∷ rows)) (line-begun options bytes open_before still p line row h.0 k.0) h.3 h.4
     (first-behind options bytes open_next h.2 (next ∷ lines) row below rows h.5 h.1)
     (groups-below options bytes open_next row.behind h.2 (next ∷ lines) (below ∷ rows) h.5 k.1) row.kind refl
+groups-below options bytes open_before still p lines rows h k = absurd h
 
 -- The groups of the lines of a text are lines of text that belong together, with the line that turns them if one does,
 -- lines of a leaf of several, and others.

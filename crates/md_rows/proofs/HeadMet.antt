@@ -29,8 +29,7 @@ use Rattle.md_tables.specs.Heads.{begins_further_row, is_chunk, is_table, meets_
 use Rattle.md_tables.proofs.HeadsLemmas.{meets-other, prefix-passed}
 use Rattle.md_frame.specs.Change.{ends_of}
 use Rattle.md_frame.specs.HeldLeaf.{may_go_on}
-use Rattle.md_frame.specs.LeafName.{CodeFurther, CodeIndented, Fence, FenceFurther, GfmTable, HeadingAtx}
-use Rattle.md_frame.specs.LeafName.{HeadingSetext, HtmlFlow, HtmlFurther, LeafName, ThematicBreak}
+use Rattle.md_frame.specs.LeafName.{GfmTable, HeadingAtx, HeadingSetext, LeafName, ThematicBreak}
 use Rattle.md_registry.specs.Registry.{leaf}
 use Rattle.md_frame.specs.Row.{BlankRow, LeafRow, Row, RowKind, TextRow, ending_events, ending_of}
 use Rattle.md_rows.specs.Rows.{is_further, leaf_events, line_behind, row_events, row_events_by, rows_events}
@@ -162,14 +161,7 @@ single-met : (l : LeafName) → (leaf l).ends ≡ true → (options : ParseOptio
     (p : Point) (es : List Event) → meets_table ((leaf l).added options on line p ++ es) ≡ false
 single-met HeadingAtx e options on line p es = refl
 single-met ThematicBreak e options on line p es = refl
-single-met CodeIndented e options on line p es = absurd (cc)
-single-met CodeFurther e options on line p es = absurd (cc)
-single-met Fence e options on line p es = absurd (cc)
-single-met FenceFurther e options on line p es = absurd (cc)
-single-met HtmlFlow e options on line p es = absurd (cc)
-single-met HtmlFurther e options on line p es = absurd (cc)
-single-met HeadingSetext e options on line p es = absurd (cc)
-single-met GfmTable e options on line p es = absurd (cc)
+single-met _ e options on line p es = absurd (cc)
 
 -- the begin of a leaf of several lines stops a look, and is no further line
 begin-met : (e : Event) (es : List Event) → IsBegin e → meets_table (e ∷ es) ≡ false
@@ -179,9 +171,8 @@ begin-met e es is =
     (and_right (is_table e.name) (links_back e.link) is.link))
   where
     stops : (x y : Bool) → is_block (role e.name) ≡ true → (x || y || is_block (role e.name)) ≡ true
-    stops true y h = refl
-    stops false true h = refl
     stops false false h = h
+    stops _ _ h = refl
 
 -- A line that goes on no leaf, in front of others: no line of a table is met there.
 begins-met : (options : ParseOptions) (bytes line : List ℕ) (row : Row) (rows : List Row) →
@@ -239,11 +230,10 @@ rest-met : (options : ParseOptions) (bytes : List ℕ) (cs : List Container) (st
     AreRows options bytes cs still p lines (row ∷ rows) → may_go_on row.behind ≡ false →
     meets_table (rows_events rows) ≡ false
 rest-met options bytes cs still p lines row [] are shut = refl
-rest-met options bytes cs still p [] row (below ∷ rows) are shut = absurd are
-rest-met options bytes cs still p (line ∷ []) row (below ∷ rows) are shut = absurd are
 rest-met options bytes cs still p (line ∷ next ∷ lines) row (below ∷ rows) are shut =
     shut-met options bytes (behind_line options cs still p line) row.behind are.2 (next ∷ lines) (below ∷ rows) shut
     are.5
+rest-met options bytes cs still p lines row rows are shut = absurd are
 
 -- Behind a line of text.
 

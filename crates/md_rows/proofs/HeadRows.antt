@@ -104,11 +104,6 @@ as_spans bytes (group ∷ gs) = as_span bytes group ∷ as_spans bytes gs
 leaf-spans : (bytes : List ℕ) (ends : Bool) (row : Row) (gs : List Group) →
     onto_leaf ends row (as_spans bytes gs) ≡ as_spans bytes (onto_leaf ends row gs)
 leaf-spans bytes true row gs = refl
-leaf-spans bytes false row [] = refl
-leaf-spans bytes false row (Single below ∷ gs) = refl
-leaf-spans bytes false row (Lines below rows ∷ gs) = refl
-leaf-spans bytes false row (Turned below rows under ∷ gs) = refl
-leaf-spans bytes false row (Headed below next rows ∷ gs) = refl
 leaf-spans bytes false row (LeafLines below rows ∷ gs) = go (is_further below.kind below.on)
   where
     go : (x : Bool) →
@@ -117,12 +112,11 @@ leaf-spans bytes false row (LeafLines below rows ∷ gs) = go (is_further below.
         as_spans bytes (cond x (LeafLines row (below ∷ rows) ∷ gs) (LeafLines row [] ∷ LeafLines below rows ∷ gs))
     go true = refl
     go false = refl
+leaf-spans bytes false row _ = refl
 
 -- so does a line of text that is no head
 text-spans : (bytes : List ℕ) (row : Row) (gs : List Group) → HeadsNone gs →
     onto_groups row TextRow (as_spans bytes gs) ≡ as_spans bytes (onto_groups row TextRow gs)
-text-spans bytes row [] none = refl
-text-spans bytes row (Single below ∷ gs) none = refl
 text-spans bytes row (Lines below rows ∷ gs) none = go (goes_on row below)
   where
     go : (x : Bool) →
@@ -138,7 +132,6 @@ text-spans bytes row (Turned below rows under ∷ gs) none = go (goes_on row bel
         as_spans bytes (cond x (Turned row (below ∷ rows) under ∷ gs) (Lines row [] ∷ Turned below rows under ∷ gs))
     go true = refl
     go false = refl
-text-spans bytes row (Headed below next rows ∷ gs) none = refl
 text-spans bytes row (LeafLines below rows ∷ gs) none =
     ap (λ (x : Bool). to x (is_further below.kind below.on && is_last rows) (as_spans bytes gs)) none
     ∙ go (is_further below.kind below.on && is_last rows)
@@ -152,6 +145,7 @@ text-spans bytes row (LeafLines below rows ∷ gs) none =
     go : (y : Bool) → to false y (as_spans bytes gs) ≡ as_spans bytes (to false y gs)
     go true = refl
     go false = refl
+text-spans bytes row _ none = refl
 
 -- a head goes before the lines that take it
 head-spans : (bytes : List ℕ) (row below : Row) (gs : List Group) →
@@ -181,11 +175,6 @@ head-spans bytes row below gs heads = go gs
     go : (gs : List Group) →
         onto_span (as_table bytes row) (as_spans bytes (onto_span below gs)) ≡
         as_spans bytes (onto_groups row TextRow (onto_span below gs))
-    go [] = one [] []
-    go (Single first ∷ gs) = one [] (Single first ∷ gs)
-    go (Lines first rows ∷ gs) = one [] (Lines first rows ∷ gs)
-    go (Turned first rows under ∷ gs) = one [] (Turned first rows under ∷ gs)
-    go (Headed first next rows ∷ gs) = one [] (Headed first next rows ∷ gs)
     go (LeafLines first rows ∷ gs) = by (is_further first.kind first.on)
       where
         by : (x : Bool) →
@@ -194,6 +183,7 @@ head-spans bytes row below gs heads = go gs
             onto_span (as_table bytes row) (as_spans bytes all) ≡ as_spans bytes (onto_groups row TextRow all)
         by true = one (first ∷ rows) gs
         by false = one [] (LeafLines first rows ∷ gs)
+    go gs = one [] gs
 
 -- a line that takes another as its head goes before others as a line of a leaf of several
 head-onto : (row : Row) (gs : List Group) → takes_head row.kind ≡ true → onto_groups row row.kind gs ≡ onto_span row gs
@@ -268,10 +258,7 @@ spans-joined bytes (group ∷ gs) =
   where
     one : (group : Group) → joined_group bytes (as_span bytes group) ≡ joined_group bytes group
     one (Single row) = refl
-    one (Lines row rows) = refl
-    one (Turned row rows under) = refl
-    one (Headed row next rows) = refl
-    one (LeafLines row rows) = refl
+    one _ = refl
 
 -- The events of the lines, joined, are those of the groups.
 pub again-joined : (bytes : List ℕ) (rows : List Row) → EachFront bytes rows → EachEnds rows → EachNoContent rows →

@@ -71,20 +71,12 @@ further-plain : (l : LeafName) → (leaf l).ends ≡ false → (leaf l).heads �
 further-plain registry.CodeIndented e h = (refl, refl)
 further-plain registry.Fence e h = (refl, refl)
 further-plain registry.HtmlFlow e h = (refl, refl)
-further-plain registry.CodeFurther e h = (refl, refl)
-further-plain registry.FenceFurther e h = (refl, refl)
-further-plain registry.HtmlFurther e h = (refl, refl)
-further-plain registry.HeadingAtx e h = (e, h)
-further-plain registry.HeadingSetext e h = (e, h)
-further-plain registry.ThematicBreak e h = (e, h)
-further-plain registry.GfmTable e h = (e, h)
+further-plain _ e h = (e, h)
 
 -- a leaf that a line may go on, and that takes no lazy lines, has several
 lines-of : (on : HeldLeaf) → may_go_on on ≡ true → takes_lazy on ≡ false → has_lines on ≡ true
-lines-of held_leaf.None may lazy = cc
-lines-of (held_leaf.Text at) may lazy = cc
-lines-of (held_leaf.LazyText at) may lazy = cc
-lines-of _ may lazy = refl
+lines-of held_leaf.Code may lazy = refl
+lines-of _ may lazy = cc
 
 -- its further lines go on no text
 behind-lined : (options : ParseOptions) (bytes : List ℕ) (l : LeafName) (row : Row) (rows : List Row) →

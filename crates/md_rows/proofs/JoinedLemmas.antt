@@ -110,9 +110,7 @@ alone-unwanted wants w e h = go e.kind e.link h
   where
     string : (link : Link) → (c : Content) → link.content ≡ c → is_string c ≡ true → wants c ≡ false
     string link content.String e h = w.string
-    string link content.Text e h = cc
-    string link content.Flow e h = cc
-    string link content.Content e h = cc
+    string link _ e h = cc
 
     go : (kind : Kind) (link : Option Link) → is_alone link ≡ true → wanted_at wants kind link ≡ None
     go Exit link h = refl
@@ -459,15 +457,6 @@ text-lines bytes o row below more rows gs q after front under text same =
 leaf-joined : (bytes : List ℕ) (ends : Bool) (row : Row) (gs : List Group) →
     joined_groups bytes (onto_leaf ends row gs) ≡ row_events row ++ joined_groups bytes gs
 leaf-joined bytes true row gs = refl
-leaf-joined bytes false row [] = ap (λ (l : List Event). l ++ []) (append-nil (row_events row))
-leaf-joined bytes false row (Single below ∷ gs) =
-    ap (λ (l : List Event). l ++ joined_groups bytes (Single below ∷ gs)) (append-nil (row_events row))
-leaf-joined bytes false row (Lines below rows ∷ gs) =
-    ap (λ (l : List Event). l ++ joined_groups bytes (Lines below rows ∷ gs)) (append-nil (row_events row))
-leaf-joined bytes false row (Turned below rows under ∷ gs) =
-    ap (λ (l : List Event). l ++ joined_groups bytes (Turned below rows under ∷ gs)) (append-nil (row_events row))
-leaf-joined bytes false row (Headed below next rows ∷ gs) =
-    ap (λ (l : List Event). l ++ joined_groups bytes (Headed below next rows ∷ gs)) (append-nil (row_events row))
 leaf-joined bytes false row (LeafLines below rows ∷ gs) = go (is_further below.kind below.on)
   where
     go : (x : Bool) →
@@ -477,6 +466,7 @@ leaf-joined bytes false row (LeafLines below rows ∷ gs) = go (is_further below
     go true = append_assoc (row_events row) (rows_events (below ∷ rows)) (joined_groups bytes gs)
     go false =
         ap (λ (l : List Event). l ++ joined_groups bytes (LeafLines below rows ∷ gs)) (append-nil (row_events row))
+leaf-joined bytes false row gs = ap (λ (l : List Event). l ++ joined_groups bytes gs) (append-nil (row_events row))
 
 -- a line of text in front of the lines of a leaf, of which the first may be its underline
 span-first : (bytes : List ℕ) (row below : Row) (rows : List Row) (gs : List Group) →
@@ -509,13 +499,6 @@ pub leaf-first : (bytes : List ℕ) (ends : Bool) (row below : Row) (gs : List G
     joined_groups bytes (onto_groups row TextRow (onto_leaf ends below gs)) ≡
     row_events_by TextRow row ++ joined_groups bytes (onto_leaf ends below gs)
 leaf-first bytes true row below gs none = refl
-leaf-first bytes false row below [] none = span-first bytes row below [] [] none
-leaf-first bytes false row below (Single next ∷ gs) none = span-first bytes row below [] (Single next ∷ gs) none
-leaf-first bytes false row below (Lines next rows ∷ gs) none = span-first bytes row below [] (Lines next rows ∷ gs) none
-leaf-first bytes false row below (Turned next rows under ∷ gs) none =
-    span-first bytes row below [] (Turned next rows under ∷ gs) none
-leaf-first bytes false row below (Headed next second rows ∷ gs) none =
-    span-first bytes row below [] (Headed next second rows ∷ gs) none
 leaf-first bytes false row below (LeafLines next rows ∷ gs) none = go (is_further next.kind next.on)
   where
     go : (x : Bool) →
@@ -523,6 +506,7 @@ leaf-first bytes false row below (LeafLines next rows ∷ gs) none = go (is_furt
         joined_groups bytes (onto_groups row TextRow gs') ≡ row_events_by TextRow row ++ joined_groups bytes gs'
     go true = span-first bytes row below (next ∷ rows) gs none
     go false = span-first bytes row below [] (LeafLines next rows ∷ gs) none
+leaf-first bytes false row below gs none = span-first bytes row below [] gs none
 
 -- a line of text in front of others
 text-rows : (bytes : List ℕ) (row below : Row) (rows : List Row) (q : Point) → row.after ≡ Some q →

@@ -38,9 +38,8 @@ kind-is_blank false (Some l) e = cc
 
 kind-found : (blank : Bool) (found : Option LeafName) (l : LeafName) → cond blank BlankRow (kind_of found) ≡ LeafRow l →
     found ≡ Some l
-kind-found true found l e = cc
-kind-found false None l e = cc
 kind-found false (Some k) l e = cc
+kind-found _ _ l e = cc
 
 -- What is found where a leaf is asked first.
 

@@ -16,8 +16,8 @@ use Rattle.md_frame.specs.HeldLeaf.{may_go_on, takes_lazy}
 use Rattle.md_frame.specs.LeafName.{LeafName}
 use Rattle.md_registry.specs.Registry.{leaf}
 use Rattle.md_frame.specs.Row.{BlankRow, LeafRow, Row, RowKind, TextRow}
-use Rattle.md_rows.specs.Rows.{Group, Headed, Lines, Single, LeafLines, Turned, takes_head, goes_on, groups, is_further}
-use Rattle.md_rows.specs.Rows.{line_behind, line_kind}
+use Rattle.md_rows.specs.Rows.{Group, LeafLines, Turned, takes_head, goes_on, groups, is_further, line_behind}
+use Rattle.md_rows.specs.Rows.{line_kind}
 use Rattle.md_rows.proofs.ContainedLemmas.{contained-met, contained-still}
 use Rattle.md_frame.proofs.FrontFacts.{LinePrefix}
 use Rattle.md_rows.proofs.KindLemmas.{kind-starts}
@@ -135,11 +135,9 @@ FirstLine options bytes cs still p (line ∷ lines) row = IsLine options bytes c
 pub first-line : (options : ParseOptions) (bytes : List ℕ) (cs : List Container) (still : HeldLeaf) (p : Point)
     (lines : List (List ℕ)) (row : Row) (rows : List Row) →
     AreRows options bytes cs still p lines (row ∷ rows) → FirstLine options bytes cs still p lines row
-first-line options bytes cs still p [] row rows h = absurd h
 first-line options bytes cs still p (line ∷ []) row [] h = h.0
-first-line options bytes cs still p (line ∷ []) row (below ∷ rows) h = absurd h
-first-line options bytes cs still p (line ∷ next ∷ lines) row [] h = absurd h
 first-line options bytes cs still p (line ∷ next ∷ lines) row (below ∷ rows) h = h.0
+first-line options bytes cs still p lines row rows h = absurd h
 
 line-behind : (options : ParseOptions) (bytes : List ℕ) (cs : List Container) (p : Point) (lines : List (List ℕ))
     (row below : Row) →
@@ -185,12 +183,9 @@ leaves-left options bytes row rows are leaves fresh =
     ap (λ (at : Progress). is_whole (steps at (texts (kept-of options bytes row rows are)))) (sym fresh) ∙ leaves on
 
 first-begin : (gs : List Group) → FirstIs BeginsFresh gs → FirstBegins gs
-first-begin [] h = tt
-first-begin (Single row ∷ gs) h = tt
-first-begin (Lines row rows ∷ gs) h = tt
-first-begin (Headed row next rows ∷ gs) h = tt
 first-begin (Turned row rows under ∷ gs) h = h.1
 first-begin (LeafLines row rows ∷ gs) h = h.0
+first-begin _ h = tt
 
 -- after a line that leaves no text open, the next line meets none
 pub behind-fresh : (bytes : List ℕ) (p : Point) (row below : Row) → IsBehind bytes p row below → IsFresh row.behind →
@@ -204,12 +199,9 @@ behind-fresh bytes p row below is fresh = is.on ∙ go (is_none below.change.ope
 -- nor does the first of the groups after a line that no other continues
 pub begins-behind : (bytes : List ℕ) (p : Point) (row : Row) (gs : List Group) → FirstIs (IsBehind bytes p row) gs →
     IsShut row.behind → FirstBegins gs
-begins-behind bytes p row [] first shut = tt
-begins-behind bytes p row (Single below ∷ gs) first shut = tt
-begins-behind bytes p row (Lines below rows ∷ gs) first shut = tt
-begins-behind bytes p row (Headed below next rows ∷ gs) first shut = tt
 begins-behind bytes p row (Turned below rows under ∷ gs) first shut = behind-fresh bytes p row below first shut.1
 begins-behind bytes p row (LeafLines below rows ∷ gs) first shut = first.begins shut.0
+begins-behind bytes p row _ first shut = tt
 
 -- a blank line, and a line of a leaf that always ends there, ends on its line
 pub blank-ends : (kind : RowKind) → kind ≡ BlankRow → EndsOnLine kind

@@ -60,13 +60,8 @@ table-last options on r =
 
     go : (c x h y s z t : Bool) →
         to c x h y s z (cond t (Some GfmTable) None) ≡ or_table t (to c x h y s z None)
-    go true x h y s z t = refl
-    go false true h y s z t = refl
-    go false false true y s z t = refl
-    go false false false true s z t = refl
-    go false false false false true z t = refl
-    go false false false false false true t = refl
     go false false false false false false t = refl
+    go _ _ _ _ _ _ t = refl
 
 -- none of them takes a line of text as its head
 abbrev AllHeadless : List LeafName → Type 0
@@ -105,12 +100,7 @@ untabled-at options on r none =
 -- indented code may begin by the leaf that the line meets, and by what the line stands against, or by neither
 free-open : (on : HeldLeaf) → may_open on ≡ is_free (context_of on)
 free-open held_leaf.None = refl
-free-open (held_leaf.Text at) = refl
-free-open (held_leaf.LazyText at) = refl
-free-open held_leaf.Code = refl
-free-open (held_leaf.Fence m size indent) = refl
-free-open (held_leaf.Html kind) = refl
-free-open held_leaf.Table = refl
+free-open _ = refl
 
 -- where no underline starts, of the leaves of the line definition these alone are built, in this order
 pub others-found : (options : ParseOptions) (on : HeldLeaf) (against : ParagraphContext) (r : Rest) →
@@ -147,23 +137,14 @@ others-found options on against r same unturned no_underline dark =
         option_or (one c CodeIndented)
         (option_or (one x Fence) (option_or (one h HtmlFlow) (option_or (one y HeadingAtx) (one z ThematicBreak)))) ≡
         came_of options r (to c x h y false z)
-    go true x h y z = refl
-    go false true h y z = refl
-    go false false true y z = refl
-    go false false false true z = refl
-    go false false false false true = refl
     go false false false false false = refl
+    go _ _ _ _ _ = refl
 
 -- an underline stands where text is open that the line is not lazy for
 not-text : (options : ParseOptions) (on : HeldLeaf) (against : ParagraphContext) (r : Rest) → IsAgainst against on →
     is_text against ≡ false → setext_leaf.starts options on r ≡ false
 not-text options (held_leaf.Text at) against r same free = let bad : true ≡ false = sym (ap is_text same) ∙ free in cc
-not-text options held_leaf.None against r same free = refl
-not-text options (held_leaf.LazyText at) against r same free = refl
-not-text options held_leaf.Code against r same free = refl
-not-text options (held_leaf.Fence marker size indent) against r same free = refl
-not-text options (held_leaf.Html kind) against r same free = refl
-not-text options held_leaf.Table against r same free = refl
+not-text options _ against r same free = refl
 
 -- so does one that has nothing to turn
 not-lost : (options : ParseOptions) (on : HeldLeaf) (against : ParagraphContext) (r : Rest) → IsAgainst against on →
@@ -173,17 +154,11 @@ not-lost options on against r same free = go (has_small_indent options r) (turns
   where
     by : (on : HeldLeaf) → IsAgainst against on → turns_nothing options on ≡ false
     by (held_leaf.Text at) same = let bad : true ≡ false = sym (ap is_text same) ∙ free in cc
-    by held_leaf.None same = refl
-    by (held_leaf.LazyText at) same = refl
-    by held_leaf.Code same = refl
-    by (held_leaf.Fence marker size indent) same = refl
-    by (held_leaf.Html kind) same = refl
-    by held_leaf.Table same = refl
+    by _ same = refl
 
     go : (x y : Bool) → y ≡ false → (x && y && is_underline (trim_start r.bytes)) ≡ false
-    go true true e = cc
     go true false e = refl
-    go false y e = refl
+    go _ _ e = cc
 
 -- The first leaf that starts where the line meets no text is the first of them that does.
 pub untext-found : (options : ParseOptions) (on : HeldLeaf) (against : ParagraphContext) (r : Rest) →

@@ -54,13 +54,11 @@ first-none options bytes cs p (next ∷ lines) line row below off is first e =
 pub rows-unheaded : (options : ParseOptions) (bytes : List ℕ) (open_before : List Container) (still : HeldLeaf)
     (p : Point) (lines : List (List ℕ)) (rows : List Row) →
     options.constructs.gfm_table ≡ false → AreRows options bytes open_before still p lines rows → NoHeads rows
-rows-unheaded options bytes open_before still p lines [] off h = tt
-rows-unheaded options bytes open_before still p lines (row ∷ []) off h = tt
-rows-unheaded options bytes open_before still p [] (row ∷ below ∷ rows) off h = absurd h
-rows-unheaded options bytes open_before still p (line ∷ []) (row ∷ below ∷ rows) off h = absurd h
+rows-unheaded options bytes open_before still p (line ∷ []) (row ∷ []) off h = tt
 rows-unheaded options bytes open_before still p (line ∷ next ∷ lines) (row ∷ below ∷ rows) off h =
     let open_next = behind_line options open_before still p line in (
       first-none options bytes open_next h.2 (next ∷ lines) _ row below off h.0.is
           (first-line options bytes open_next row.behind h.2 (next ∷ lines) below rows h.5),
       rows-unheaded options bytes open_next row.behind h.2 (next ∷ lines) (below ∷ rows) off h.5,
     )
+rows-unheaded options bytes open_before still p lines rows off h = absurd h

@@ -63,12 +63,9 @@ text-others options at r none unturned dark =
   where
     go : (x s u w : Bool) → (x && s && u) ≡ false → (s && (x && w) && u) ≡ false
     go true true true true e = cc
-    go true true true false e = refl
     go true true false true e = refl
-    go true true false false e = refl
-    go true false u w e = refl
     go false true u w e = refl
-    go false false u w e = refl
+    go _ _ _ _ e = refl
 
 -- where it may turn nothing no underline starts
 pub unturned-setext : (options : ParseOptions) (on : HeldLeaf) (r : Rest) → may_turn options on ≡ false →
@@ -110,9 +107,7 @@ may-left options k ks = go options.constructs.definition
 
 not-not : (x y : Bool) → x ≡ not y → (z : Bool) → x ≡ z → y ≡ not z
 not-not x true e true k = cc
-not-not x true e false k = refl
-not-not x false e true k = refl
-not-not x false e false k = cc
+not-not x _ e _ k = cc
 
 -- An underline with nothing to turn is one more line of the text.
 turned-none : (options : ParseOptions) (bs : Blocks) (lines : List ParagraphLine) (r : Rest) (depth : ℕ) →
@@ -173,8 +168,7 @@ underlined-untabled options at r depth e =
   where
     none : (x y : Bool) → (x && y && false) ≡ false
     none true true = refl
-    none true false = refl
-    none false y = refl
+    none _ _ = refl
 
 -- Where no underline starts, a leaf that starts and takes no head begins behind the text.
 pub behind-text : (options : ParseOptions) (at : OpenText) (r : Rest) (l : LeafName) →

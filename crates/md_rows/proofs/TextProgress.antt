@@ -32,8 +32,7 @@ IsShut still = (may_go_on still ≡ false) × IsFresh still
 
 -- As a lazy line meets it, it has come as far.
 lazy-progress : (still : HeldLeaf) → progress_of (lazy_of still) ≡ progress_of still
-lazy-progress (held_leaf.Text at) = refl
-lazy-progress (held_leaf.LazyText at) = refl
+lazy-progress held_leaf.None = refl
 lazy-progress _ = refl
 
 by-progress : (all : Bool) (still : HeldLeaf) → progress_of (met_by all still) ≡ progress_of still
@@ -48,9 +47,8 @@ met-progress still others (c ∷ opens) = refl
 
 -- What takes no lazy line is no text.
 pub unlazy-fresh : (still : HeldLeaf) → takes_lazy still ≡ false → IsFresh still
-unlazy-fresh (held_leaf.Text at) e = cc
-unlazy-fresh (held_leaf.LazyText at) e = cc
-unlazy-fresh _ e = refl
+unlazy-fresh held_leaf.None e = refl
+unlazy-fresh _ e = cc
 
 -- of a line, by what opens on it
 pub contained-progress : (options : ParseOptions) (cs : List Container) (still : HeldLeaf) (r : Rest) →
@@ -120,8 +118,7 @@ turn-left options at may on = go options.constructs.definition (is_whole at.prog
   where
     go : (x y : Bool) → x ≡ true → not (x && y) ≡ true → y ≡ false
     go true false on may = refl
-    go true true on may = cc
-    go false y on may = cc
+    go _ _ on may = cc
 
 pub setext-may : (options : ParseOptions) (on : HeldLeaf) (r : Rest) → setext_leaf.starts options on r ≡ true →
     may_turn options on ≡ true

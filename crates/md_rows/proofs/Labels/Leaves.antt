@@ -88,20 +88,16 @@ fence-goes-unlabelled options o lines r = go (closes options o r)
 
 comes-unlabelled : (l : LeafName) (options : ParseOptions) (open_leaf : Leaf) (r : Rest) → IsNoText open_leaf →
     IsUnlabelled ((leaf l).comes options open_leaf r)
-comes-unlabelled registry.CodeIndented options open_leaf r h = tt
-comes-unlabelled registry.CodeFurther options open_leaf r h = tt
-comes-unlabelled registry.Fence options open_leaf r h = tt
 comes-unlabelled registry.FenceFurther options (OpenFence o lines) r h = fence-goes-unlabelled options o lines r
 comes-unlabelled registry.FenceFurther options open_leaf r h = h
 comes-unlabelled registry.HtmlFlow options open_leaf r h = html-begun-unlabelled (kind_begun r) r
 comes-unlabelled registry.HtmlFurther options (OpenHtml kind lines) r h = html-line-unlabelled kind lines r
-comes-unlabelled registry.HtmlFurther options open_leaf r h = refl
-comes-unlabelled registry.HeadingAtx options open_leaf r h = refl
-comes-unlabelled registry.HeadingSetext options open_leaf r h = refl
-comes-unlabelled registry.ThematicBreak options open_leaf r h = refl
+comes-unlabelled registry.CodeIndented options open_leaf r h = tt
+comes-unlabelled registry.CodeFurther options open_leaf r h = tt
+comes-unlabelled registry.Fence options open_leaf r h = tt
 comes-unlabelled registry.GfmTable options (OpenParagraph lines) r h = tt
 comes-unlabelled registry.GfmTable options (OpenTable delimiter rows) r h = tt
-comes-unlabelled registry.GfmTable options open_leaf r h = refl
+comes-unlabelled _ options open_leaf r h = refl
 
 left-no-text : (c : LeafResult) → IsUnlabelled c → IsNoText (left_by c)
 left-no-text (Opened open_leaf) h = h
@@ -130,16 +126,9 @@ lines-unlabelled options bytes first further row rows are r =
 
 -- a line that is no text
 leaf-unlabelled : (l : LeafName) (r : Rest) → defined_by ((leaf l).block r) ≡ []
-leaf-unlabelled registry.CodeIndented r = refl
-leaf-unlabelled registry.CodeFurther r = refl
 leaf-unlabelled registry.Fence r = fence-unlabelled (opening_at r) [] false
 leaf-unlabelled registry.FenceFurther r = fence-unlabelled (opening_of held_leaf.None) [] false
-leaf-unlabelled registry.HtmlFlow r = refl
-leaf-unlabelled registry.HtmlFurther r = refl
-leaf-unlabelled registry.HeadingAtx r = refl
-leaf-unlabelled registry.HeadingSetext r = refl
-leaf-unlabelled registry.ThematicBreak r = refl
-leaf-unlabelled registry.GfmTable r = refl
+leaf-unlabelled _ r = refl
 
 pub line-unlabelled : (kind : RowKind) (r : Rest) → shown_labels (block_of kind r) ≡ []
 line-unlabelled BlankRow r = refl

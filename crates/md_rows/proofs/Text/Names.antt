@@ -72,12 +72,7 @@ of-each P so = record {
 not-lines : (name : Name) → is_of_definition name ≡ true →
     (not (has_lines (role name)) && not (is_code_line name)) ≡ true
 not-lines n.CodeIndented h = cc
-not-lines n.CodeFenced h = cc
-not-lines n.MathFlow h = cc
-not-lines n.HtmlFlow h = cc
-not-lines n.CodeFlowChunk h = cc
-not-lines n.GfmTable h = cc
-not-lines _ h = refl
+not-lines _ h = cc
 
 pub unspanned-of : OfDefinitions AreUnspanned
 unspanned-of = of-each IsUnspanned (λ e is. not-lines e.name is)
@@ -86,8 +81,7 @@ unspanned-of = of-each IsUnspanned (λ e is. not-lines e.name is)
 not-turned : (name : Name) → is_of_definition name ≡ true →
     cond (is_paragraph name) false (cond (is_underline name) false true) ≡ true
 not-turned n.Paragraph h = cc
-not-turned n.HeadingSetextUnderline h = cc
-not-turned _ h = refl
+not-turned _ h = cc
 
 pub unturned-of : OfDefinitions AreUnturned
 unturned-of = of-each IsUnturned (λ e is. not-turned e.name is)
@@ -95,11 +89,7 @@ unturned-of = of-each IsUnturned (λ e is. not-turned e.name is)
 -- none of a block that others are held from is open behind them.
 opens-none : (name : Name) → is_in_definition name ≡ true → opened_by name ≡ Nothing
 opens-none n.HeadingAtx h = cc
-opens-none n.Paragraph h = cc
-opens-none n.HeadingSetextUnderline h = cc
-opens-none n.GfmTable h = cc
-opens-none n.LineEnding h = cc
-opens-none _ h = refl
+opens-none _ h = cc
 
 pub closed-of : OfDefinitions IsClosed
 closed-of = record {
