@@ -1,5 +1,5 @@
 -- The resolvers of leaves set each leaf on one line, and all else stays, with the lines of leaves of several joined.
-use Rattle.std.proofs.Common.{◌≡◌, ℕ, Bool, true, false, cond, List, [], ◌∷◌, ◌++◌, refl, ap, sym, ◌∙◌, subst}
+use Rattle.std.proofs.Common.{◌≡◌, ℕ, List, [], ◌∷◌, ◌++◌, refl, ap, sym, ◌∙◌, subst}
 use Rattle.std.proofs.lemmas.Bool.{and_right}
 use Rattle.md_engine.specs.declared.configuration.ParseOptions.{ParseOptions}
 use Rattle.md_engine.specs.declared.event.Event.{Event}
@@ -7,50 +7,38 @@ use Rattle.md_engine.specs.declared.event.Name.TheVariants as n
 use Rattle.md_engine.specs.declared.event.Point.{Point}
 use Rattle.md_engine.specs.declared.tokenizer.held_leaf.HeldLeaf.{HeldLeaf}
 use Rattle.md_content.specs.Paragraph.{text_link}
-use Rattle.md_leaves.specs.Spanned.{is_code_line}
 use Rattle.md_meaning.specs.State.{Container}
 use Rattle.md_seam.specs.Events.Nested.{is_enter}
 use Rattle.md_registry.specs.Resolving.{resolved}
 use Rattle.md_frame.proofs.EventNames.{is_own}
-use Rattle.md_frame.specs.Row.{BlankRow, LeafRow, Row, RowKind, TextRow, blank_line, ending_of, is_blank_by}
-use Rattle.md_table_rooms.specs.Headed.{headed_row}
-use Rattle.md_frame.specs.Row.{last_row, span_by}
+use Rattle.md_frame.specs.Row.{BlankRow, LeafRow, Row, RowKind, TextRow, ending_of, is_blank_by, last_row}
 use Rattle.md_frame.specs.TextLines.{text_leaf}
 use Rattle.md_registry.specs.Registry.{leaf as line_leaf}
-use Rattle.md_rows.specs.BlockList.{lines_unread, tabled_row_by, text_unread, unread_lines}
+use Rattle.md_rows.specs.BlockList.{tabled_row_by, unread_lines}
 use Rattle.md_rows.specs.Rows.{Group, Headed, LeafLines, Lines, Single, Turned, groups, leaf_events, leaf_unread}
-use Rattle.md_rows.specs.Rows.{row_events, row_events_by, tail_events, text_done}
+use Rattle.md_rows.specs.Rows.{row_events_by, tail_events}
 use Rattle.md_rows.specs.Unread.{set_groups, spanned_group, spanned_groups, unread_group}
 use Rattle.md_frame.proofs.AroundOutside.{around-outside}
 use Rattle.md_frame.proofs.EachEvent.{each-as}
 use Rattle.md_frame.proofs.FrontNames.{HasFront}
-use Rattle.md_frame.proofs.LeafLines.Each.{OfGaps}
-use Rattle.md_frame.proofs.LinedFacts.{IsLined, lined-gaps, lined-outside, prefix-lined}
-use Rattle.md_frame.proofs.OutsideFacts.{AreOutside, IsOutside, outside-append}
+use Rattle.md_frame.proofs.LinedFacts.{IsLined, lined-outside, prefix-lined}
+use Rattle.md_frame.proofs.OutsideFacts.{AreOutside, IsOutside}
 use Rattle.md_frame.proofs.PrefixNames.{prefixes-front}
 use Rattle.md_content_rooms.proofs.Defined.Names.{outside-of}
 use Rattle.md_table_rooms.proofs.GfmTable.Each.{of-outside}
 use Rattle.md_registry.proofs.Registry.{laws, outside-passes}
-use Rattle.md_rows.proofs.GroupLemmas.{lines-prefixed, under-prefixed}
-use Rattle.md_rows.proofs.GroupLines.{AreGroups, AreLines, AreSpan, Begins, IsHead, IsSingle, IsUnder, span-begins}
+use Rattle.md_rows.proofs.GroupLemmas.{lines-prefixed}
+use Rattle.md_rows.proofs.GroupLines.{AreGroups, AreLines, AreSpan, Begins, IsHead, IsSingle, IsUnder}
 use Rattle.md_rows.proofs.GroupsAre.{groups-are}
-use Rattle.md_rows.proofs.HeadedTable.{headed-is}
-use Rattle.md_rows.proofs.JoinedLeaves.{headed-each, lines-hold}
 use Rattle.md_rows.proofs.JoinedLemmas.{EachNoContent}
 use Rattle.md_rows.proofs.KindLemmas.{kind-starts}
-use Rattle.md_rows.proofs.OutsideLemmas.{ending-own, front-outside, has_front-outside, leaf-set, linked-outside}
-use Rattle.md_rows.proofs.OutsideLemmas.{tail-outside}
+use Rattle.md_rows.proofs.OutsideLemmas.{front-outside, leaf-set, outside-rows}
 use Rattle.md_rows.proofs.RowFacts.{AreRows}
-use Rattle.md_rows.proofs.RowHolds.{row-holds}
-use Rattle.md_rows.proofs.Text.Cuts.{cut-is}
-use Rattle.md_rows.proofs.Text.Names.{cut-of, of-each}
+use Rattle.md_rows.proofs.RowHolds.{blank-holds, each-linked, front-holds, headed-holds, span-holds, tail-holds}
+use Rattle.md_rows.proofs.RowHolds.{text-holds, turned-holds}
+use Rattle.md_rows.proofs.Text.Names.{of-each}
 use Rattle.md_rows.proofs.TextProgress.{IsShut}
 use Rattle.md_rows.proofs.Underlines.{under-outside}
-
--- the whitespace of a blank line stays
-blank-outside : (line : List ℕ) (p : Point) → AreOutside (blank_line line p)
-blank-outside [] p = tt
-blank-outside (b ∷ line) p = (refl, (refl, tt))
 
 -- a line that is no text is set
 single-set : (options : ParseOptions) (bytes : List ℕ) (row : Row) (es : List Event) → IsSingle options bytes row →
@@ -58,13 +46,13 @@ single-set : (options : ParseOptions) (bytes : List ℕ) (row : Row) (es : List 
     resolved (row_events_by kind row ++ es) ≡ tabled_row_by bytes kind row ++ resolved es
 single-set options bytes row es is kind e =
     leaf-set row.front (leaf_events kind row) (leaf_unread bytes kind row) (tail_events (ending_of kind row) row) es
-    (has_front-outside bytes row is.front)
-    (tail-outside (ending_of kind row) row (ending-own (is_blank_by kind row))) (leaf kind e)
+    (front-holds AreOutside outside-rows bytes row is.front)
+    (tail-holds AreOutside outside-rows (is_blank_by kind row) row) (leaf kind e)
   where
     leaf : (kind : RowKind) → row.kind ≡ kind → (es : List Event) →
         resolved (leaf_events kind row ++ es) ≡ leaf_unread bytes kind row ++ resolved es
     leaf BlankRow e es =
-        outside-passes row.inside es (subst AreOutside (sym (is.is.blank e)) (blank-outside is.line row.first))
+        outside-passes row.inside es (subst AreOutside (sym (is.is.blank e)) (blank-holds AreOutside outside-rows is.line row.first))
     leaf (LeafRow l) e es =
         ap (λ (added : List Event). resolved (added ++ es))
         (is.is.leaf_is l e ∙ ap (λ (line : List ℕ). (line_leaf l).added options row.on line row.first) is.is.line_is)
@@ -75,77 +63,36 @@ single-set options bytes row es is kind e =
     leaf TextRow e es = absurd (is.other e)
 
 -- The lines of a leaf of several, joined, are left as they are,
-
-whitened : (x : Bool) (e : Event) → IsOutside e → IsOutside (record e { name = cond x n.SpaceOrTab e.name })
-whitened true e h = and_right (is_enter e.kind) (is_own n.SpaceOrTab) refl
-whitened false e h = h
-
-outside-gaps : OfGaps IsOutside AreOutside
-outside-gaps = record {
-  all = λ es h. h;
-  append = outside-append;
-  ending = λ p q. (refl, (refl, tt));
-  blank = λ p q. (refl, (refl, tt));
-  white = λ e h. whitened (is_code_line e.name) e h;
-}
-
 span-outside : (options : ParseOptions) (bytes : List ℕ) (row : Row) (rows : List Row) →
     AreSpan options bytes row rows → Begins row → AreOutside (spanned_group options bytes (LeafLines row rows))
 span-outside options bytes row rows are begins =
-    let last : Row = last_row row rows in
-    let joined : List Event = span_by (λ (r : Row). r.inside) row rows in
-    outside-append (row.front ++ joined) (tail_events (ending_of last.kind last) last)
-    (outside-append row.front joined
-    (has_front-outside bytes row (span-begins options bytes row rows are).front)
-    (lines-hold AreOutside
-    (lined-gaps AreOutside (λ es h. each-as IsLined IsOutside lined-outside es h) outside-append
-    (λ p q. (refl, (refl, tt)))) options bytes row rows are begins))
-    (tail-outside (ending_of last.kind last) last (ending-own (is_blank_by last.kind last)))
+    span-holds AreOutside outside-rows (λ es h. each-as IsLined IsOutside lined-outside es h) options bytes row rows are
+    begins
 
 -- and so are those of a table with its head.
 headed-outside : (options : ParseOptions) (bytes : List ℕ) (row next : Row) (rows : List Row) →
     IsHead options bytes row next → AreSpan options bytes next rows → HasFront bytes row →
     AreOutside (spanned_group options bytes (Headed row next rows))
 headed-outside options bytes row next rows head are front =
-    let last : Row = last_row next rows in
-    let joined : List Event = span_by (λ (r : Row). r.inside) (headed_row bytes row) (next ∷ rows) in
-    outside-append (row.front ++ joined) (tail_events n.LineEnding last)
-    (outside-append row.front joined (has_front-outside bytes row front)
-    (headed-each IsOutside of-outside (λ q. refl) (λ e is. lined-outside e (prefix-lined e is)) outside-gaps options
-    bytes row next rows (headed-is options bytes row next rows head are).are))
-    (tail-outside n.LineEnding last refl)
+    headed-holds IsOutside outside-rows of-outside (λ q. refl) (λ e is. lined-outside e (prefix-lined e is))
+    (λ e. and_right (is_enter e.kind) (is_own n.SpaceOrTab) refl) options bytes row next rows head are front
 
--- Texts are left as they are too.
-
--- lines of a text that is not read yet
-lines-outside : (options : ParseOptions) (bytes : List ℕ) (row : Row) (rows : List Row) →
-    AreLines options bytes row rows → AreOutside (lines_unread row rows)
-lines-outside options bytes row rows are =
-    around-outside text_leaf.name row.first (last_row row rows).end (unread_lines row rows) refl
-    (linked-outside text_link row rows (lines-prefixed options bytes row rows are))
-
--- and a text from which definitions are cut: no name of a definition is of a resolver
+-- Texts are left as they are too: no name of a definition is of a resolver,
 text-outside : (options : ParseOptions) (bytes : List ℕ) (row : Row) (rows : List Row) →
     AreLines options bytes row rows → HasFront bytes row → AreOutside (unread_group options bytes (Lines row rows))
-text-outside options bytes row rows are front =
-    outside-append (row.front ++ text_unread options bytes row rows) (tail_events n.LineEnding (last_row row rows))
-    (outside-append row.front (text_unread options bytes row rows) (has_front-outside bytes row front)
-    (cut-of AreOutside (of-each IsOutside outside-of) options bytes (lines-outside options bytes) row rows
-    (text_unread options bytes row rows) (text_done options bytes row rows) (cut-is options bytes row rows are)))
-    (tail-outside n.LineEnding (last_row row rows) refl)
+text-outside options bytes =
+    text-holds AreOutside outside-rows (of-each IsOutside outside-of) options bytes
+    (λ row rows are. around-outside text_leaf.name row.first (last_row row rows).end (unread_lines row rows) refl
+    (each-linked IsOutside (λ p link. refl) (λ q. refl) (λ es h. front-outside es (prefixes-front es h)) text_link row rows
+    (lines-prefixed options bytes row rows are)))
 
--- with the line that turns it
+-- nor is that of an underline
 underlined-outside : (options : ParseOptions) (bytes : List ℕ) (row : Row) (rows : List Row) (under : Row) →
     AreLines options bytes row rows → IsUnder options bytes (last_row row rows) under → HasFront bytes row →
     AreOutside (unread_group options bytes (Turned row rows under))
 underlined-outside options bytes row rows under are is front =
-    outside-append (unread_group options bytes (Lines row rows)) (row_events under)
-    (text-outside options bytes row rows are front)
-    (row-holds AreOutside outside-append under is.name is.kind
-    (front-outside under.front
-    (prefixes-front under.front (under-prefixed options bytes (last_row row rows) under is)))
+    turned-holds AreOutside outside-rows options bytes row rows under is (text-outside options bytes row rows are front)
     (under-outside options bytes row rows under are is)
-    (tail-outside (ending_of under.kind under) under (ending-own (is_blank_by under.kind under))))
 
 groups-set : (options : ParseOptions) (bytes : List ℕ) (gs : List Group) → AreGroups options bytes gs →
     resolved (spanned_groups options bytes gs) ≡ set_groups options bytes gs

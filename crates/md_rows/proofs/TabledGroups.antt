@@ -89,7 +89,7 @@ groups-tabled options bytes [] are = refl
 groups-tabled options bytes (Single row ∷ gs) are =
     tabled-passes (tabled_group options bytes (Single row)) (turned_groups options bytes gs)
     (unspanned-untabled (tabled_group options bytes (Single row))
-    (single-unspanned options bytes row are.0 row.kind refl))
+    (single-unspanned options bytes row are.0))
     ∙ ap (λ (l : List Event). tabled_group options bytes (Single row) ++ l) (groups-tabled options bytes gs are.1)
 groups-tabled options bytes (Lines row rows ∷ gs) are =
     tabled-passes (tabled_group options bytes (Lines row rows)) (turned_groups options bytes gs)

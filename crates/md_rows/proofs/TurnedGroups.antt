@@ -9,7 +9,6 @@ use Rattle.md_engine.specs.declared.event.Name.TheVariants as n
 use Rattle.md_engine.specs.declared.event.Point.{Point}
 use Rattle.md_engine.specs.declared.tokenizer.held_leaf.HeldLeaf.{HeldLeaf}
 use Rattle.md_meaning.specs.State.{Container}
-use Rattle.md_leaves.specs.Spanned.{is_code_line}
 use Rattle.md_leaves.specs.Turned.{has_underline, is_underline, turned, underline_behind}
 use Rattle.md_leaves.proofs.TurnedLemmas.{Unlined, no-ending, passes-parts, turned-passes, turned-text}
 use Rattle.md_leaves.proofs.TurnedLemmas.{turned-underlined}
@@ -22,24 +21,21 @@ use Rattle.md_frame.specs.Change.{ends_of}
 use Rattle.md_frame.specs.ContainerNames.{container_name}
 use Rattle.md_frame.specs.EndingName.{ending_name}
 use Rattle.md_frame.specs.LeafName.{LeafName}
-use Rattle.md_frame.specs.Row.{BlankRow, LeafRow, Row, RowKind, TextRow, blank_line, ending_events}
+use Rattle.md_frame.specs.Row.{Row, RowKind, ending_events, ending_of, is_blank_by, last_row}
 use Rattle.md_content_rooms.specs.Defined.{defined_unread}
-use Rattle.md_frame.specs.Row.{ending_of, is_blank_by, last_row, span_by}
-use Rattle.md_table_rooms.specs.Headed.{headed_row}
 use Rattle.md_frame.specs.TextLines.{text_leaf}
 use Rattle.md_registry.specs.Registry.{turn_leaf, leaf}
 use Rattle.md_frame.specs.UnreadText.{linked_lines}
 use Rattle.md_rows.specs.BlockList.{heading_unread, lines_unread, tabled_group, tabled_row_by, text_unread}
 use Rattle.md_rows.specs.BlockList.{turned_unread, unread_lines}
-use Rattle.md_rows.specs.Rows.{Group, Headed, LeafLines, Lines, Single, Turned, groups, leaf_events, leaf_unread}
-use Rattle.md_rows.specs.Rows.{row_events, tail_events, text_done, turned_done}
+use Rattle.md_rows.specs.Rows.{Group, Headed, LeafLines, Lines, Single, Turned, groups, leaf_events, row_events}
+use Rattle.md_rows.specs.Rows.{tail_events, text_done, turned_done}
 use Rattle.md_rows.specs.Unread.{set_groups, spanned_group, turned_groups, unread_group}
 use Rattle.md_frame.proofs.ContainerNames.{container-facts}
 use Rattle.md_frame.proofs.EachEvent.{each-append, each-as}
-use Rattle.md_frame.proofs.FrontNames.{HasFront, ends-are, ends-first, fronts-are}
+use Rattle.md_frame.proofs.FrontNames.{HasFront, ends-first}
 use Rattle.md_frame.proofs.LeafLines.Cuts.{ending-is}
-use Rattle.md_frame.proofs.LeafLines.Each.{OfGaps}
-use Rattle.md_frame.proofs.LinedFacts.{IsLined, lined-gaps, lined-unturned, prefix-lined}
+use Rattle.md_frame.proofs.LinedFacts.{IsLined, lined-unturned, prefix-lined}
 use Rattle.md_frame.proofs.PrefixNames.{ArePrefixes, prefixes-front}
 use Rattle.md_frame.proofs.SubstitutedLemmas.{EachPrefixed}
 use Rattle.md_frame.proofs.UnturnedFacts.{AreUnturned, IsUnturned, fronts-unturned}
@@ -50,13 +46,11 @@ use Rattle.md_table_rooms.proofs.GfmTable.Each.{of-unturned}
 use Rattle.md_registry.proofs.Registry.{laws}
 use Rattle.md_rows.proofs.GroupLemmas.{lines-prefixed, under-prefixed}
 use Rattle.md_rows.proofs.GroupLines.{AreGroups, AreLines, AreSpan, Begins, EndsBeforeGroups, IsHead, IsLeft, IsSingle}
-use Rattle.md_rows.proofs.GroupLines.{IsUnder, span-begins}
+use Rattle.md_rows.proofs.GroupLines.{IsUnder}
 use Rattle.md_rows.proofs.GroupsAre.{groups-are}
-use Rattle.md_rows.proofs.HeadedTable.{headed-is}
-use Rattle.md_rows.proofs.JoinedLeaves.{headed-each, lines-hold}
 use Rattle.md_rows.proofs.JoinedLemmas.{EachNoContent}
-use Rattle.md_rows.proofs.KindLemmas.{kind-starts}
 use Rattle.md_rows.proofs.RowFacts.{AreRows}
+use Rattle.md_rows.proofs.RowHolds.{OfRows, each-linked, front-holds, headed-holds, set-holds, span-holds, tail-holds}
 use Rattle.md_rows.proofs.Text.Cut.{IsCutText, between}
 use Rattle.md_rows.proofs.Text.Cut.IsCutText.{Defines, Follows, Remains}
 use Rattle.md_rows.proofs.Text.Cuts.{cut-is}
@@ -91,101 +85,47 @@ prefixes-are : (es : List Event) → ArePrefixes es → turns.ArePrefixes es
 prefixes-are [] h = tt
 prefixes-are (e ∷ es) h = (h.0.0, prefixes-are es h.1)
 
--- Around the leaf of a line.
+-- What stands around the leaf of a line, and lines that are no text.
+
+unturned-rows : OfRows AreUnturned
+unturned-rows = record {
+  append = each-append IsUnturned;
+  fronts = fronts-unturned;
+  ending = λ p q. (refl, (refl, tt));
+  blank_ending = λ p q. (refl, (refl, tt));
+  white = λ p q. (refl, (refl, tt));
+}
 
 front-unturned : (bytes : List ℕ) (row : Row) → HasFront bytes row → AreUnturned row.front
-front-unturned bytes row h =
-    fronts-unturned row.front (fronts-are bytes row.change.opens h.0 row.first row.front h.1)
-
-prefixes-unturned : (es : List Event) → ArePrefixes es → AreUnturned es
-prefixes-unturned es h = fronts-unturned es (prefixes-front es h)
+front-unturned = front-holds AreUnturned unturned-rows
 
 tail-unturned : (blank : Bool) (row : Row) → AreUnturned (tail_events (ending_name blank) row)
-tail-unturned blank row =
-    each-append IsUnturned (ends_of row.closed_after row.end) (ending_events (ending_name blank) row)
-    (fronts-unturned (ends_of row.closed_after row.end) (ends-are row.closed_after row.end)) (ending blank row.after)
-  where
-    ending : (blank : Bool) (after : Option Point) →
-        AreUnturned (elim after [ None ↦ [] | Some q ↦ pair (ending_name blank) row.end q ])
-    ending blank None = tt
-    ending true (Some q) = (refl, (refl, tt))
-    ending false (Some q) = (refl, (refl, tt))
-
--- Lines that are no text.
-
-blank-unturned : (line : List ℕ) (p : Point) → AreUnturned (blank_line line p)
-blank-unturned [] p = tt
-blank-unturned (b ∷ line) p = (refl, (refl, tt))
+tail-unturned = tail-holds AreUnturned unturned-rows
 
 single-unturned : (options : ParseOptions) (bytes : List ℕ) (row : Row) → IsSingle options bytes row →
-    (kind : RowKind) → row.kind ≡ kind → AreUnturned (tabled_row_by bytes kind row)
-single-unturned options bytes row is kind e =
-    each-append IsUnturned (row.front ++ leaf_unread bytes kind row) (tail_events (ending_of kind row) row)
-    (each-append IsUnturned row.front (leaf_unread bytes kind row) (front-unturned bytes row is.front)
-    (unread kind e))
-    (tail-unturned (is_blank_by kind row) row)
-  where
-    unread : (kind : RowKind) → row.kind ≡ kind → AreUnturned (leaf_unread bytes kind row)
-    unread BlankRow e = subst AreUnturned (sym (is.is.blank e)) (blank-unturned is.line row.first)
-    unread (LeafRow l) e =
-        subst (λ (line : List ℕ). AreUnturned ((leaf l).unread line row.first)) (sym (is.is.text ∙ is.is.line_is))
-        ((laws l).unturned (is.ends l e) options row.on is.is.rest row.first
-        (kind-starts options row.on is.is.rest l (sym is.is.kind ∙ e)))
-    unread TextRow e = absurd (is.other e)
+    AreUnturned (tabled_row_by bytes row.kind row)
+single-unturned = set-holds AreUnturned unturned-rows (λ l. (laws l).unturned)
 
 -- Lines of leaves of several, joined.
 
-whitened : (x : Bool) (e : Event) → IsUnturned e → IsUnturned (record e { name = cond x n.SpaceOrTab e.name })
-whitened true e h = refl
-whitened false e h = h
-
-unturned-gaps : OfGaps IsUnturned AreUnturned
-unturned-gaps = record {
-  all = λ es h. h;
-  append = each-append IsUnturned;
-  ending = λ p q. (refl, (refl, tt));
-  blank = λ p q. (refl, (refl, tt));
-  white = λ e h. whitened (is_code_line e.name) e h;
-}
-
 span-unturned : (options : ParseOptions) (bytes : List ℕ) (row : Row) (rows : List Row) →
     AreSpan options bytes row rows → Begins row → AreUnturned (tabled_group options bytes (LeafLines row rows))
-span-unturned options bytes row rows are begins =
-    let last : Row = last_row row rows in
-    let joined : List Event = span_by (λ (r : Row). r.inside) row rows in
-    each-append IsUnturned (row.front ++ joined) (tail_events (ending_of last.kind last) last)
-    (each-append IsUnturned row.front joined
-    (front-unturned bytes row (span-begins options bytes row rows are).front)
-    (lines-hold AreUnturned
-    (lined-gaps AreUnturned (λ es h. each-as IsLined IsUnturned lined-unturned es h) (each-append IsUnturned)
-    (λ p q. (refl, (refl, tt)))) options bytes row rows are begins))
-    (tail-unturned (is_blank_by last.kind last) last)
+span-unturned =
+    span-holds AreUnturned unturned-rows (λ es h. each-as IsLined IsUnturned lined-unturned es h)
 
 headed-unturned : (options : ParseOptions) (bytes : List ℕ) (row next : Row) (rows : List Row) →
     IsHead options bytes row next → AreSpan options bytes next rows → HasFront bytes row →
     AreUnturned (spanned_group options bytes (Headed row next rows))
-headed-unturned options bytes row next rows head are front =
-    let last : Row = last_row next rows in
-    let joined : List Event = span_by (λ (r : Row). r.inside) (headed_row bytes row) (next ∷ rows) in
-    each-append IsUnturned (row.front ++ joined) (tail_events n.LineEnding last)
-    (each-append IsUnturned row.front joined (front-unturned bytes row front)
-    (headed-each IsUnturned of-unturned (λ q. refl) (λ e is. lined-unturned e (prefix-lined e is)) unturned-gaps options
-    bytes row next rows (headed-is options bytes row next rows head are).are))
-    (tail-unturned false last)
+headed-unturned =
+    headed-holds IsUnturned unturned-rows of-unturned (λ q. refl) (λ e is. lined-unturned e (prefix-lined e is))
+    (λ e. refl)
 
 -- Texts.
 
 linked-unturned : (link : Link) (row : Row) (rows : List Row) → EachPrefixed rows →
     AreUnturned (linked_lines n.Data link row rows)
-linked-unturned link row [] h = (refl, (refl, tt))
-linked-unturned link row (next ∷ rows) h = (
-  refl,
-  (
-    refl,
-    each-append IsUnturned next.front (linked_lines n.Data link next rows) (prefixes-unturned next.front h.0)
-        (linked-unturned link next rows h.1),
-  ),
-)
+linked-unturned =
+    each-linked IsUnturned (λ p link. refl) (λ q. refl) (λ es h. fronts-unturned es (prefixes-front es h))
 
 -- the line that turns one is an underline
 record IsUnderline (under : Row) : Type 0 where
@@ -259,7 +199,7 @@ groups-unlined : (options : ParseOptions) (bytes : List ℕ) (gs : List Group) �
 groups-unlined options bytes [] are = refl
 groups-unlined options bytes (Single row ∷ gs) are =
     unlined-passed (tabled_group options bytes (Single row)) (set_groups options bytes gs)
-    (single-unturned options bytes row are.0 row.kind refl) (groups-unlined options bytes gs are.1)
+    (single-unturned options bytes row are.0) (groups-unlined options bytes gs are.1)
 groups-unlined options bytes (Lines row rows ∷ gs) are =
     text-unlined options bytes row rows (set_groups options bytes gs) are.0 are.2
 groups-unlined options bytes (Turned row rows under ∷ gs) are =
@@ -453,7 +393,7 @@ groups-turned : (options : ParseOptions) (bytes : List ℕ) (gs : List Group) �
 groups-turned options bytes [] are = refl
 groups-turned options bytes (Single row ∷ gs) are =
     passed (tabled_group options bytes (Single row)) (set_groups options bytes gs)
-    (single-unturned options bytes row are.0 row.kind refl)
+    (single-unturned options bytes row are.0)
     ∙ ap (λ (l : List Event). tabled_group options bytes (Single row) ++ l) (groups-turned options bytes gs are.1)
 groups-turned options bytes (Lines row rows ∷ gs) are =
     text-turned options bytes row rows (set_groups options bytes gs) are.0 are.2

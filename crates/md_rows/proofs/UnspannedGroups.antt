@@ -1,79 +1,58 @@
 -- Groups of lines that are no leaf of several: the walk that joins the lines of such leaves passes them.
-use Rattle.std.proofs.Common.{◌≡◌, ℕ, List, [], ◌∷◌, ◌++◌, refl, sym, ◌∙◌, subst}
+use Rattle.std.proofs.Common.{◌≡◌, ℕ, List, [], ◌∷◌, ◌++◌, refl, ◌∙◌}
 use Rattle.md_engine.specs.declared.configuration.ParseOptions.{ParseOptions}
 use Rattle.md_engine.specs.declared.event.Event.{Event}
 use Rattle.md_engine.specs.declared.event.Link.{Link}
 use Rattle.md_engine.specs.declared.event.Name.TheVariants as n
-use Rattle.md_engine.specs.declared.event.Point.{Point}
 use Rattle.md_seam.specs.Events.Nested.{around, exit}
-use Rattle.md_rows.specs.BlockList.{heading_unread, lines_unread, turned_unread}
+use Rattle.md_rows.specs.BlockList.{heading_unread, lines_unread, turned_unread, tabled_group, tabled_row_by}
+use Rattle.md_rows.specs.BlockList.{text_unread, unread_lines}
 use Rattle.md_frame.specs.TextLines.{text_leaf}
-use Rattle.md_registry.specs.Registry.{turn_leaf, leaf}
-use Rattle.md_frame.specs.Row.{BlankRow, LeafRow, Row, RowKind, TextRow, blank_line, ending_events, ending_of, last_row}
-use Rattle.md_rows.specs.Rows.{Lines, Turned, leaf_unread, row_events, tail_events, text_done, turned_done}
+use Rattle.md_registry.specs.Registry.{turn_leaf}
+use Rattle.md_frame.specs.Row.{Row, TextRow, ending_events, is_blank_by, last_row}
+use Rattle.md_rows.specs.Rows.{Lines, Turned, row_events, turned_done}
 use Rattle.md_content_rooms.specs.Defined.{defined_unread}
 use Rattle.md_rows.specs.Unread.{unread_group}
 use Rattle.md_frame.specs.UnreadText.{linked_lines}
-use Rattle.md_rows.specs.BlockList.{tabled_group, tabled_row_by, text_unread, unread_lines}
 use Rattle.md_frame.proofs.EachEvent.{each-append}
 use Rattle.md_frame.proofs.FrontNames.{HasFront, fronts-prefixes}
-use Rattle.md_frame.proofs.PrefixNames.{prefixes-front}
 use Rattle.md_frame.proofs.SpannedFacts.{AreUnspanned, IsUnspanned, fronts-unspanned}
 use Rattle.md_frame.proofs.SubstitutedLemmas.{EachPrefixed}
 use Rattle.md_registry.proofs.Registry.{laws}
-use Rattle.md_rows.proofs.GroupLemmas.{lines-prefixed, under-prefixed}
+use Rattle.md_rows.proofs.GroupLemmas.{lines-prefixed}
 use Rattle.md_rows.proofs.GroupLines.{AreLines, IsLeft, IsSingle, IsUnder}
-use Rattle.md_rows.proofs.KindLemmas.{kind-starts}
-use Rattle.md_rows.proofs.RowHolds.{row-holds, single-holds}
-use Rattle.md_rows.proofs.SpanJoined.{ending-name, ending-unspanned, front-unspanned, prefixes-unspanned}
-use Rattle.md_rows.proofs.SpanJoined.{tail-unspanned}
+use Rattle.md_rows.proofs.RowHolds.{OfRows, around-holds, each-linked, set-holds, single-holds, text-holds}
+use Rattle.md_rows.proofs.RowHolds.{turned-holds}
+use Rattle.md_rows.proofs.SpanJoined.{ending-name, ending-unspanned, prefixes-unspanned}
 use Rattle.md_rows.proofs.Text.Cut.{between}
-use Rattle.md_rows.proofs.Text.Cuts.{cut-is}
-use Rattle.md_rows.proofs.Text.Names.{between-of, cut-of, defined-of, unspanned-of}
+use Rattle.md_rows.proofs.Text.Names.{between-of, defined-of, unspanned-of}
 use Rattle.md_rows.proofs.Turned.Cut.{IsCutHeading, heading-cut, left-remains, IsCutHeading as cut_heading}
 use Rattle.md_rows.proofs.Underlines.{under-unspanned}
 
 -- Lines that are no text, as their states leave them, and once they are set.
 
-blank-unspanned : (line : List ℕ) (p : Point) → AreUnspanned (blank_line line p)
-blank-unspanned [] p = tt
-blank-unspanned (b ∷ line) p = (refl, (refl, tt))
+unspanned-rows : OfRows AreUnspanned
+unspanned-rows = record {
+  append = each-append IsUnspanned;
+  fronts = fronts-unspanned;
+  ending = λ p q. (refl, (refl, tt));
+  blank_ending = λ p q. (refl, (refl, tt));
+  white = λ p q. (refl, (refl, tt));
+}
 
 pub row-unspanned : (options : ParseOptions) (bytes : List ℕ) (row : Row) → IsSingle options bytes row →
     AreUnspanned (row_events row)
-row-unspanned options bytes row is =
-    single-holds AreUnspanned (each-append IsUnspanned) blank-unspanned (λ l. (laws l).unjoined) options bytes row is
-    (front-unspanned bytes row is.front) (tail-unspanned row.kind row)
+row-unspanned = single-holds AreUnspanned unspanned-rows (λ l. (laws l).unjoined)
 
 pub single-unspanned : (options : ParseOptions) (bytes : List ℕ) (row : Row) → IsSingle options bytes row →
-    (kind : RowKind) → row.kind ≡ kind → AreUnspanned (tabled_row_by bytes kind row)
-single-unspanned options bytes row is kind e =
-    each-append IsUnspanned (row.front ++ leaf_unread bytes kind row) (tail_events (ending_of kind row) row)
-    (each-append IsUnspanned row.front (leaf_unread bytes kind row) (front-unspanned bytes row is.front)
-    (unread kind e))
-    (tail-unspanned kind row)
-  where
-    unread : (kind : RowKind) → row.kind ≡ kind → AreUnspanned (leaf_unread bytes kind row)
-    unread BlankRow e = subst AreUnspanned (sym (is.is.blank e)) (blank-unspanned is.line row.first)
-    unread (LeafRow l) e =
-        subst (λ (line : List ℕ). AreUnspanned ((leaf l).unread line row.first)) (sym (is.is.text ∙ is.is.line_is))
-        ((laws l).unspanned (is.ends l e) options row.on is.is.rest row.first
-        (kind-starts options row.on is.is.rest l (sym is.is.kind ∙ e)))
-    unread TextRow e = absurd (is.other e)
+    AreUnspanned (tabled_row_by bytes row.kind row)
+single-unspanned = set-holds AreUnspanned unspanned-rows (λ l. (laws l).unspanned)
 
 -- Texts.
 
 linked-unspanned : (link : Link) (row : Row) (rows : List Row) → EachPrefixed rows →
     AreUnspanned (linked_lines n.Data link row rows)
-linked-unspanned link row [] h = (refl, (refl, tt))
-linked-unspanned link row (next ∷ rows) h = (
-  refl,
-  (
-    refl,
-    each-append IsUnspanned next.front (linked_lines n.Data link next rows)
-        (fronts-unspanned next.front (prefixes-front next.front h.0)) (linked-unspanned link next rows h.1),
-  ),
-)
+linked-unspanned = each-linked IsUnspanned (λ p link. refl) (λ q. refl) prefixes-unspanned
 
 -- lines of a text that is not read yet, and a text from which definitions are cut
 lines-unspanned : (options : ParseOptions) (bytes : List ℕ) (row : Row) (rows : List Row) →
@@ -86,25 +65,16 @@ lines-unspanned options bytes row rows are = (
 
 pub text-unspanned : (options : ParseOptions) (bytes : List ℕ) (row : Row) (rows : List Row) →
     AreLines options bytes row rows → HasFront bytes row → AreUnspanned (tabled_group options bytes (Lines row rows))
-text-unspanned options bytes row rows are front =
-    let last : Row = last_row row rows in
-    each-append IsUnspanned (row.front ++ text_unread options bytes row rows)
-    (tail_events (ending_of TextRow last) last)
-    (each-append IsUnspanned row.front (text_unread options bytes row rows) (front-unspanned bytes row front)
-    (cut-of AreUnspanned unspanned-of options bytes (lines-unspanned options bytes) row rows
-    (text_unread options bytes row rows) (text_done options bytes row rows) (cut-is options bytes row rows are)))
-    (tail-unspanned TextRow last)
+text-unspanned options bytes =
+    text-holds AreUnspanned unspanned-rows unspanned-of options bytes (lines-unspanned options bytes)
 
 -- with the line that turns it, before it is turned
 pub underlined-unspanned : (options : ParseOptions) (bytes : List ℕ) (row : Row) (rows : List Row) (under : Row) →
     AreLines options bytes row rows → IsUnder options bytes (last_row row rows) under → HasFront bytes row →
     AreUnspanned (unread_group options bytes (Turned row rows under))
 underlined-unspanned options bytes row rows under are is front =
-    each-append IsUnspanned (unread_group options bytes (Lines row rows)) (row_events under)
-    (text-unspanned options bytes row rows are front)
-    (row-holds AreUnspanned (each-append IsUnspanned) under is.name is.kind
-    (prefixes-unspanned under.front (under-prefixed options bytes (last_row row rows) under is))
-    (under-unspanned options bytes row rows under are is) (tail-unspanned under.kind under))
+    turned-holds AreUnspanned unspanned-rows options bytes row rows under is
+    (text-unspanned options bytes row rows are front) (under-unspanned options bytes row rows under are is)
 
 -- the lines that an underline turns, with it
 heading-unspanned : (options : ParseOptions) (bytes : List ℕ) (row : Row) (rows : List Row) (under : Row) →
@@ -157,9 +127,7 @@ pub turned-unspanned : (options : ParseOptions) (bytes : List ℕ) (row : Row) (
     AreUnspanned (tabled_group options bytes (Turned row rows under))
 turned-unspanned options bytes row rows under are is left front =
     let heading : List Event = turned_unread options bytes row rows under in
-    each-append IsUnspanned (row.front ++ heading) (tail_events (ending_of under.kind under) under)
-    (each-append IsUnspanned row.front heading (front-unspanned bytes row front)
+    around-holds AreUnspanned unspanned-rows bytes row under (is_blank_by under.kind under) heading front
     (headed-unspanned options bytes under row rows (text_unread options bytes row rows) heading
     (turned_done options bytes row rows under)
-    (heading-cut options bytes row rows under are is (left-remains options bytes row rows are left))))
-    (tail-unspanned under.kind under)
+    (heading-cut options bytes row rows under are is (left-remains options bytes row rows are left)))
