@@ -170,17 +170,11 @@ tail-unwanted wants kind row =
     no_content-unwanted wants (tail_events (ending_of kind row) row)
     (tail-no_content wants (ending_of kind row) row (ending-other (is_blank_by kind row)))
 
-front-unwanted : (wants : Content → Bool) → WantsContent wants → (bytes : List ℕ) (row : Row) → HasFront bytes row →
-    Unwanted wants row.front
-front-unwanted wants w bytes row h = no_content-unwanted wants row.front (has_front-no_content wants w bytes row h)
-
 -- a line that is no text, of which a reader reads no text
-single-unwanted : (options : ParseOptions) (bytes : List ℕ) (wants : Content → Bool) (row : Row) →
-    IsSingle options bytes row → WantsContent wants → Unwanted wants (row_events row)
-single-unwanted options bytes wants row is w =
-    no_content-unwanted wants (row_events row)
-    (events-no_content wants row row.kind refl is.other (has_front-no_content wants w bytes row is.front)
-    (is.quiet wants w))
+single-quiet : (options : ParseOptions) (bytes : List ℕ) (wants : Content → Bool) (row : Row) →
+    IsSingle options bytes row → WantsContent wants → NoContent wants (row_events row)
+single-quiet options bytes wants row is w =
+    events-no_content wants row row.kind refl is.other (has_front-no_content wants w bytes row is.front) (is.quiet wants w)
 
 span-quiet : (options : ParseOptions) (bytes : List ℕ) (wants : Content → Bool) (row : Row) →
     IsSpanLine options bytes row → HasNoContent row → WantsContent wants → NoContent wants (row_events row)
@@ -197,12 +191,6 @@ spans-quiet options bytes wants row (next ∷ rows) are quiet w =
     no_content-append wants (row_events row) (rows_events (next ∷ rows))
     (span-quiet options bytes wants row are.0 quiet.0 w) (spans-quiet options bytes wants next rows are.8 quiet.1 w)
 
-span-unwanted : (options : ParseOptions) (bytes : List ℕ) (wants : Content → Bool) (row : Row) (rows : List Row) →
-    AreSpan options bytes row rows → EachNoContent (row ∷ rows) → WantsContent wants →
-    Unwanted wants (rows_events (row ∷ rows))
-span-unwanted options bytes wants row rows are quiet w =
-    no_content-unwanted wants (rows_events (row ∷ rows)) (spans-quiet options bytes wants row rows are quiet w)
-
 -- a head that was read again, with the lines that go on it
 pub headed-quiet : (options : ParseOptions) (bytes : List ℕ) (wants : Content → Bool) (row next : Row)
     (rows : List Row) →
@@ -217,14 +205,6 @@ headed-quiet options bytes wants row next rows are front quiet w =
     (head-no_content wants w (row_line bytes row) row.first))
     (tail-no_content wants n.LineEnding row refl))
     (spans-quiet options bytes wants next rows are quiet w)
-
-headed-unwanted : (options : ParseOptions) (bytes : List ℕ) (wants : Content → Bool) (row next : Row)
-    (rows : List Row) →
-    AreSpan options bytes next rows → HasFront bytes row → EachNoContent (next ∷ rows) → WantsContent wants →
-    Unwanted wants (headed_lines bytes row next rows)
-headed-unwanted options bytes wants row next rows are front quiet w =
-    no_content-unwanted wants (headed_lines bytes row next rows)
-    (headed-quiet options bytes wants row next rows are front quiet w)
 
 -- nor the line that turns a text
 pub under-other : (options : ParseOptions) (bytes : List ℕ) (last under : Row) → IsUnder options bytes last under →
@@ -243,11 +223,6 @@ under-quiet options bytes wants last under is w =
     events-no_content wants under under.kind refl (under-other options bytes last under is)
     (front-no_content wants w under.front (prefixes-front under.front (under-prefixed options bytes last under is)))
     (is.quiet wants w)
-
-under-unwanted : (options : ParseOptions) (bytes : List ℕ) (wants : Content → Bool) (last under : Row) →
-    IsUnder options bytes last under → WantsContent wants → Unwanted wants (row_events under)
-under-unwanted options bytes wants last under is w =
-    no_content-unwanted wants (row_events under) (under-quiet options bytes wants last under is w)
 
 -- in front of the further lines of a text stand prefixes alone
 pub lines-prefixed : (options : ParseOptions) (bytes : List ℕ) (row : Row) (rows : List Row) →
@@ -389,7 +364,8 @@ text-content options bytes wants reads w other unique row rows are front es left
     let given : List Event = text_unread options bytes row rows in
     let begun : (rest : List Event) × (is : out ≡ row.front ++ rest) ×
     Substituted wants reads left 0 (inside ++ ys) rest =
-    passes wants reads left 0 row.front (inside ++ ys) out (front-unwanted wants other bytes row front)
+    passes wants reads left 0 row.front (inside ++ ys) out
+    (no_content-unwanted wants row.front (has_front-no_content wants other bytes row front))
     (subst (λ (l : List Event). Substituted wants reads left 0 l out)
     (append_assoc (row.front ++ inside) tail es ∙ append_assoc row.front inside ys) s) in
     let rest : Rest wants reads given ys begun.0 =
@@ -406,19 +382,25 @@ text-content options bytes wants reads w other unique row rows are front es left
       two.2,
     )
 
+-- events without content in front of others stay
+then-content : (wants : Content → Bool) (reads : Readings) (xs ys rest : List Event)
+    (left out : List Event) →
+    NoContent wants xs → ((more : List Event) → Substituted wants reads left 0 ys more → more ≡ rest) →
+    Substituted wants reads left 0 (xs ++ ys) out → out ≡ xs ++ rest
+then-content wants reads xs ys rest left out quiet behind s =
+    let one : (more : List Event) × (is : out ≡ xs ++ more) × Substituted wants reads left 0 ys more =
+    passes wants reads left 0 xs ys out (no_content-unwanted wants xs quiet) s in
+    one.1 ∙ ap (λ (l : List Event). xs ++ l) (behind one.0 one.2)
+
 groups-content : (options : ParseOptions) (bytes : List ℕ) (wants : Content → Bool) (reads : Readings) →
     wants content.Content ≡ true → WantsContent wants → ReadsContent options bytes reads →
     (gs : List Group) → AreGroups options bytes gs → (left out : List Event) →
     Substituted wants reads left 0 (joined_groups bytes gs) out → out ≡ unread_groups options bytes gs
 groups-content options bytes wants reads w other unique [] are left out s = s
 groups-content options bytes wants reads w other unique (Single row ∷ gs) are left out s =
-    let one : (rest : List Event) × (is : out ≡ row_events row ++ rest) ×
-    Substituted wants reads left 0 (joined_groups bytes gs) rest =
-    passes wants reads left 0 (row_events row) (joined_groups bytes gs) out
-    (single-unwanted options bytes wants row are.0 other) s in
-    one.1
-    ∙ ap (λ (l : List Event). row_events row ++ l)
-    (groups-content options bytes wants reads w other unique gs are.1 left one.0 one.2)
+    then-content wants reads (row_events row) (joined_groups bytes gs) (unread_groups options bytes gs) left
+    out (single-quiet options bytes wants row are.0 other)
+    (groups-content options bytes wants reads w other unique gs are.1 left) s
 groups-content options bytes wants reads w other unique (Turned row rows under ∷ gs) are left out s =
     let text : List Event = unread_group options bytes (Lines row rows) in
     let behind : List Event = row_events under ++ joined_groups bytes gs in
@@ -429,33 +411,20 @@ groups-content options bytes wants reads w other unique (Turned row rows under �
     (append_assoc
     ((row.front ++ linked_lines n.Content content_link row rows) ++ tail_events n.LineEnding (last_row row rows))
     (row_events under) (joined_groups bytes gs)) s) in
-    let two : (rest : List Event) × (is : one.0 ≡ row_events under ++ rest) ×
-    Substituted wants reads one.1 0 (joined_groups bytes gs) rest =
-    passes wants reads one.1 0 (row_events under) (joined_groups bytes gs) one.0
-    (under-unwanted options bytes wants (last_row row rows) under are.1 other) one.3 in
     one.2
     ∙ ap (λ (l : List Event). text ++ l)
-    (two.1
-    ∙ ap (λ (l : List Event). row_events under ++ l)
-    (groups-content options bytes wants reads w other unique gs are.4 one.1 two.0 two.2))
+    (then-content wants reads (row_events under) (joined_groups bytes gs) (unread_groups options bytes gs)
+    one.1 one.0 (under-quiet options bytes wants (last_row row rows) under are.1 other)
+    (groups-content options bytes wants reads w other unique gs are.4 one.1) one.3)
     ∙ sym (append_assoc text (row_events under) (unread_groups options bytes gs))
 groups-content options bytes wants reads w other unique (Headed row next rows ∷ gs) are left out s =
-    let lines : List Event = headed_lines bytes row next rows in
-    let one : (rest : List Event) × (is : out ≡ lines ++ rest) ×
-    Substituted wants reads left 0 (joined_groups bytes gs) rest =
-    passes wants reads left 0 lines (joined_groups bytes gs) out
-    (headed-unwanted options bytes wants row next rows are.1 are.3 are.5 other) s in
-    one.1
-    ∙ ap (λ (l : List Event). lines ++ l)
-    (groups-content options bytes wants reads w other unique gs are.4 left one.0 one.2)
+    then-content wants reads (headed_lines bytes row next rows) (joined_groups bytes gs)
+    (unread_groups options bytes gs) left out (headed-quiet options bytes wants row next rows are.1 are.3 are.5 other)
+    (groups-content options bytes wants reads w other unique gs are.4 left) s
 groups-content options bytes wants reads w other unique (LeafLines row rows ∷ gs) are left out s =
-    let one : (rest : List Event) × (is : out ≡ rows_events (row ∷ rows) ++ rest) ×
-    Substituted wants reads left 0 (joined_groups bytes gs) rest =
-    passes wants reads left 0 (rows_events (row ∷ rows)) (joined_groups bytes gs) out
-    (span-unwanted options bytes wants row rows are.0 are.3 other) s in
-    one.1
-    ∙ ap (λ (l : List Event). rows_events (row ∷ rows) ++ l)
-    (groups-content options bytes wants reads w other unique gs are.2 left one.0 one.2)
+    then-content wants reads (rows_events (row ∷ rows)) (joined_groups bytes gs)
+    (unread_groups options bytes gs) left out (spans-quiet options bytes wants row rows are.0 are.3 other)
+    (groups-content options bytes wants reads w other unique gs are.2 left) s
 groups-content options bytes wants reads w other unique (Lines row rows ∷ gs) are left out s =
     let text : List Event = unread_group options bytes (Lines row rows) in
     let one : Rest wants reads text (joined_groups bytes gs) out =

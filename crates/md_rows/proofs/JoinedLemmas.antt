@@ -554,11 +554,24 @@ text-rows bytes row below rows q after fronts ends h none heads kind e same = go
             let bad : true ≡ false = sym head ∙ subst HeadsNone is (groups-unheaded below rows e heads) in cc
 
 -- a line that is not text, and what follows it
-single-rows : (bytes : List ℕ) (row : Row) (rows : List Row) → NoContent nothing (row_events row) →
-    joined (rows_events rows) ≡ joined_groups bytes (groups rows) →
-    joined (row_events row ++ rows_events rows) ≡ joined_groups bytes (Single row ∷ groups rows)
-single-rows bytes row rows h same =
-    joined-passes (row_events row) (rows_events rows) h ∙ ap (λ (l : List Event). row_events row ++ l) same
+single-rows : (bytes : List ℕ) (row : Row) (rows : List Row) → HasFront bytes row → HasNoContent row → (kind : RowKind) →
+    row.kind ≡ kind → kind ≢ TextRow → joined (rows_events rows) ≡ joined_groups bytes (groups rows) →
+    joined (row_events row ++ rows_events rows) ≡ joined_groups bytes (onto_groups row kind (groups rows))
+single-rows bytes row rows front quiet kind e apart same = passes ∙ by kind apart
+  where
+    passes : joined (row_events row ++ rows_events rows) ≡ row_events row ++ joined_groups bytes (groups rows)
+    passes =
+        joined-passes (row_events row) (rows_events rows)
+        (events-no_content nothing row kind e apart (has_front-no_content nothing nothing-wanted bytes row front)
+        (quiet nothing nothing-wanted))
+        ∙ ap (λ (l : List Event). row_events row ++ l) same
+
+    by : (kind : RowKind) → kind ≢ TextRow →
+        row_events row ++ joined_groups bytes (groups rows) ≡
+        joined_groups bytes (onto_groups row kind (groups rows))
+    by BlankRow apart = refl
+    by (LeafRow l) apart = sym (leaf-joined bytes (leaf l).ends row (groups rows))
+    by TextRow apart = absurd (apart refl)
 
 -- the last line is text
 text-last : (bytes : List ℕ) (row : Row) → HasFront bytes row →
@@ -574,45 +587,36 @@ text-last bytes row front = text-apart bytes row [] front (go row.closed_after r
         let ending : List Event = elim after [ None ↦ [] | Some q ↦ pair n.LineEnding row.end q ] in
         ap goes_on (append_assoc (ends_of (c ∷ leaves) row.end) ending []) ∙ ends-stop c leaves row.end (ending ++ [])
 
+-- a line in front of others
+joined-row : (bytes : List ℕ) (row : Row) (rows : List Row) → EachFront bytes (row ∷ rows) → EachEnds (row ∷ rows) →
+    EachNoContent (row ∷ rows) → NoHeads (row ∷ rows) → joined (rows_events rows) ≡ joined_groups bytes (groups rows) →
+    joined (rows_events (row ∷ rows)) ≡ joined_groups bytes (groups (row ∷ rows))
+joined-row bytes row rows fronts ends h none same = go row.kind refl
+  where
+    text : (rows : List Row) → EachFront bytes (row ∷ rows) → EachEnds (row ∷ rows) → EachNoContent (row ∷ rows) →
+        NoHeads (row ∷ rows) → joined (rows_events rows) ≡ joined_groups bytes (groups rows) → row.kind ≡ TextRow →
+        joined (row_events_by TextRow row ++ rows_events rows) ≡
+        joined_groups bytes (onto_groups row TextRow (groups rows))
+    text [] fronts ends h none same e = text-last bytes row fronts.0
+    text (below ∷ rows) fronts ends h none same e =
+        text-rows bytes row below rows ends.0 ends.1 fronts ends.2 (h.1.0 nothing nothing-wanted) (none.0 e) none.1
+        below.kind refl same
+
+    go : (kind : RowKind) → row.kind ≡ kind →
+        joined (row_events row ++ rows_events rows) ≡ joined_groups bytes (onto_groups row kind (groups rows))
+    go TextRow e =
+        ap (λ (kind : RowKind). joined (row_events_by kind row ++ rows_events rows)) e
+        ∙ text rows fronts ends h none same e
+    go BlankRow e = single-rows bytes row rows fronts.0 h.0 BlankRow e (λ k. cc) same
+    go (LeafRow l) e = single-rows bytes row rows fronts.0 h.0 (LeafRow l) e (λ k. cc) same
+
 -- Joined, the events of lines are those of their groups: lines of text that follow one another in the same containers
 -- are joined.
 pub joined-rows : (bytes : List ℕ) (rows : List Row) → EachFront bytes rows → EachEnds rows → EachNoContent rows →
     NoHeads rows →
     joined (rows_events rows) ≡ joined_groups bytes (groups rows)
 joined-rows bytes [] fronts ends h none = refl
-joined-rows bytes (row ∷ []) fronts ends h none = go row.kind refl
-  where
-    other : (kind : RowKind) → row.kind ≡ kind → kind ≢ TextRow →
-        joined (row_events row ++ []) ≡ joined_groups bytes (Single row ∷ [])
-    other kind e apart =
-        single-rows bytes row []
-        (events-no_content nothing row kind e apart (has_front-no_content nothing nothing-wanted bytes row fronts.0)
-        (h.0 nothing nothing-wanted)) refl
-
-    go : (kind : RowKind) → row.kind ≡ kind →
-        joined (row_events row ++ []) ≡ joined_groups bytes (onto_groups row kind [])
-    go BlankRow e = other BlankRow e (λ k. cc)
-    go (LeafRow l) e = other (LeafRow l) e (λ k. cc) ∙ sym (leaf-joined bytes (leaf l).ends row [])
-    go TextRow e = ap (λ (kind : RowKind). joined (row_events_by kind row ++ [])) e ∙ text-last bytes row fronts.0
+joined-rows bytes (row ∷ []) fronts ends h none = joined-row bytes row [] fronts ends h none refl
 joined-rows bytes (row ∷ below ∷ rows) fronts ends h none =
-    go (joined-rows bytes (below ∷ rows) fronts.1 ends.2 h.1 none.1) row.kind refl
-  where
-    other : joined (rows_events (below ∷ rows)) ≡ joined_groups bytes (groups (below ∷ rows)) → (kind : RowKind) →
-        row.kind ≡ kind → kind ≢ TextRow →
-        joined (row_events row ++ rows_events (below ∷ rows)) ≡ joined_groups bytes (Single row ∷ groups (below ∷ rows))
-    other same kind e apart =
-        single-rows bytes row (below ∷ rows)
-        (events-no_content nothing row kind e apart (has_front-no_content nothing nothing-wanted bytes row fronts.0)
-        (h.0 nothing nothing-wanted)) same
-
-    go : joined (rows_events (below ∷ rows)) ≡ joined_groups bytes (groups (below ∷ rows)) → (kind : RowKind) →
-        row.kind ≡ kind →
-        joined (row_events row ++ rows_events (below ∷ rows)) ≡
-        joined_groups bytes (onto_groups row kind (groups (below ∷ rows)))
-    go same BlankRow e = other same BlankRow e (λ k. cc)
-    go same (LeafRow l) e =
-        other same (LeafRow l) e (λ k. cc) ∙ sym (leaf-joined bytes (leaf l).ends row (groups (below ∷ rows)))
-    go same TextRow e =
-        ap (λ (kind : RowKind). joined (row_events_by kind row ++ rows_events (below ∷ rows))) e
-        ∙ text-rows bytes row below rows ends.0 ends.1 fronts ends.2 (h.1.0 nothing nothing-wanted) (none.0 e) none.1
-        below.kind refl same
+    joined-row bytes row (below ∷ rows) fronts ends h none
+    (joined-rows bytes (below ∷ rows) fronts.1 ends.2 h.1 none.1)
