@@ -32,7 +32,8 @@ use Rattle.md_rows.proofs.RowHolds.{turned-holds}
 use Rattle.md_rows.proofs.SpannedGroups.{lines-joined}
 use Rattle.md_rows.proofs.Text.Names.{closed-of}
 use Rattle.md_rows.proofs.TextProgress.{IsShut}
-use Rattle.md_rows.proofs.Underlines.{under-alone}
+use Rattle.md_leaf_rooms.proofs.HeadingSetext.Line.{underline-alone}
+use Rattle.md_rows.proofs.Underlines.{under-holds}
 
 -- Around the leaf of a line.
 closed-rows : OfRows IsClosed
@@ -65,7 +66,7 @@ underlined-closed : (options : ParseOptions) (bytes : List ℕ) (row : Row) (row
     IsClosed (unread_group options bytes (Turned row rows under))
 underlined-closed options bytes row rows under are is front =
     turned-holds IsClosed closed-rows options bytes row rows under is (text-closed options bytes row rows are front)
-    (under-alone options bytes row rows under are is)
+    (under-holds IsClosed underline-alone options bytes row rows under are is)
 
 -- the lines of a leaf of several
 span-closed : (options : ParseOptions) (bytes : List ℕ) (row : Row) (rows : List Row) →

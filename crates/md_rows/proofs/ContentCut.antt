@@ -31,11 +31,11 @@ use Rattle.md_rows.proofs.Defined.Cells.{world-first}
 use Rattle.md_rows.proofs.Defined.Cut.{IsBehind, IsSet, lines-cut}
 use Rattle.md_content_rooms.proofs.Defined.Placed.{Before, Fits, bare-front, bared, placed, placed-break, placed-here}
 use Rattle.md_content_rooms.proofs.Defined.Takes.{EndIn, end_in-append}
-use Rattle.md_rows.proofs.GroupLines.{AreLines}
+use Rattle.md_rows.proofs.GroupLines.{first-text, AreLines}
 use Rattle.md_rows.proofs.GroupLemmas.{ReadsContent, are-apart, line-grows, unread-cut}
 use Rattle.md_rows.proofs.JoinedLemmas.{behind-is}
 use Rattle.md_frame.proofs.LeafLines.Cuts.{ending-is}
-use Rattle.md_rows.proofs.ParagraphReads.{first-row, paragraph-reads}
+use Rattle.md_rows.proofs.ParagraphReads.{paragraph-reads}
 use Rattle.md_frame.proofs.SubstitutedLemmas.{AllBelong, CutAt, NextBelongs}
 
 -- Cuts.
@@ -396,7 +396,7 @@ unfolding content_events
 content-cut options bytes row rows h =
     let chunks = chunks_of row rows in
     let cells = lines_cells options bytes row rows in
-    let small = (first-row options bytes row rows h).1.small in
+    let small = (first-text options bytes row rows h).1.small in
     let read = content-is options bytes small (suc (length rows)) row rows h (omega arith) in
     let events : content_events bytes options chunks ≡
     laid (bared (breaks_of row rows)) (content_over options cells row.first) =

@@ -31,6 +31,12 @@ AreLines options bytes row (next ∷ rows) =
     × (q : Point) × (after : row.after ≡ Some q) × (ending : IsEnding bytes row.end q) ×
     (front : LinePrefix bytes [] q next.first next.front) × AreLines options bytes next rows
 
+-- the first of them
+pub first-text : (options : ParseOptions) (bytes : List ℕ) (row : Row) (rows : List Row) →
+    AreLines options bytes row rows → (line : List ℕ) × IsRow options bytes line row × (row.kind ≡ TextRow)
+first-text options bytes row [] h = (h.0, h.1, h.2)
+first-text options bytes row (next ∷ rows) h = (h.0, h.1, h.2)
+
 -- as the line definition keeps them
 abbrev pub kept-of : (options : ParseOptions) (bytes : List ℕ) (row : Row) (rows : List Row) →
     AreLines options bytes row rows → List ParagraphLine

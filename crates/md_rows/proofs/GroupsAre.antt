@@ -32,7 +32,7 @@ use Rattle.md_rows.proofs.RowLeaf.{EndsOnLine}
 use Rattle.md_frame.proofs.SpanLaws.{IsLineOf}
 use Rattle.md_rows.proofs.TextProgress.{IsFresh, IsShut, setext-may, turn-left}
 use Rattle.md_registry.proofs.UnderNames.{further-text}
-use Rattle.md_rows.proofs.GroupLines.{AreGroups, AreLines, AreSpan, EndsBeforeGroups, FirstIs, IsHead, IsSingle}
+use Rattle.md_rows.proofs.GroupLines.{first-text, AreGroups, AreLines, AreSpan, EndsBeforeGroups, FirstIs, IsHead, IsSingle}
 use Rattle.md_rows.proofs.GroupLines.{IsSpanLine, IsUnder, Leaves, line-as, line-further}
 use Rattle.md_rows.proofs.LineBehind.{FirstBegins, IsBehind, begins-behind, behind-fresh, behind-on, blank-ends}
 use Rattle.md_rows.proofs.LineBehind.{first-begins, first-behind, leaf-fresh, leaf-other, leaf-row-ends, leaves-left}
@@ -197,12 +197,6 @@ text-head options bytes line row q below is e after ending first f h =
       heads = h;
     }
 
--- the first line of a text is one
-pub first-text : (options : ParseOptions) (bytes : List ℕ) (row : Row) (rows : List Row) →
-    AreLines options bytes row rows → row.kind ≡ TextRow
-first-text options bytes row [] are = are.2
-first-text options bytes row (next ∷ rows) are = are.2
-
 -- definitions leave something of the line that an underline turns
 pub under-leaves : (options : ParseOptions) (bytes line : List ℕ) (row under : Row) →
     (is : IsRow options bytes line row) → (e : row.kind ≡ TextRow) → IsSpanLine options bytes under →
@@ -304,7 +298,7 @@ text-are options bytes line p row q (Turned below rows under ∷ gs) is e after 
     )
     go true ends (c ∷ opens) k =
         apart (first.on ∙ ap (λ (l : List Container). cond (is_none l) (progress_of row.behind) Fresh) k)
-    go false ends opens k = apart (first.closed (first-text options bytes below rows are.0) ends)
+    go false ends opens k = apart (first.closed (first-text options bytes below rows are.0).2 ends)
 text-are options bytes line p row q (Lines below rows ∷ gs) is e after ending first are =
     go (change.is_none row.closed_after) below.change.opens refl
   where

@@ -38,7 +38,8 @@ use Rattle.md_rows.proofs.RowHolds.{blank-holds, each-linked, front-holds, heade
 use Rattle.md_rows.proofs.RowHolds.{text-holds, turned-holds}
 use Rattle.md_rows.proofs.Text.Names.{of-each}
 use Rattle.md_rows.proofs.TextProgress.{IsShut}
-use Rattle.md_rows.proofs.Underlines.{under-outside}
+use Rattle.md_leaf_rooms.proofs.HeadingSetext.Line.{underline-outside}
+use Rattle.md_rows.proofs.Underlines.{under-holds}
 
 -- a line that is no text is set
 single-set : (options : ParseOptions) (bytes : List ℕ) (row : Row) (es : List Event) → IsSingle options bytes row →
@@ -92,7 +93,7 @@ underlined-outside : (options : ParseOptions) (bytes : List ℕ) (row : Row) (ro
     AreOutside (unread_group options bytes (Turned row rows under))
 underlined-outside options bytes row rows under are is front =
     turned-holds AreOutside outside-rows options bytes row rows under is (text-outside options bytes row rows are front)
-    (under-outside options bytes row rows under are is)
+    (under-holds AreOutside underline-outside options bytes row rows under are is)
 
 groups-set : (options : ParseOptions) (bytes : List ℕ) (gs : List Group) → AreGroups options bytes gs →
     resolved (spanned_groups options bytes gs) ≡ set_groups options bytes gs

@@ -3,11 +3,11 @@ use Rattle.md_engine.specs.declared.tokenizer.held_leaf.HeldLeaf.TheVariants as 
 use Rattle.md_engine.specs.declared.tokenizer.held_leaf.HeldLeaf.{HeldLeaf}
 use Rattle.md_frame.specs.LeafName.{LeafName}
 use Rattle.md_registry.specs.Registry.{leaf}
-use Rattle.md_rows.proofs.GroupLines.{AreSpan, Begins, FirstIs, IsHead, IsSpanLine, IsUnder, Leaves, AreLines}
+use Rattle.md_rows.proofs.GroupLines.{first-text, AreSpan, Begins, FirstIs, IsHead, IsSpanLine, IsUnder, Leaves, AreLines}
 use Rattle.md_rows.proofs.LineBehind.{FirstBegins, IsBehind, behind-fresh, behind-on, leaf-fresh, leaves-left}
 use Rattle.md_rows.proofs.LineBehind.{leaves-longer, unjoined-fresh, begins-behind, blank-ends, first-begins}
 use Rattle.md_rows.proofs.LineBehind.{first-behind, leaf-other, leaf-row-ends, shut-behind, turned-alone}
-use Rattle.md_rows.proofs.GroupsAre.{first-text, under-leaves, text-head, text-under}
+use Rattle.md_rows.proofs.GroupsAre.{under-leaves, text-head, text-under}
 use Rattle.std.proofs.Common.{◌≡◌, ◌≢◌, ℕ, Bool, true, false, cond, ◌&&◌, List, [], ◌∷◌, ◌++◌, refl, ap, sym, ◌∙◌}
 use Rattle.std.proofs.Common.{append_assoc, append-nil, subst}
 use Rattle.std.specs.Prelude.{IsTrue, Some}
@@ -350,7 +350,7 @@ module _ (options : ParseOptions) (bytes line : List ℕ) (P : List Name → Poi
           Both_of (cond x (Turned row (next ∷ rows) under ∷ gs) (Lines row [] ∷ Turned next rows under ∷ gs))
       joins false k =
           alone-holds e (Turned next rows under ∷ gs)
-          (h (unjoined-fresh bytes q row next first (first-text options bytes next rows below.are.are) k))
+          (h (unjoined-fresh bytes q row next first (first-text options bytes next rows below.are.are).2 k))
       joins true k =
           let parts = and_parts (is_none row.closed_after) (is_none next.change.opens) k in
           let leaves : row.closed_after ≡ [] = none-nil row.closed_after parts.0 in

@@ -35,7 +35,7 @@ use Rattle.md_frame.specs.Linked.{linked}
 use Rattle.md_content_rooms.proofs.Defined.Placed.{bared}
 use Rattle.md_content_rooms.proofs.Defined.Takes.{EndIn}
 use Rattle.md_frame.proofs.FrontPlaces.{fronts-grow, fronts-line}
-use Rattle.md_rows.proofs.GroupLines.{AreLines}
+use Rattle.md_rows.proofs.GroupLines.{AreLines, first-text}
 use Rattle.md_rows.proofs.GroupLemmas.{are-apart, line-grows, row-line, text-some}
 use Rattle.md_frame.proofs.LineTexts.{past_text-line, piece}
 use Rattle.md_rows.proofs.RowFacts.{IsRow}
@@ -54,12 +54,6 @@ row-within options bytes line row is text =
     let more = length-drop row.end.index bytes in
     omega (arith, is.size)
 
-pub first-row : (options : ParseOptions) (bytes : List ℕ) (row : Row) (rows : List Row) →
-    AreLines options bytes row rows →
-    (line : List ℕ) × IsRow options bytes line row
-first-row options bytes row [] h = (h.0, h.1)
-first-row options bytes row (next ∷ rows) h = (h.0, h.1)
-
 -- the first line ends where the last does, or before
 pub ends-grow : (options : ParseOptions) (bytes : List ℕ) (row : Row) (rows : List Row) →
     AreLines options bytes row rows →
@@ -67,7 +61,7 @@ pub ends-grow : (options : ParseOptions) (bytes : List ℕ) (row : Row) (rows : 
 ends-grow options bytes row [] h = omega arith
 ends-grow options bytes row (next ∷ rows) h =
     let more = ends-grow options bytes next rows h.7 in
-    let line = (first-row options bytes next rows h.7).1 in
+    let line = (first-text options bytes next rows h.7).1 in
     let front = fronts-grow bytes [] h.3 next.first next.front h.6 in
     omega (arith, h.5.size, line.size)
 
@@ -248,6 +242,45 @@ pub record LinesRead (x : Setting) (row : Row) (rows : List Row) (es behind : Li
 abbrev text_events : Setting → Point → List Event → List Event
 text_events x p behind = enter_link n.Data p text_link ∷ line_events (text_feed x p) p ++ behind
 
+-- an ending leads to the next line
+pub record Leads (x : Setting) (bytes : List ℕ) (k : ℕ) (row next : Row) (rows : List Row) : Type 0 where
+  pub feed : text_feed x row.end ≡ cell 10 next.first x.line ∷ text_feed x next.first
+  pub within : row.end.index < x.limit
+  pub below : AreRead x bytes (k + 1) next rows
+
+pub leads : (options : ParseOptions) (bytes : List ℕ) (x : Setting) (k : ℕ) (row next : Row) (rows : List Row) →
+    AreLines options bytes row (next ∷ rows) → AreRead x bytes k row (next ∷ rows) → Leads x bytes k row next rows
+leads options bytes x k row next rows h r =
+    let grow = ends-grow options bytes next rows h.7 in
+    let line = (first-text options bytes next rows h.7).1 in
+    let front = fronts-grow bytes [] h.3 next.first next.front h.6 in
+    let same = fronts-line bytes [] h.3 next.first next.front h.6 in
+    let some = ending-some h.5.ending in
+    let number = next-line options bytes row next rows h in
+    let within : row.end.index < x.limit = omega (arith, r.limit, h.5.size, line.size) in
+    let skips : drop (k + 1) x.skips ≡
+    next.first ∷ firsts rows = drop-next k x.skips row.first (next.first ∷ firsts rows) r.skips in
+    let at : slice_get x.skips (next.first.line - x.first_line) ≡
+    Some next.first = ap (slice_get x.skips) (omega (arith, r.line))
+    ∙ get-at (k + 1) x.skips next.first (firsts rows) skips in
+    let text : drop row.end.index x.bytes ≡ ending_bytes h.5.ending ++ drop h.3.index bytes =
+    ap (drop row.end.index) r.bytes_are ∙ piece bytes row.end.index h.3.index (omega (arith, h.5.size))
+    ∙ ap (λ (l : List ℕ). l ++ drop h.3.index bytes) h.5.text in
+    let begun : line_begun x (past_ending h.5.ending row.end) ≡
+    next.first = begun-next x (past_ending h.5.ending row.end) next.first at (omega (arith, h.5.line))
+    (omega (arith, h.5.size)) in
+    record {
+      feed = ending-leads x h.5.ending (drop h.3.index bytes) row.end next.first r.small text h.5.before within begun;
+      within = within;
+      below = record {
+        small = r.small;
+        bytes_are = r.bytes_are;
+        limit = r.limit;
+        skips = skips;
+        line = omega (arith, r.line);
+      };
+    }
+
 lines-read : (options : ParseOptions) (bytes : List ℕ) (x : Setting) (k : ℕ) (row : Row) (rows : List Row)
     (behind : List Event) →
     AreLines options bytes row rows → AreRead x bytes k row rows → EndIn (last_row row rows).end behind →
@@ -266,37 +299,11 @@ lines-read options bytes x k row [] behind h r ends =
     }
 lines-read options bytes x k row (next ∷ rows) behind h r ends =
     let grow = ends-grow options bytes next rows h.7 in
-    let line = (first-row options bytes next rows h.7).1 in
-    let front = fronts-grow bytes [] h.3 next.first next.front h.6 in
-    let same = fronts-line bytes [] h.3 next.first next.front h.6 in
-    let some = ending-some h.5.ending in
-    let number = next-line options bytes row next rows h in
-    let within : row.end.index < x.limit = omega (arith, r.limit, h.5.size, line.size) in
-    let read = line-read options bytes h.0 x row h.1 r.small r.bytes_are (omega arith) in
-    let skips : drop (k + 1) x.skips ≡
-    next.first ∷ firsts rows = drop-next k x.skips row.first (next.first ∷ firsts rows) r.skips in
-    let at : slice_get x.skips (next.first.line - x.first_line) ≡
-    Some next.first = ap (slice_get x.skips) (omega (arith, r.line))
-    ∙ get-at (k + 1) x.skips next.first (firsts rows) skips in
-    let text : drop row.end.index x.bytes ≡ ending_bytes h.5.ending ++ drop h.3.index bytes =
-    ap (drop row.end.index) r.bytes_are ∙ piece bytes row.end.index h.3.index (omega (arith, h.5.size))
-    ∙ ap (λ (l : List ℕ). l ++ drop h.3.index bytes) h.5.text in
-    let begun : line_begun x (past_ending h.5.ending row.end) ≡
-    next.first = begun-next x (past_ending h.5.ending row.end) next.first at (omega (arith, h.5.line))
-    (omega (arith, h.5.size)) in
-    let feed : text_feed x row.end ≡
-    cell 10 next.first x.line
-    ∷ text_feed x next.first = ending-leads x h.5.ending
-    (drop h.3.index bytes) row.end next.first r.small text h.5.before within begun in
-    let below : AreRead x bytes
-    (k + 1) next rows = record {
-      small = r.small;
-      bytes_are = r.bytes_are;
-      limit = r.limit;
-      skips = skips;
-      line = omega (arith, r.line);
-    } in
-    let more = lines-read options bytes x (k + 1) next rows behind h.7 below ends in
+    let line = (first-text options bytes next rows h.7).1 in
+    let on : Leads x bytes k row next rows = leads options bytes x k row next rows h r in
+    let feed = on.feed in
+    let read = line-read options bytes h.0 x row h.1 r.small r.bytes_are (let within = on.within in omega (arith, within)) in
+    let more = lines-read options bytes x (k + 1) next rows behind h.7 on.below ends in
     let apart = are-apart options bytes row next rows h in
     let last = (last_row next rows).end in
     let before : next.first.index < last.index = next-before next rows h.7 in

@@ -2,8 +2,8 @@
 use Rattle.md_engine.specs.declared.tokenizer.held_leaf.HeldLeaf.TheVariants as held_leaf
 use Rattle.md_engine.specs.declared.tokenizer.held_leaf.HeldLeaf.{HeldLeaf}
 use Rattle.std.proofs.Common.{◌≡◌, ℕ, true, List, [], ◌∷◌, ◌++◌, sym, subst}
-use Rattle.md_rows.specs.Rows.{Headed, LeafLines, Turned, final_row, first_row, front_done, group_done, Group, Lines}
-use Rattle.md_rows.specs.Rows.{Single, group_events, groups, groups_events, tail_events, group_ending, is_blank_group}
+use Rattle.md_rows.specs.Rows.{final_row, first_row, front_done, group_done, Group, group_events, groups, groups_events}
+use Rattle.md_rows.specs.Rows.{tail_events, group_ending, is_blank_group}
 use Rattle.std.specs.Prelude.{Option, Some, None}
 use Rattle.md_engine.specs.declared.configuration.ParseOptions.{ParseOptions}
 use Rattle.md_engine.specs.declared.event.Event.{Event}
@@ -21,7 +21,7 @@ use Rattle.md_rows.specs.Fronted.{contained, rest_from}
 use Rattle.md_frame.specs.RestLine.{rest_line}
 use Rattle.md_frame.specs.Row.{Row, ending_events}
 use Rattle.md_rows.specs.BlockList.{group_unread, tabled_group, tabled_groups}
-use Rattle.md_rows.proofs.EachRow.{EachGroup, EachRow, OfGroup, groups-each, last-each}
+use Rattle.md_rows.proofs.EachRow.{EachGroup, EachRow, OfGroup, final-each, groups-each}
 use Rattle.md_frame.proofs.FrontFacts.{LinePrefix}
 use Rattle.md_frame.proofs.FrontStands.{fronts-stood}
 use Rattle.md_frame.proofs.PieceFacts.{PiecesValid, stood-append, stood-exit, stood-none, stood-pair}
@@ -96,14 +96,6 @@ rows-stand options bytes open_before still p lines rows are = absurd are
 
 -- Groups.
 
--- of a group, the last line
-final-stands : (bytes : List ℕ) (group : Group) → OfGroup (LineStands bytes) group → LineStands bytes (final_row group)
-final-stands bytes (Single row) h = h
-final-stands bytes (Lines row rows) h = last-each (LineStands bytes) row rows h.0 h.1
-final-stands bytes (Turned row rows under) h = h.2
-final-stands bytes (Headed row next rows) h = last-each (LineStands bytes) next rows h.1 h.2
-final-stands bytes (LeafLines row rows) h = last-each (LineStands bytes) row rows h.0 h.1
-
 -- what stands in front of the first line of a group, in its place, and behind it
 group-stood : (bytes : List ℕ) (p : Point) (group : Group) (front es : List Event) →
     LinePrefix bytes (first_row group).change.opens p (first_row group).first front →
@@ -113,7 +105,7 @@ group-stood bytes p group front es is h stood =
     let row : Row = first_row group in
     stood-append bytes (front ++ es) (tail_events (group_ending group) (final_row group))
     (stood-append bytes front es (fronts-stood bytes row.change.opens p row.first front is) stood)
-    ((final-stands bytes group h).tail (group_ending group) (ending-named (is_blank_group group)))
+    ((final-each (LineStands bytes) group h).tail (group_ending group) (ending-named (is_blank_group group)))
 
 -- groups of such lines, before texts are read
 abbrev UnreadStood : ParseOptions → List ℕ → List Name → Point → List Group → Type 0

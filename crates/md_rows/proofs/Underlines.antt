@@ -14,18 +14,15 @@ use Rattle.md_frame.specs.LeafName.{HeadingSetext, LeafName}
 use Rattle.md_registry.specs.Registry.{leaf}
 use Rattle.md_frame.specs.Row.{LeafRow, Row, RowKind, is_blank_by, last_row}
 use Rattle.md_rows.specs.Rows.{is_further, takes_head}
-use Rattle.md_frame.proofs.ClosedFacts.{IsClosed}
 use Rattle.md_frame.proofs.ContentFacts.{NoContent}
 use Rattle.md_rows.proofs.GroupLines.{AreLines, IsUnder}
-use Rattle.md_leaf_rooms.proofs.HeadingSetext.Line.{underline-alone, underline-each, underline-outside}
-use Rattle.md_leaf_rooms.proofs.HeadingSetext.Line.{underline-unspanned}
+use Rattle.md_leaf_rooms.proofs.HeadingSetext.Line.{underline-each}
 use Rattle.md_rows.proofs.JoinedLemmas.{HasNoContent}
+use Rattle.md_engine.specs.declared.event.Event.{Event}
 use Rattle.md_frame.proofs.MarkRuns.Each.{IsNoContent, each-no_content}
 use Rattle.md_registry.proofs.Registry.{insider-none}
 use Rattle.md_rows.proofs.RowFacts.{IsRow}
 use Rattle.md_rows.proofs.RowLeaf.{leaf-filled}
-use Rattle.md_frame.proofs.OutsideFacts.{AreOutside}
-use Rattle.md_frame.proofs.SpannedFacts.{AreUnspanned}
 use Rattle.md_frame.proofs.SpanLaws.{IsLineOf}
 use Rattle.md_rows.proofs.Turned.Under.{text-open, under-turns}
 use Rattle.md_registry.proofs.UnderNames.{further-text}
@@ -48,25 +45,13 @@ further-quiet options bytes line row l at is kind on further heads wants w =
     subst (NoContent wants) (sym (is.leaf_is HeadingSetext (kind ∙ ap LeafRow name)))
     (underline-no_content wants line row.first)
 
--- the walk that joins the lines of leaves of several passes it
-pub under-unspanned : (options : ParseOptions) (bytes : List ℕ) (row : Row) (rows : List Row) (under : Row) →
-    AreLines options bytes row rows → IsUnder options bytes (last_row row rows) under → AreUnspanned under.inside
-under-unspanned options bytes row rows under are is =
+-- what holds of an underline holds of the line that turns a text
+pub under-holds : (L : List Event → Type 0) → ((line : List ℕ) (p : Point) → L (underline_line line p)) →
+    (options : ParseOptions) (bytes : List ℕ) (row : Row) (rows : List Row) (under : Row) →
+    AreLines options bytes row rows → IsUnder options bytes (last_row row rows) under → L under.inside
+under-holds L holds options bytes row rows under are is =
     let line : IsLineOf options bytes setext_leaf under = (under-turns options bytes row rows under are is).is in
-    subst AreUnspanned (sym line.inside) (underline-unspanned (rest_line line.rest) under.first)
-
--- no resolver of leaves changes it, and it holds no other block
-pub under-outside : (options : ParseOptions) (bytes : List ℕ) (row : Row) (rows : List Row) (under : Row) →
-    AreLines options bytes row rows → IsUnder options bytes (last_row row rows) under → AreOutside under.inside
-under-outside options bytes row rows under are is =
-    let line : IsLineOf options bytes setext_leaf under = (under-turns options bytes row rows under are is).is in
-    subst AreOutside (sym line.inside) (underline-outside (rest_line line.rest) under.first)
-
-pub under-alone : (options : ParseOptions) (bytes : List ℕ) (row : Row) (rows : List Row) (under : Row) →
-    AreLines options bytes row rows → IsUnder options bytes (last_row row rows) under → IsClosed under.inside
-under-alone options bytes row rows under are is =
-    let line : IsLineOf options bytes setext_leaf under = (under-turns options bytes row rows under are is).is in
-    subst IsClosed (sym line.inside) (underline-alone (rest_line line.rest) under.first)
+    subst L (sym line.inside) (holds (rest_line line.rest) under.first)
 
 -- something stands on it: no leaf is asked first where text is met
 pub under-filled : (options : ParseOptions) (bytes : List ℕ) (row : Row) (rows : List Row) (under : Row) →

@@ -27,7 +27,8 @@ use Rattle.md_rows.proofs.SpanJoined.{ending-name, ending-unspanned, prefixes-un
 use Rattle.md_rows.proofs.Text.Cut.{between}
 use Rattle.md_rows.proofs.Text.Names.{between-of, defined-of, unspanned-of}
 use Rattle.md_rows.proofs.Turned.Cut.{IsCutHeading, heading-cut, left-remains, IsCutHeading as cut_heading}
-use Rattle.md_rows.proofs.Underlines.{under-unspanned}
+use Rattle.md_leaf_rooms.proofs.HeadingSetext.Line.{underline-unspanned}
+use Rattle.md_rows.proofs.Underlines.{under-holds}
 
 -- Lines that are no text, as their states leave them, and once they are set.
 
@@ -74,7 +75,7 @@ pub underlined-unspanned : (options : ParseOptions) (bytes : List ℕ) (row : Ro
     AreUnspanned (unread_group options bytes (Turned row rows under))
 underlined-unspanned options bytes row rows under are is front =
     turned-holds AreUnspanned unspanned-rows options bytes row rows under is
-    (text-unspanned options bytes row rows are front) (under-unspanned options bytes row rows under are is)
+    (text-unspanned options bytes row rows are front) (under-holds AreUnspanned underline-unspanned options bytes row rows under are is)
 
 -- the lines that an underline turns, with it
 heading-unspanned : (options : ParseOptions) (bytes : List ℕ) (row : Row) (rows : List Row) (under : Row) →
@@ -92,7 +93,7 @@ heading-unspanned options bytes row rows under are is = (
       )
       (ending-unspanned n.LineEnding last (ending-name TextRow last)))
       (prefixes-unspanned under.front (fronts-prefixes bytes [] is.after under.first under.front refl is.front)))
-      (under-unspanned options bytes row rows under are is))
+      (under-holds AreUnspanned underline-unspanned options bytes row rows under are is))
       (refl, tt),
 )
   where

@@ -1,9 +1,9 @@
 -- The cells of lines of a text: those of the rest of each line, and the cell of each ending, which leads to where the
 -- next line begins.
-use Rattle.std.proofs.Common.{◌≡◌, inl, inr, ℕ, zero, suc, ◌+◌, ◌-◌, ◌^◌, ◌<◌, ◌≤◌, Bool, true, false, cond}
-use Rattle.std.proofs.Common.{nat_eq, List, [], ◌∷◌, ◌++◌, length, drop, refl, sym, ap, ◌∙◌, subst, arith, append_assoc}
+use Rattle.std.proofs.Common.{◌≡◌, inl, inr, ℕ, zero, suc, ◌+◌, ◌-◌, ◌^◌, ◌<◌, ◌≤◌, Bool, true, false, cond, nat_eq}
+use Rattle.std.proofs.Common.{List, [], ◌∷◌, ◌++◌, length, drop, refl, sym, ap, ◌∙◌, subst, arith, append_assoc}
 use Rattle.std.proofs.Common.{append-nil}
-use Rattle.std.specs.Prelude.{Some, nat_lt, slice_get, slice_index}
+use Rattle.std.specs.Prelude.{nat_lt, slice_index}
 use Rattle.std.specs.List.{list_all}
 use Rattle.std.proofs.lemmas.Bool.Decides.{nat_tests}
 use Rattle.md_engine.specs.declared.configuration.ParseOptions.{ParseOptions}
@@ -17,13 +17,12 @@ use Rattle.md_engine.proofs.TextFeed.{text-follows}
 use Rattle.md_content.specs.ContentReads.{first_of, part_world}
 use Rattle.md_content.proofs.ContentReadsLemmas.{skipping-same}
 use Rattle.md_meaning.specs.Rest.{cut_tab, is_blank, is_white}
-use Rattle.md_meaning.proofs.TextsLemmas.{NoEnding, ending_bytes}
+use Rattle.md_meaning.proofs.TextsLemmas.{NoEnding}
 use Rattle.md_seam.specs.Ahead.{point_after}
 use Rattle.md_seam.specs.Events.Places.{past_byte, past_text}
 use Rattle.md_seam.specs.Spaces.{any_size}
-use Rattle.md_seam.proofs.FeedLines.{NoFeed, bytes_of, cell, ending-some, feed-next, feed-none, line-feed}
-use Rattle.md_seam.proofs.FeedLines.{no_feed-spread, next_column, past-next, past_ending, spread, tab-feed, tab_cells}
-use Rattle.md_seam.proofs.FeedLines.{tab_end, tab_end-stop}
+use Rattle.md_seam.proofs.FeedLines.{NoFeed, bytes_of, cell, feed-next, feed-none, line-feed, no_feed-spread}
+use Rattle.md_seam.proofs.FeedLines.{next_column, past-next, spread, tab-feed, tab_cells, tab_end, tab_end-stop}
 use Rattle.md_seam.proofs.PlacesLemmas.{at-next}
 use Rattle.md_seam.proofs.RestCells.{Cut, cells_by, past_cut, rest-end, rest_cells}
 use Rattle.md_frame.specs.RestLine.{rest_line}
@@ -31,18 +30,15 @@ use Rattle.md_frame.specs.LeafName.{first_of as first_leaf}
 use Rattle.md_registry.specs.Registry.{leaf, trials}
 use Rattle.md_frame.specs.Row.{BlankRow, Row, TextRow, behind_row, chunks_of, last_row}
 use Rattle.md_rows.specs.Rows.{kind_of, lines_cells}
-use Rattle.md_content_rooms.proofs.Defined.Along.{GoesOn, IsTurn, Stands, Steps, Turn, Walks}
-use Rattle.md_content_rooms.proofs.Defined.Along.{cells-white, goes-on, no_line}
+use Rattle.md_content_rooms.proofs.Defined.Along.{GoesOn, IsTurn, Stands, Steps, Turn, Walks, cells-white, goes-on}
+use Rattle.md_content_rooms.proofs.Defined.Along.{no_line}
 use Rattle.md_content_rooms.proofs.Defined.Form.{IsBreak}
 use Rattle.md_content_rooms.proofs.Defined.Takes.{Walk}
-use Rattle.md_frame.proofs.FrontPlaces.{fronts-grow, fronts-line}
-use Rattle.md_rows.proofs.GroupLines.{AreLines}
+use Rattle.md_rows.proofs.GroupLines.{first-text, AreLines}
 use Rattle.md_rows.proofs.GroupLemmas.{row-line}
 use Rattle.md_rows.proofs.JoinedLemmas.{behind-is}
 use Rattle.md_rows.proofs.KindLemmas.{kind-text}
-use Rattle.md_frame.proofs.LineTexts.{piece}
-use Rattle.md_rows.proofs.ParagraphReads.{AreRead, begun-next, drop-next, ending-leads, ends-grow, first-is, first-row}
-use Rattle.md_rows.proofs.ParagraphReads.{firsts, get-at, last-within, next-line, part-read, row-within, skips-here}
+use Rattle.md_rows.proofs.ParagraphReads.{AreRead, leads, first-is, last-within, part-read, row-within, skips-here}
 use Rattle.md_rows.proofs.RowFacts.{IsRow}
 
 -- The cells, row by row.
@@ -110,45 +106,6 @@ row-feed options bytes line x row is small same said within =
     (sym (is.end ∙ ap (λ (l : List ℕ). past_text l row.first) is.line_is))
 
 -- Lines are fed as their cells.
-
--- an ending leads to the next line
-record Leads (x : Setting) (bytes : List ℕ) (k : ℕ) (row next : Row) (rows : List Row) : Type 0 where
-  feed : text_feed x row.end ≡ cell 10 next.first x.line ∷ text_feed x next.first
-  within : row.end.index < x.limit
-  below : AreRead x bytes (k + 1) next rows
-
-leads : (options : ParseOptions) (bytes : List ℕ) (x : Setting) (k : ℕ) (row next : Row) (rows : List Row) →
-    AreLines options bytes row (next ∷ rows) → AreRead x bytes k row (next ∷ rows) → Leads x bytes k row next rows
-leads options bytes x k row next rows h r =
-    let grow = ends-grow options bytes next rows h.7 in
-    let line = (first-row options bytes next rows h.7).1 in
-    let front = fronts-grow bytes [] h.3 next.first next.front h.6 in
-    let same = fronts-line bytes [] h.3 next.first next.front h.6 in
-    let some = ending-some h.5.ending in
-    let number = next-line options bytes row next rows h in
-    let within : row.end.index < x.limit = omega (arith, r.limit, h.5.size, line.size) in
-    let skips : drop (k + 1) x.skips ≡
-    next.first ∷ firsts rows = drop-next k x.skips row.first (next.first ∷ firsts rows) r.skips in
-    let at : slice_get x.skips (next.first.line - x.first_line) ≡
-    Some next.first = ap (slice_get x.skips) (omega (arith, r.line))
-    ∙ get-at (k + 1) x.skips next.first (firsts rows) skips in
-    let text : drop row.end.index x.bytes ≡ ending_bytes h.5.ending ++ drop h.3.index bytes =
-    ap (drop row.end.index) r.bytes_are ∙ piece bytes row.end.index h.3.index (omega (arith, h.5.size))
-    ∙ ap (λ (l : List ℕ). l ++ drop h.3.index bytes) h.5.text in
-    let begun : line_begun x (past_ending h.5.ending row.end) ≡
-    next.first = begun-next x (past_ending h.5.ending row.end) next.first at (omega (arith, h.5.line))
-    (omega (arith, h.5.size)) in
-    record {
-      feed = ending-leads x h.5.ending (drop h.3.index bytes) row.end next.first r.small text h.5.before within begun;
-      within = within;
-      below = record {
-        small = r.small;
-        bytes_are = r.bytes_are;
-        limit = r.limit;
-        skips = skips;
-        line = omega (arith, r.line);
-      };
-    }
 
 pub lines-feed : (options : ParseOptions) (bytes : List ℕ) (x : Setting) (k : ℕ) (row : Row) (rows : List Row) →
     (h : AreLines options bytes row rows) → AreRead x bytes k row rows → x.line ≡ no_line →
@@ -377,7 +334,7 @@ lines-walks options bytes sized x k row (next ∷ rows) h r said within =
     let turns = turns_of options bytes row (next ∷ rows) in
     let left = turns_of options bytes next rows in
     let on = leads options bytes x k row next rows h r in
-    let below = first-row options bytes next rows h.7 in
+    let below = first-text options bytes next rows h.7 in
     let broken : IsBreak bytes row.end (behind_row row) next.first next.front =
     subst (λ (q : Point). IsBreak bytes row.end q next.first next.front) (sym (behind-is row h.3 h.4))
     (record { whole = h.1.end_whole; ending = h.5; front_is = h.6; column = below.1.first_column }) in

@@ -17,9 +17,8 @@ use Rattle.md_rows.specs.Rows.{further_lines, lines_cells, lines_done, text_done
 use Rattle.md_rows.proofs.ContentCut.{lines-split}
 use Rattle.md_rows.proofs.Defined.Cut.{lines-cut}
 use Rattle.md_content_rooms.proofs.Defined.Is.{IsDefined}
-use Rattle.md_rows.proofs.GroupLines.{AreLines}
+use Rattle.md_rows.proofs.GroupLines.{first-text, AreLines}
 use Rattle.md_frame.proofs.LeafLines.Cuts.{ending-is}
-use Rattle.md_rows.proofs.ParagraphReads.{first-row}
 use Rattle.md_rows.proofs.Text.Cut.{IsCutText, between}
 use Rattle.md_rows.proofs.Text.Cut.IsCutText.{Defines, Follows, Remains}
 
@@ -112,4 +111,4 @@ cuts options bytes small (suc most) row rows h lt =
 pub cut-is : (options : ParseOptions) (bytes : List ℕ) (row : Row) (rows : List Row) → AreLines options bytes row rows →
     IsCutText options bytes row rows (text_unread options bytes row rows) (text_done options bytes row rows)
 cut-is options bytes row rows are =
-    cuts options bytes (first-row options bytes row rows are).1.small (suc (length rows)) row rows are (omega arith)
+    cuts options bytes (first-text options bytes row rows are).1.small (suc (length rows)) row rows are (omega arith)

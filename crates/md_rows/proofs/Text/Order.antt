@@ -8,7 +8,7 @@ use Rattle.md_seam.specs.Events.Inline.{in_order}
 use Rattle.md_seam.specs.Events.Places.{at_or_before}
 use Rattle.md_seam.proofs.InlineLemmas.{before-text}
 use Rattle.md_seam.proofs.NestedLemmas.{at_or_before-refl, at_or_before-trans}
-use Rattle.md_frame.specs.Row.{Row, TextRow, behind_row, chunks_of}
+use Rattle.md_frame.specs.Row.{Row, behind_row, chunks_of}
 use Rattle.md_frame.proofs.ChunkFacts.{ending-order}
 use Rattle.md_frame.proofs.FrontFacts.{LinePrefix}
 use Rattle.md_frame.proofs.FrontLemmas.{fronts-order}
@@ -42,12 +42,6 @@ chunks-order options bytes row (next ∷ rows) h =
     (subst (λ (x : Point). in_order x (chunks_of next rows) ≡ true) (sym behind)
     (order-from h.3 next.first (chunks_of next rows) (fronts-order bytes [] h.3 next.first next.front h.6)
     (chunks-order options bytes next rows h.7)))
-
--- its first line
-pub first-text : (options : ParseOptions) (bytes : List ℕ) (row : Row) (rows : List Row) →
-    AreLines options bytes row rows → (line : List ℕ) × IsRow options bytes line row × (row.kind ≡ TextRow)
-first-text options bytes row [] h = (h.0, h.1, h.2)
-first-text options bytes row (next ∷ rows) h = (h.0, h.1, h.2)
 
 -- a line with its ending
 pub line-before : (options : ParseOptions) (bytes : List ℕ) (row next : Row) (rows : List Row) →

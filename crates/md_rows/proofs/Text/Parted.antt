@@ -1,7 +1,7 @@
 -- Prefixes part a text at the begins of its lines.
 use Rattle.md_frame.proofs.FrontStands.{fronts-parted}
 use Rattle.md_frame.proofs.Reached.{Fine, Reaches, begins-fine, cut-white, reaches-ended, reaches-fine}
-use Rattle.md_rows.proofs.Text.Order.{first-text}
+use Rattle.md_rows.proofs.GroupLines.{first-text}
 use Rattle.std.proofs.Common.{◌≡◌, ℕ, zero, suc, ◌+◌, ◌<◌, ◌≤◌, Bool, true, false, cond, ◌&&◌, List, [], ◌∷◌, ◌++◌}
 use Rattle.std.proofs.Common.{length, slice_range, refl, ap, sym, ◌∙◌, subst, append_assoc, arith}
 use Rattle.md_rows.proofs.KindLemmas.{kind-text}

@@ -39,7 +39,7 @@ use Rattle.md_content_rooms.proofs.Defined.Facts.{defined-done, defined-facts}
 use Rattle.md_content_rooms.proofs.Defined.Form.{Titled, form_block, target_text, text_lines}
 use Rattle.md_content_rooms.proofs.Defined.Is.{IsDefined}
 use Rattle.md_frame.proofs.FrontFacts.{LinePrefix}
-use Rattle.md_rows.proofs.GroupLines.{AreLines, kept-of}
+use Rattle.md_rows.proofs.GroupLines.{first-text, AreLines, kept-of}
 use Rattle.md_frame.proofs.LeafStands.{ending-roles}
 use Rattle.md_frame.proofs.FrontNames.{fronts-unmarked}
 use Rattle.md_frame.proofs.ParagraphLines.{fronts-between}
@@ -50,12 +50,6 @@ use Rattle.md_rows.proofs.Text.Facts.{lines-read}
 -- the setting says nothing of the line
 abbrev said : Line
 said = record { start = 0; lazy = false }
-
--- its text is small
-pub text-small : (options : ParseOptions) (bytes : List ℕ) (row : Row) (rows : List Row) →
-    AreLines options bytes row rows → length bytes < 2 ^ 61
-text-small options bytes row [] are = are.1.small
-text-small options bytes row (next ∷ rows) are = are.1.small
 
 -- The lines of its cells are those of the rows, as the line definition keeps them.
 cells-texts : (options : ParseOptions) (bytes : List ℕ) (row : Row) (rows : List Row) →
@@ -98,7 +92,7 @@ pub lines-definition : (options : ParseOptions) (bytes : List ℕ) (row : Row) (
     definition_at (texts (kept-of options bytes row rows are)) ≡
     cut_of (definition_parts (lines_cells options bytes row rows))
 lines-definition options bytes row rows are =
-    let small = text-small options bytes row rows are in
+    let small = (first-text options bytes row rows are).1.small in
     let same = lines-are options bytes small row rows are in
     ap definition_at (sym (cells-texts options bytes row rows are))
     ∙ definition-lines row.first (lines_are options bytes row rows are)
@@ -198,7 +192,7 @@ pub further-behind : (options : ParseOptions) (bytes : List ℕ) (d : Definition
 further-behind options bytes d next below are behind =
     ap further behind.1
     ∙ ap (λ (cells : List Cell). cell_lines true (whole_cells next.first cells))
-    (lines-are options bytes (text-small options bytes next below are) next below are)
+    (lines-are options bytes (first-text options bytes next below are).1.small next below are)
     ∙ cells-texts options bytes next below are
 
 -- and nothing does where none is there
@@ -284,8 +278,8 @@ reads-more options bytes k row rows few are r none shut fewer =
         (shut-on options r.here lines on
         ∙ ap (then_cut r.here) (cut_definitions-none lines (found ∙ ap cut_of e))))
     go true on (Some d) e =
-        let is : IsCut options bytes row rows d = lines-cut options bytes (text-small options bytes row rows are) row rows
-        are d e in
+        let small = (first-text options bytes row rows are).1.small in
+        let is : IsCut options bytes row rows d = lines-cut options bytes small row rows are d e in
         let own : List Row = take (further_lines d row) rows in
         let left : List Row = drop (further_lines d row) rows in
         let next : Reading = add_block (defined_block (defined_of d)) r in

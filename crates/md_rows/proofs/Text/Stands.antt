@@ -15,7 +15,7 @@ use Rattle.md_content_rooms.proofs.Defined.Facts.{defined-done, defined-facts}
 use Rattle.md_content_rooms.proofs.Defined.Form.{Form, form_done}
 use Rattle.md_content_rooms.proofs.Defined.Is.{IsDefined}
 use Rattle.md_frame.proofs.FrontFacts.{LinePrefix}
-use Rattle.md_rows.proofs.GroupLines.{AreLines}
+use Rattle.md_rows.proofs.GroupLines.{AreLines, first-text}
 use Rattle.md_frame.proofs.LeafFacts.{StandFacts}
 use Rattle.md_frame.proofs.PartedFacts.{clear}
 use Rattle.md_seam.proofs.FeedLines.{IsEnding}
@@ -25,6 +25,7 @@ use Rattle.md_rows.proofs.Text.Cut.{Defines, Follows, IsCutText, Remains}
 use Rattle.md_rows.proofs.Text.Cuts.{cut-is}
 use Rattle.md_rows.proofs.Text.Facts.{text-facts}
 use Rattle.md_rows.proofs.Text.Parted.{rest-clear}
+use Rattle.md_rows.proofs.Turned.Under.{text-whole}
 
 -- One behind the other.
 
@@ -65,8 +66,8 @@ defined-stands bytes d row rows is =
 -- no tab of a character is cut where the first line begins
 pub lines-clear : (options : ParseOptions) (bytes : List ℕ) (row : Row) (rows : List Row) →
     AreLines options bytes row rows → clear bytes row.first ≡ true
-lines-clear options bytes row [] are = rest-clear options bytes are.0 row are.1
-lines-clear options bytes row (next ∷ rows) are = rest-clear options bytes are.0 row are.1
+lines-clear options bytes row rows are =
+    let line = first-text options bytes row rows are in rest-clear options bytes line.0 row line.1
 
 cut-clear : (options : ParseOptions) (bytes : List ℕ) (row : Row) (rows : List Row) (es fs : List Event) →
     IsCutText options bytes row rows es fs → clear bytes row.first ≡ true
@@ -74,12 +75,6 @@ cut-clear options bytes _ _ _ _ (Remains row rows are) = lines-clear options byt
 cut-clear options bytes _ _ _ _ (Defines d row rows are is) = lines-clear options bytes row rows are
 cut-clear options bytes _ _ _ _ (Follows d row own next more q es fs are is after ends front behind) =
     lines-clear options bytes row own are
-
--- nor is one where the last one ends
-lines-whole : (options : ParseOptions) (bytes : List ℕ) (row : Row) (rows : List Row) →
-    AreLines options bytes row rows → (last_row row rows).end.vs ≡ 0
-lines-whole options bytes row [] are = are.1.end_whole
-lines-whole options bytes row (next ∷ rows) are = lines-whole options bytes next rows are.7
 
 -- the last of lines with further ones behind them is the last of these
 pub last-behind : (row : Row) (own : List Row) (next : Row) (more : List Row) →
@@ -103,7 +98,7 @@ cut-stands options bytes _ _ _ _ (Follows d row own next more q es fs are is aft
     (sym (last-behind row own next more))
     (stand-then bytes true row.first last.end q next.first (last_row next more).end next.front
     (defined_unread d row own) (defined_done bytes d row own) es fs (defined-stands bytes d row own is)
-    (lines-whole options bytes row own are) ends front (cut-clear options bytes next more es fs behind)
+    (text-whole options bytes row own are) ends front (cut-clear options bytes next more es fs behind)
     (cut-stands options bytes next more es fs behind))
 
 pub text-stands : (options : ParseOptions) (bytes : List ℕ) (row : Row) (rows : List Row) →

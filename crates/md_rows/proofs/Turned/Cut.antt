@@ -26,12 +26,12 @@ use Rattle.md_rows.proofs.ContentCut.{lines-split}
 use Rattle.md_rows.proofs.Defined.Cut.{IsBehind, lines-cut}
 use Rattle.md_content_rooms.proofs.Defined.Is.{IsDefined}
 use Rattle.md_frame.proofs.FrontFacts.{LinePrefix}
-use Rattle.md_rows.proofs.GroupLines.{AreLines, IsLeft, IsUnder, kept-of}
+use Rattle.md_rows.proofs.GroupLines.{first-text, AreLines, IsLeft, IsUnder, kept-of}
 use Rattle.md_frame.proofs.LeafLines.Cuts.{ending-is}
 use Rattle.md_seam.proofs.FeedLines.{IsEnding}
 use Rattle.md_rows.proofs.Text.Cut.{between}
 use Rattle.md_rows.proofs.Text.Cuts.{lines-front}
-use Rattle.md_rows.proofs.Text.Reads.{defined_of, further-behind, lines-definition, none-found, text-small}
+use Rattle.md_rows.proofs.Text.Reads.{defined_of, further-behind, lines-definition, none-found}
 use Rattle.md_rows.proofs.Text.Stands.{last-behind}
 
 -- where definitions are on, something is left of these lines behind the definitions at their front
@@ -200,5 +200,5 @@ pub heading-cut : (options : ParseOptions) (bytes : List ℕ) (row : Row) (rows 
     IsCutHeading options bytes under row rows (text_unread options bytes row rows)
     (turned_unread options bytes row rows under) (turned_done options bytes row rows under)
 heading-cut options bytes row rows under are is left =
-    cuts options bytes under (text-small options bytes row rows are) (suc (length rows)) row rows are is left
+    cuts options bytes under (first-text options bytes row rows are).1.small (suc (length rows)) row rows are is left
     (omega arith)

@@ -24,11 +24,11 @@ use Rattle.md_frame.specs.Row.{Row, ending_events, last_row}
 use Rattle.md_rows.specs.Rows.{behind_cut, cut_at_most, cut_by, defined_done, further_lines, heading_done, lines_cells}
 use Rattle.md_rows.specs.Rows.{turned_done}
 use Rattle.md_rows.proofs.Defined.Cut.{IsBehind, IsCut, lines-cut}
-use Rattle.md_rows.proofs.GroupLines.{AreLines, IsLeft, IsUnder, kept-of}
+use Rattle.md_rows.proofs.GroupLines.{first-text, AreLines, IsLeft, IsUnder, kept-of}
 use Rattle.md_seam.proofs.FeedLines.{IsEnding}
 use Rattle.md_rows.proofs.Text.Facts.{lines-read}
 use Rattle.md_rows.proofs.Text.Reads.{IsMore, defined-reads, defined_block, defined_of, further-behind}
-use Rattle.md_rows.proofs.Text.Reads.{lines-behind, lines-definition, none-behind, read-gap, text-small}
+use Rattle.md_rows.proofs.Text.Reads.{lines-behind, lines-definition, none-behind, read-gap}
 use Rattle.md_rows.proofs.Turned.Cut.{Remains, left-remains}
 use Rattle.md_rows.proofs.Turned.Reads.{read-turned}
 use Rattle.md_rows.proofs.Turned.Turns.{Turns}
@@ -158,7 +158,7 @@ reads-more options bytes k row rows under few are turns remains r none shut fewe
     go true on None e = alone (cut-as options lines true on ∙ cut_definitions-none lines (found ∙ ap cut_of e))
     go true on (Some d) e =
         let is : IsCut options bytes row rows d =
-        lines-cut options bytes (text-small options bytes row rows are) row rows are d e in
+        lines-cut options bytes (first-text options bytes row rows are).1.small row rows are d e in
         let own : List Row = take (further_lines d row) rows in
         let left : List Row = drop (further_lines d row) rows in
         let next : Reading = add_block (defined_block (defined_of d)) r in
