@@ -1,5 +1,6 @@
 pub mod BlockQuote
 pub mod Continued
+pub mod FrontParts
 pub mod GfmFootnoteDefinition
 pub mod ListItem
 pub mod ListedOutlined

@@ -1,26 +1,14 @@
--- The prefix of a block quote keeps the grammar of events, and has no ending.
-use Rattle.std.proofs.Common.{Bool, true, false, ℕ, List, [], ◌∷◌, refl, ap, sym, ◌∙◌, subst}
+-- The prefix of a block quote keeps the grammar of events.
+use Rattle.std.proofs.Common.{ℕ, List, [], ◌∷◌, refl, ap, sym, ◌∙◌, subst}
 use Rattle.md_engine.specs.declared.event.Event.{Event}
 use Rattle.md_engine.specs.declared.event.Name.TheVariants as n
 use Rattle.md_engine.specs.declared.event.Point.{Point}
 use Rattle.md_seam.specs.Events.Grammar.{Expression, behind, behind_block, blocks, inside}
 use Rattle.md_seam.specs.Events.Nested.{enter}
-use Rattle.md_seam.specs.Events.Places.{same_place}
 use Rattle.md_seam.proofs.GrammarLemmas.{Leads}
-use Rattle.md_seam.proofs.EndingsLemmas.{AreOthers}
-use Rattle.md_containers.proofs.QuoteLines.{IsPrefix, prefix_by}
+use Rattle.md_containers.proofs.QuoteLines.{IsPrefix}
 use Rattle.md_frame.proofs.ContainerNames.{TakesPrefixes}
 use Rattle.md_seam.proofs.QuoteGrammar.{leads-prefix}
-
--- no ending stands in it, and no begin or end of a leaf
-pub prefix-others : (bytes : List ℕ) (p q : Point) (es : List Event) → IsPrefix bytes p q es → AreOthers es
-prefix-others bytes p q es is = subst AreOthers (sym is.events) (go (same_place p is.marker) (same_place is.behind q))
-  where
-    go : (x y : Bool) → AreOthers (prefix_by x y p is.marker is.behind q)
-    go true true = refl
-    go true false = refl
-    go false true = refl
-    go false false = refl
 
 -- where a quote goes on
 pub prefix-stays : (bytes : List ℕ) (p q : Point) (es : List Event) → IsPrefix bytes p q es → (text x : Expression) →

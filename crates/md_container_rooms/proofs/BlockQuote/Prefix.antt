@@ -4,8 +4,7 @@ use Rattle.std.proofs.Common.{◌∙◌, append_assoc, ◌≢◌}
 use Rattle.std.specs.Prelude.{slice_index, IsTrue}
 use Rattle.md_seam.specs.Events.Prefix.{is_prefix}
 use Rattle.md_frame.proofs.EachEvent.{each-append}
-use Rattle.md_frame.proofs.BetweenFacts.{AreBetween, between-append, between-before, between-behind}
-use Rattle.md_frame.proofs.BetweenFacts.{between-more, between-unless, is_low, white-between}
+use Rattle.md_frame.proofs.BetweenFacts.{is_low}
 use Rattle.std.proofs.lemmas.Option.{get_or_from_slice_get}
 use Rattle.md_frame.proofs.PrefixFacts.{PrefixFacts}
 use Rattle.md_frame.proofs.PrefixNames.{ArePrefixes, IsNamed}
@@ -16,66 +15,21 @@ use Rattle.md_engine.specs.declared.event.Event.{Event}
 use Rattle.md_engine.specs.declared.event.Name.TheVariants as n
 use Rattle.md_engine.specs.declared.event.Point.{Point}
 use Rattle.md_seam.specs.Events.Inline.{pair_unless_empty}
-use Rattle.md_seam.specs.Events.Nested.{Balanced, enter, exit, pair, around}
+use Rattle.md_seam.specs.Events.Nested.{enter, exit, pair}
 use Rattle.md_seam.specs.Events.Places.{at_or_before, same_place}
-use Rattle.md_seam.proofs.NestedLemmas.{at_or_before-refl}
 use Rattle.md_seam.proofs.SpelledLemmas.{QuietOrEnding, Unmarked, unmarked-append}
 use Rattle.md_containers.proofs.OpeningLines.{marker-none}
 use Rattle.md_containers.proofs.QuoteLines.{IsPrefix, prefix_by}
-use Rattle.md_frame.proofs.SpanLemmas.{Spans, order-grows}
 use Rattle.md_seam.specs.declared.inline.PartKind.{PartKind}
 use Rattle.md_frame.proofs.PartsStand.{Inside}
-use Rattle.md_outline.specs.Between.{is_between}
-use Rattle.md_frame.proofs.PiecesLemmas.{Covered, tiled-append, tiled-unless_empty, tiled-around, tiled-pair}
-use Rattle.md_container_rooms.proofs.BlockQuote.Pieces.{prefix-stood}
+use Rattle.md_container_rooms.proofs.BlockQuote.Pieces.{marker-stands}
 use Rattle.md_container_rooms.proofs.BlockQuote.Parted.{prefix-clear}
-use Rattle.md_container_rooms.proofs.BlockQuote.Grammar.{prefix-others}
+use Rattle.md_container_rooms.proofs.FrontParts.{FrontPart, low-past, part-append, part-around, part-facts, part-pair}
+use Rattle.md_container_rooms.proofs.FrontParts.{part-white}
 
 -- a byte further comes no earlier
 pub further : (p q : Point) → q.index ≡ suc p.index → IsTrue (at_or_before p q)
 further p q e = grind (arith, nat_tests)
-
--- the events of a prefix
-abbrev pub prefix_list : Point → Point → Point → Point → List Event
-prefix_list p marker behind q =
-    pair_unless_empty n.SpaceOrTab p marker ++ enter n.BlockQuotePrefix marker ∷ enter n.BlockQuoteMarker marker
-    ∷ exit n.BlockQuoteMarker behind ∷ pair_unless_empty n.SpaceOrTab behind q ++ exit n.BlockQuotePrefix q ∷ []
-
-pub list-balanced : (p marker behind q : Point) → Balanced (prefix_list p marker behind q)
-list-balanced p marker behind q = go (same_place p marker) (same_place behind q)
-  where
-    go : (x y : Bool) →
-        Balanced
-        (cond x [] (pair n.SpaceOrTab p marker) ++ enter n.BlockQuotePrefix marker ∷ enter n.BlockQuoteMarker marker
-        ∷ exit n.BlockQuoteMarker behind ∷ cond y [] (pair n.SpaceOrTab behind q) ++ exit n.BlockQuotePrefix q ∷ [])
-    go true true = record { matches = (tt, (tt, (refl, (refl, tt)))); closed = refl }
-    go true false = record { matches = (tt, (tt, (refl, (tt, (refl, (refl, tt)))))); closed = refl }
-    go false true = record { matches = (tt, (refl, (tt, (tt, (refl, (refl, tt)))))); closed = refl }
-    go false false = record { matches = (tt, (refl, (tt, (tt, (refl, (tt, (refl, (refl, tt)))))))); closed = refl }
-
-pub list-spans : (p marker behind q : Point) → IsTrue (at_or_before p marker) → IsTrue (at_or_before marker behind) →
-    IsTrue (at_or_before behind q) → Spans p q (prefix_list p marker behind q)
-list-spans p marker behind q h k l = go (same_place p marker) (same_place behind q)
-  where
-    same : (r : Point) → IsTrue (at_or_before r r)
-    same r = at_or_before-refl r
-
-    go : (x y : Bool) →
-        Spans p q
-        (cond x [] (pair n.SpaceOrTab p marker) ++ enter n.BlockQuotePrefix marker ∷ enter n.BlockQuoteMarker marker
-        ∷ exit n.BlockQuoteMarker behind ∷ cond y [] (pair n.SpaceOrTab behind q) ++ exit n.BlockQuotePrefix q ∷ [])
-    go true true = ((h, (same marker, (k, (l, tt)))), same q)
-    go true false = ((h, (same marker, (k, (same behind, (l, (same q, tt)))))), same q)
-    go false true = ((same p, (h, (same marker, (same marker, (k, (l, tt)))))), same q)
-    go false false = ((same p, (h, (same marker, (same marker, (k, (same behind, (l, (same q, tt)))))))), same q)
-
-pub prefix-balanced : (bytes : List ℕ) (p q : Point) (es : List Event) → IsPrefix bytes p q es → Balanced es
-prefix-balanced bytes p q es is = subst Balanced (sym is.events) (list-balanced p is.marker is.behind q)
-
-pub prefix-spans : (bytes : List ℕ) (p q : Point) (es : List Event) → IsPrefix bytes p q es → Spans p q es
-prefix-spans bytes p q es is =
-    subst (Spans p q) (sym is.events)
-    (list-spans p is.marker is.behind q is.indent (further is.marker is.behind is.past) is.column)
 
 pub pair-prefixes : (p q : Point) → ArePrefixes (pair_unless_empty n.SpaceOrTab p q)
 pair-prefixes p q = go (same_place p q)
@@ -122,21 +76,6 @@ prefix-unmarked bytes p q es is =
     ∷ enter n.BlockQuoteMarker is.marker ∷ exit n.BlockQuoteMarker is.behind
     ∷ pair_unless_empty n.SpaceOrTab is.behind q) (exit n.BlockQuotePrefix q ∷ []) (front-unmarked bytes p q es is)
     (tt, tt))
-
--- a prefix covers what it takes
-pub prefix-tiled : (bytes : List ℕ) (p q : Point) (es : List Event) → IsPrefix bytes p q es → Covered p q es
-prefix-tiled bytes p q es is =
-    let indent : List Event = pair_unless_empty n.SpaceOrTab p is.marker in
-    let white : List Event = pair_unless_empty n.SpaceOrTab is.behind q in
-    let inside : List Event = pair n.BlockQuoteMarker is.marker is.behind ++ white in
-    subst (Covered p q)
-    (sym
-    (is.events ∙ append_assoc indent (enter n.BlockQuotePrefix is.marker ∷ inside) (exit n.BlockQuotePrefix q ∷ [])))
-    (tiled-append p is.marker q indent (around n.BlockQuotePrefix is.marker q inside)
-    (tiled-unless_empty n.SpaceOrTab p is.marker)
-    (tiled-around n.BlockQuotePrefix is.marker q inside
-    (tiled-append is.marker is.behind q (pair n.BlockQuoteMarker is.marker is.behind) white
-    (tiled-pair n.BlockQuoteMarker is.marker is.behind) (tiled-unless_empty n.SpaceOrTab is.behind q))))
 
 -- a prefix has events
 pub prefix-some : (bytes : List ℕ) (p q : Point) (es : List Event) → IsPrefix bytes p q es → es ≢ []
@@ -189,45 +128,31 @@ prefix-inside bytes kind p q es is =
       stand = λ ys. refl;
     }
 
--- a prefix stands between characters, if it begins so
-pub prefix-between : (bytes : List ℕ) (p q : Point) (es : List Event) → is_between bytes p.index ≡ true →
-    IsPrefix bytes p q es → AreBetween bytes es × (is_between bytes q.index ≡ true)
-prefix-between bytes p q es from is =
-    let quote : slice_index bytes is.marker.index ≡ 62 = get_or_from_slice_get bytes is.marker.index 62 0 is.byte in
-    let low : is_low (slice_index bytes is.marker.index) ≡ true = subst (λ (b : ℕ). is_low b ≡ true) (sym quote) refl in
-    let marker : is_between bytes is.marker.index ≡ true = between-before bytes is.marker.index low in
-    let back : is.behind.index - 1 ≡ is.marker.index = omega (arith, is.past) in
-    let behind : is_between bytes is.behind.index ≡
-    true = between-behind bytes is.behind.index
-    (subst (λ (i : ℕ). is_low (slice_index bytes i) ≡ true) (sym back) low) in
-    let end : is_between bytes q.index ≡
-    true = white-between bytes is.behind.index q.index is.white_behind (order-grows is.behind q is.column) behind in
-    let one : List Event = pair_unless_empty n.SpaceOrTab p is.marker in
-    let two : List Event = enter n.BlockQuotePrefix is.marker ∷ enter n.BlockQuoteMarker is.marker
-    ∷ exit n.BlockQuoteMarker is.behind ∷ [] in
-    let three : List Event = pair_unless_empty n.SpaceOrTab is.behind q in
-    let middle : AreBetween bytes two =
-    between-more bytes (enter n.BlockQuotePrefix is.marker)
-    (enter n.BlockQuoteMarker is.marker ∷ exit n.BlockQuoteMarker is.behind ∷ []) marker
-    (between-more bytes (enter n.BlockQuoteMarker is.marker) (exit n.BlockQuoteMarker is.behind ∷ []) marker
-    (between-more bytes (exit n.BlockQuoteMarker is.behind) [] behind refl)) in (
-      subst (AreBetween bytes) (sym is.events)
-          (between-append bytes (one ++ (two ++ three)) (exit n.BlockQuotePrefix q ∷ [])
-          (between-append bytes one (two ++ three) (between-unless bytes n.SpaceOrTab p is.marker from marker)
-          (between-append bytes two three middle (between-unless bytes n.SpaceOrTab is.behind q behind end)))
-          (between-more bytes (exit n.BlockQuotePrefix q) [] end refl)),
-      end,
-    )
-
 -- All of it.
 
+-- its marker
+pub mark-part : (bytes : List ℕ) (p q : Point) (es : List Event) → (is : IsPrefix bytes p q es) →
+    FrontPart bytes is.marker is.behind (pair n.BlockQuoteMarker is.marker is.behind)
+mark-part bytes p q es is =
+    let quote : slice_index bytes is.marker.index ≡ 62 = get_or_from_slice_get bytes is.marker.index 62 0 is.byte in
+    let low : is_low (slice_index bytes is.marker.index) ≡ true = subst (λ (b : ℕ). is_low b ≡ true) (sym quote) refl in
+    part-pair n.BlockQuoteMarker is.marker is.behind (refl, refl, refl, refl) (λ ys h. h) refl refl
+    (further is.marker is.behind is.past) (marker-stands bytes p q es is)
+    (λ from. low-past bytes is.marker is.behind low (omega (arith, is.past)))
+
+-- with the whitespace around it
+prefix-part : (bytes : List ℕ) (p q : Point) (es : List Event) → IsPrefix bytes p q es → FrontPart bytes p q es
+prefix-part bytes p q es is =
+    let indent : List Event = pair_unless_empty n.SpaceOrTab p is.marker in
+    let inside : List Event =
+    pair n.BlockQuoteMarker is.marker is.behind ++ pair_unless_empty n.SpaceOrTab is.behind q in
+    subst (FrontPart bytes p q)
+    (sym
+    (is.events ∙ append_assoc indent (enter n.BlockQuotePrefix is.marker ∷ inside) (exit n.BlockQuotePrefix q ∷ [])))
+    (part-append (part-white p is.marker is.indent is.white_before)
+    (part-around n.BlockQuotePrefix is.marker q inside (refl, refl, refl, refl) tt refl refl
+    (part-append (mark-part bytes p q es is) (part-white is.behind q is.column is.white_behind))))
+
 pub prefix-facts : (bytes : List ℕ) (p q : Point) (es : List Event) → IsPrefix bytes p q es → PrefixFacts bytes p q es
-prefix-facts bytes p q es is = record {
-  nested = (prefix-balanced bytes p q es is, prefix-spans bytes p q es is);
-  line = is.line;
-  tiled = prefix-tiled bytes p q es is;
-  stood = prefix-stood bytes p q es is;
-  others = prefix-others bytes p q es is;
-  clear = λ behind. prefix-clear bytes p q es is;
-  between = λ from. prefix-between bytes p q es from is;
-}
+prefix-facts bytes p q es is =
+    part-facts (prefix-part bytes p q es is) is.line (λ behind. prefix-clear bytes p q es is)

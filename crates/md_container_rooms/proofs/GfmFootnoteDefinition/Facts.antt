@@ -7,47 +7,37 @@ use Rattle.md_engine.specs.declared.event.Link.{Link}
 use Rattle.md_engine.specs.declared.event.Point.{Point}
 use Rattle.md_containers.specs.Footnote.{label_link}
 use Rattle.md_meaning.specs.State.{InFootnote}
-use Rattle.md_container_rooms.proofs.GfmFootnoteDefinition.Grammar.{front-leads, front-others, front-stands}
-use Rattle.md_container_rooms.proofs.GfmFootnoteDefinition.Grammar.{front-unlisted}
-use Rattle.md_container_rooms.proofs.GfmFootnoteDefinition.Names.{front-between, front-line, front-names, front-nested}
-use Rattle.md_container_rooms.proofs.GfmFootnoteDefinition.Names.{front-plain, front-sits, front-some}
+use Rattle.md_container_rooms.proofs.GfmFootnoteDefinition.Grammar.{front-leads, front-stands}
+use Rattle.md_container_rooms.proofs.FrontParts.{FrontPart, part-facts}
+use Rattle.md_container_rooms.proofs.GfmFootnoteDefinition.Names.{front-line, front-part, front-some}
 use Rattle.md_container_rooms.proofs.GfmFootnoteDefinition.Parts.{front-reads}
-use Rattle.md_container_rooms.proofs.GfmFootnoteDefinition.Pieces.{LabelStands, front-stood, front-tiled, label-linked}
-use Rattle.md_container_rooms.proofs.GfmFootnoteDefinition.Pieces.{label-read}
+use Rattle.md_container_rooms.proofs.GfmFootnoteDefinition.Pieces.{LabelStands, label-linked, label-read}
 use Rattle.md_container_rooms.proofs.GfmFootnoteDefinition.Prefix.{IsFront}
 use Rattle.md_container_rooms.proofs.GfmFootnoteDefinition.Read.{front-read}
 use Rattle.md_container_rooms.proofs.ListItem.Parted.{white-clear}
-use Rattle.md_frame.proofs.PrefixFacts.{Opens, OpensRead, PrefixFacts}
+use Rattle.md_frame.proofs.PrefixFacts.{Opens, OpensRead}
 use Rattle.md_frame.proofs.PrefixNames.{is_alone}
-
-front-facts : (bytes label : List ℕ) (link : Option Link) (p q : Point) (es : List Event) →
-    (is : IsFront bytes label link p q es) → LabelStands bytes link label is.start → PrefixFacts bytes p q es
-front-facts bytes label link p q es is stands = record {
-  nested = front-nested bytes label link p q es is;
-  line = front-line bytes label link p q es is;
-  tiled = front-tiled bytes label link p q es is;
-  stood = front-stood bytes label link p q es is stands;
-  others = front-others bytes label link p q es is;
-  clear = λ behind. white-clear bytes p is.start is.white_before (rw is.whole refl);
-  between = front-between bytes label link p q es is;
-}
 
 -- where it opens, be its label read or not
 footnote-opens : (bytes label : List ℕ) (link : Option Link) (p q : Point) (es : List Event) →
     (is : IsFront bytes label link p q es) → LabelStands bytes link label is.start → is_alone link ≡ true →
     Opens bytes (InFootnote label) p q es
-footnote-opens bytes label link p q es is stands alone = record {
-  common = front-facts bytes label link p q es is stands;
-  names = front-names bytes label link p q es is alone;
-  plain = front-plain bytes label link p q es is;
-  sits = front-sits bytes label link p q es is;
-  leads = λ text takes. front-leads bytes label link p q es is text takes;
-  stands = λ held. front-stands bytes label link p q es held is;
-  unlisted = front-unlisted bytes label link p q es is;
-  read = λ r none shut. front-read bytes label link p q es r is none;
-  shown = refl;
-  some = front-some bytes label link p q es is;
-}
+footnote-opens bytes label link p q es is stands alone =
+    let part : FrontPart bytes p q es = front-part bytes label link p q es is stands alone in
+    record {
+      common =
+          part-facts part (front-line bytes label link p q es is)
+          (λ behind. white-clear bytes p is.start is.white_before (rw is.whole refl));
+      names = part.names;
+      plain = part.plain;
+      sits = part.sits;
+      leads = λ text takes. front-leads bytes label link p q es is part.unlisted text takes;
+      stands = λ held. front-stands bytes label link p q es held is;
+      unlisted = part.unlisted;
+      read = λ r none shut. front-read bytes label link p q es r is none;
+      shown = refl;
+      some = front-some bytes label link p q es is;
+    }
 
 -- before its label is read, and once it is
 pub footnote-opens_read : (bytes label : List ℕ) (p q : Point) (es : List Event) →

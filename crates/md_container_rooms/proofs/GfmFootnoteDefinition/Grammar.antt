@@ -10,47 +10,20 @@ use Rattle.md_containers.specs.ItemsStand.{InLabel, Site}
 use Rattle.md_containers.proofs.UnlistedLemmas.{NoListing, StandsTo, Unlists, among, stands-append, unlists-same}
 use Rattle.md_seam.specs.Events.Grammar.{Expression, Then, behind, behind_block, blocks, one, white}
 use Rattle.md_seam.specs.Events.Nested.{enter}
-use Rattle.md_seam.proofs.EndingsLemmas.{AreOthers}
 use Rattle.md_seam.proofs.GrammarLemmas.{Leads, leads-append, leads-around}
 use Rattle.md_frame.proofs.ContainerNames.{TakesData}
 use Rattle.md_container_rooms.proofs.GfmFootnoteDefinition.Prefix.{IsFront, before_label, behind_colon, behind_label}
-use Rattle.md_container_rooms.proofs.GfmFootnoteDefinition.Prefix.{by-part, colon_at, data_at, front-each, front_by}
-use Rattle.md_container_rooms.proofs.GfmFootnoteDefinition.Prefix.{label_at, label_end, label_part}
-use Rattle.md_frame.proofs.LeafStands.{site_of, unlisted-both}
-
--- no ending stands there, and no begin or end of a leaf
-pub front-others : (bytes label : List ℕ) (link : Option Link) (p q : Point) (es : List Event) →
-    IsFront bytes label link p q es → AreOthers es
-front-others bytes label link p q es is = front-each AreOthers bytes label link p q es is go
-  where
-    go : (bare same : Bool) → AreOthers (front_by link bare same label p is.start q)
-    go true true = refl
-    go true false = refl
-    go false true = refl
-    go false false = refl
-
--- no item and no list is among them
-pub front-unlisted : (bytes label : List ℕ) (link : Option Link) (p q : Point) (es : List Event) →
-    IsFront bytes label link p q es → NoListing es
-front-unlisted bytes label link p q es is =
-    by-part NoListing bytes label link p q es is
-    (record {
-      none = tt;
-      both = λ xs ys h k. unlisted-both xs ys h k;
-      white = λ a b. (refl, (refl, tt));
-      opens = (refl, (refl, (refl, (refl, (refl, (refl, tt))))));
-      string = (refl, (refl, (refl, (refl, tt))));
-      closes = (refl, (refl, (refl, (refl, (refl, tt)))));
-      last = (refl, tt);
-    })
+use Rattle.md_container_rooms.proofs.GfmFootnoteDefinition.Prefix.{colon_at, data_at, front-each, front_by, label_at}
+use Rattle.md_container_rooms.proofs.GfmFootnoteDefinition.Prefix.{label_end, label_part}
+use Rattle.md_frame.proofs.LeafStands.{site_of}
 
 -- with the begin of the footnote definition, they lead from blocks into those of it, where its label may stand
 pub front-leads : (bytes label : List ℕ) (link : Option Link) (p q : Point) (es : List Event) →
-    IsFront bytes label link p q es → (text : Expression) → TakesData text →
+    IsFront bytes label link p q es → NoListing es → (text : Expression) → TakesData text →
     Unlists text (blocks ∷ []) (blocks ∷ behind_block ∷ []) (enter n.GfmFootnoteDefinition p ∷ es)
-front-leads bytes label link p q es is text takes =
+front-leads bytes label link p q es is none text takes =
     unlists-same text (blocks ∷ []) (blocks ∷ behind_block ∷ []) (enter n.GfmFootnoteDefinition p ∷ es)
-    (refl, front-unlisted bytes label link p q es is) (front-each Leading bytes label link p q es is go)
+    (refl, none) (front-each Leading bytes label link p q es is go)
   where
     Leading : List Event → Type 0
     Leading xs = Leads text (blocks ∷ []) (blocks ∷ behind_block ∷ []) (enter n.GfmFootnoteDefinition p ∷ xs)

@@ -1,7 +1,7 @@
 -- What stands in front of the content of a footnote definition where it opens: behind its begin a prefix with its
 -- label, be that read or not.
-use Rattle.std.proofs.Common.{◌≡◌, ℕ, ◌+◌, ◌<◌, Bool, true, false, cond, List, [], ◌∷◌, ◌++◌, drop, length, get_or}
-use Rattle.std.proofs.Common.{ap, sym, subst, ◌∙◌, arith}
+use Rattle.std.proofs.Common.{◌≡◌, ℕ, ◌+◌, ◌<◌, Bool, cond, List, [], ◌∷◌, ◌++◌, drop, length, get_or, ap, sym, subst}
+use Rattle.std.proofs.Common.{◌∙◌, arith}
 use Rattle.std.specs.Prelude.{Option, slice_index}
 use Rattle.std.proofs.lemmas.List.{get_or-drop}
 use Rattle.md_engine.specs.declared.event.Event.{Event}
@@ -106,40 +106,6 @@ pub front-each : (P : List Event → Type 0) (bytes label : List ℕ) (link : Op
     ((bare same : Bool) → P (front_by link bare same label p is.start q)) → P es
 front-each P bytes label link p q es is h =
     subst P (sym is.events) (h (same_place p is.start) (same_place (behind_colon label is.start) q))
-
--- What holds of each of its parts, and of one behind another, holds of all.
-pub record ByPart (P : List Event → Type 0) (label : List ℕ) (link : Option Link) (start q : Point) : Type 0 where
-  pub none : P []
-  pub both : (xs ys : List Event) → P xs → P ys → P (xs ++ ys)
-  pub white : (a b : Point) → P (pair n.SpaceOrTab a b)
-  pub opens : P (opening start)
-  pub string : P (label_part link (label_at start) (label_end label start))
-  pub closes : P (closing (label_end label start) (colon_at label start) (behind_colon label start))
-  pub last : P (exit n.GfmFootnoteDefinitionPrefix q ∷ [])
-
-pub by-part : (P : List Event → Type 0) (bytes label : List ℕ) (link : Option Link) (p q : Point) (es : List Event) →
-    (is : IsFront bytes label link p q es) → ByPart P label link is.start q → P es
-by-part P bytes label link p q es is h = front-each P bytes label link p q es is go
-  where
-    white : (none : Bool) (a b : Point) → P (cond none [] (pair n.SpaceOrTab a b))
-    white true a b = h.none
-    white false a b = h.white a b
-
-    all : (bare same : Bool) →
-        P
-        (before_label bare p is.start
-        ++ (label_part link (label_at is.start) (label_end label is.start)
-        ++ behind_label same (label_end label is.start) (colon_at label is.start) (behind_colon label is.start) q))
-    all bare same =
-        h.both _ _ (h.both _ _ (white bare p is.start) h.opens)
-        (h.both _ _ h.string
-        (h.both _ _ h.closes (h.both _ _ (white same (behind_colon label is.start) q) h.last)))
-
-    go : (bare same : Bool) → P (front_by link bare same label p is.start q)
-    go true true = all true true
-    go true false = all true false
-    go false true = all false true
-    go false false = all false false
 
 -- The bytes at its points.
 

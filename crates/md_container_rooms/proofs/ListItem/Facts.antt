@@ -11,31 +11,20 @@ use Rattle.md_seam.proofs.GrammarLemmas.{Leads}
 use Rattle.md_seam.proofs.SpelledLemmas.{Unmarked}
 use Rattle.md_container_rooms.proofs.BlockQuote.Prefix.{pair-prefixes, white-unmarked}
 use Rattle.md_container_rooms.proofs.ListItem.Collected.{indent-collects, white-inside}
-use Rattle.md_container_rooms.proofs.ListItem.Grammar.{front-leads, front-others, front-stands, front-unlisted, white-others}
-use Rattle.md_container_rooms.proofs.ListItem.Grammar.{white-stays}
-use Rattle.md_container_rooms.proofs.ListItem.Names.{IsPart, front-between, front-part, front-some, front-whole}
-use Rattle.md_container_rooms.proofs.ListItem.Names.{space-between, white-part}
+use Rattle.md_container_rooms.proofs.ListItem.Grammar.{front-leads, front-stands, white-stays}
+use Rattle.md_container_rooms.proofs.FrontParts.{FrontPart, part-facts, part-white}
+use Rattle.md_container_rooms.proofs.ListItem.Names.{front-part, front-some, front-whole}
 use Rattle.md_container_rooms.proofs.ListItem.Parted.{white-clear, white-parted}
-use Rattle.md_container_rooms.proofs.ListItem.Pieces.{front-stood, front-tiled, white-stood}
 use Rattle.md_container_rooms.proofs.ListItem.Prefix.{IsFront, IsIndent, front-line}
 use Rattle.md_container_rooms.proofs.ListItem.Read.{front-read}
 use Rattle.md_frame.proofs.PartsStand.{Inside}
-use Rattle.md_frame.proofs.PiecesLemmas.{tiled-unless_empty}
 use Rattle.md_frame.proofs.PrefixFacts.{Continues, Opens, OpensRead, PrefixFacts, is_bare, opens-same}
 use Rattle.md_frame.proofs.PrefixNames.{ArePrefixes}
 
 indent-facts : (bytes : List ℕ) (p q : Point) (es : List Event) → IsIndent bytes p q es → PrefixFacts bytes p q es
 indent-facts bytes p q es is =
     subst (PrefixFacts bytes p q) (sym is.events)
-    (record {
-      nested = (white-part bytes p q is.white.onward).nested;
-      line = is.white.line;
-      tiled = tiled-unless_empty n.SpaceOrTab p q;
-      stood = white-stood bytes p q is.white;
-      others = white-others p q;
-      clear = white-clear bytes p q is.white;
-      between = space-between bytes p q is.white;
-    })
+    (part-facts (part-white p q is.white.onward is.white.blank) is.white.line (white-clear bytes p q is.white))
 
 -- there are some if it is another place
 indent-bare : (p q : Point) → is_bare (pair_unless_empty n.SpaceOrTab p q) ≡ same_place p q
@@ -61,21 +50,15 @@ item-continues bytes p q es is = record {
 
 front-facts : (bytes digits : List ℕ) (byte : ℕ) (p q : Point) (es : List Event) → IsFront bytes digits byte p q es →
     PrefixFacts bytes p q es
-front-facts bytes digits byte p q es is = record {
-  nested = (front-part bytes digits byte p q es is).nested;
-  line = front-line bytes digits byte p q es is;
-  tiled = front-tiled bytes digits byte p q es is;
-  stood = front-stood bytes digits byte p q es is;
-  others = front-others bytes digits byte p q es is;
-  clear = λ behind. white-clear bytes p is.start is.white_before (rw is.whole refl);
-  between = front-between bytes digits byte p q es is;
-}
+front-facts bytes digits byte p q es is =
+    part-facts (front-part bytes digits byte p q es is) (front-line bytes digits byte p q es is)
+    (λ behind. white-clear bytes p is.start is.white_before (rw is.whole refl))
 
 -- and where it opens
 pub item-opens : (bytes digits : List ℕ) (byte width : ℕ) (blank : Bool) (p q : Point) (es : List Event) →
     IsFront bytes digits byte p q es → Opens bytes (InItem digits byte width blank) p q es
 item-opens bytes digits byte width blank p q es is =
-    let part : IsPart bytes p q es = front-part bytes digits byte p q es is in
+    let part : FrontPart bytes p q es = front-part bytes digits byte p q es is in
     record {
       common = front-facts bytes digits byte p q es is;
       names = part.names;
@@ -83,7 +66,7 @@ item-opens bytes digits byte width blank p q es is =
       sits = part.sits;
       leads = λ text takes. front-leads bytes digits byte p q es is text;
       stands = λ held. front-stands bytes digits byte p q es held is;
-      unlisted = front-unlisted bytes digits byte p q es is;
+      unlisted = part.unlisted;
       read = λ r none shut. front-read bytes digits byte width blank p q es r is none;
       shown = refl;
       some = front-some bytes digits byte p q es is;

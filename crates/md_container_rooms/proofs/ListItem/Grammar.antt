@@ -6,27 +6,19 @@ use Rattle.md_engine.specs.declared.event.Name.TheVariants as n
 use Rattle.md_engine.specs.declared.event.Point.{Point}
 use Rattle.md_containers.specs.Item.{is_item_marker}
 use Rattle.md_containers.specs.ItemsStand.{InFront, IsMarkerAt, ItemsStand, Site, is_list_marker}
-use Rattle.md_containers.proofs.UnlistedLemmas.{NoListing, StandsTo, Unlists, among, site_behind}
+use Rattle.md_containers.proofs.UnlistedLemmas.{StandsTo, Unlists, among, site_behind}
 use Rattle.md_containers.specs.Unlisted.{unlisted_left}
 use Rattle.md_seam.specs.Events.Grammar.{Expression, behind_block, blocks}
 use Rattle.md_seam.specs.Events.Inline.{pair_unless_empty}
 use Rattle.md_seam.specs.Events.Nested.{enter, exit, pair}
 use Rattle.md_seam.specs.Events.Places.{same_place}
-use Rattle.md_seam.proofs.EndingsLemmas.{AreOthers}
 use Rattle.md_seam.proofs.GrammarLemmas.{Leads}
 use Rattle.md_frame.proofs.ContainerNames.{TakesPrefixes}
 use Rattle.md_container_rooms.proofs.ListItem.Pieces.{is-marker}
-use Rattle.md_container_rooms.proofs.ListItem.Prefix.{IsFront, behind-index, front-each, front_by, inside_by, marker-byte}
-use Rattle.md_container_rooms.proofs.ListItem.Prefix.{marker-whole}
+use Rattle.md_container_rooms.proofs.ListItem.Prefix.{IsFront, behind-index, front-each, front_by, inside_by}
+use Rattle.md_container_rooms.proofs.ListItem.Prefix.{marker-byte, marker-whole}
 
 -- Whitespace.
-
-pub white-others : (p q : Point) → AreOthers (pair_unless_empty n.SpaceOrTab p q)
-white-others p q = go (same_place p q)
-  where
-    go : (same : Bool) → AreOthers (cond same [] (pair n.SpaceOrTab p q))
-    go true = refl
-    go false = refl
 
 -- where an item goes on
 pub white-stays : (p q : Point) (text x : Expression) → TakesPrefixes x →
@@ -38,48 +30,6 @@ white-stays p q text x takes = go (same_place p q)
     go false outer = ap (λ (y : Expression). y ∷ outer) takes.0
 
 -- Where it opens.
-
--- no ending stands there, and no begin or end of a leaf
-pub front-others : (bytes digits : List ℕ) (byte : ℕ) (p q : Point) (es : List Event) →
-    IsFront bytes digits byte p q es → AreOthers es
-front-others bytes digits byte p q es is = front-each AreOthers bytes digits byte p q es is go
-  where
-    go : (bare none same : Bool) → AreOthers (front_by bare none same p is.start is.marker is.behind q)
-    go true true true = refl
-    go true true false = refl
-    go true false true = refl
-    go true false false = refl
-    go false true true = refl
-    go false true false = refl
-    go false false true = refl
-    go false false false = refl
-
--- no item and no list is among them
-pub front-unlisted : (bytes digits : List ℕ) (byte : ℕ) (p q : Point) (es : List Event) →
-    IsFront bytes digits byte p q es → NoListing es
-front-unlisted bytes digits byte p q es is = front-each NoListing bytes digits byte p q es is go
-  where
-    a : Point
-    a = is.start
-
-    m : Point
-    m = is.marker
-
-    b : Point
-    b = is.behind
-
-    -- the whitespace behind the marker, and what stands around the value
-    tail : (same : Bool) → NoListing (cond same [] (pair n.SpaceOrTab b q) ++ exit n.ListItemPrefix q ∷ [])
-    tail true = (refl, tt)
-    tail false = (refl, (refl, (refl, tt)))
-
-    inner : (none same : Bool) → NoListing (inside_by none same a m b q ++ exit n.ListItemPrefix q ∷ [])
-    inner true same = (refl, (refl, tail same))
-    inner false same = (refl, (refl, (refl, (refl, tail same))))
-
-    go : (bare none same : Bool) → NoListing (front_by bare none same p a m b q)
-    go true none same = (refl, inner none same)
-    go false none same = (refl, (refl, (refl, inner none same)))
 
 -- with the begin of the item, they lead from blocks into those of the item
 pub front-leads : (bytes digits : List ℕ) (byte : ℕ) (p q : Point) (es : List Event) →

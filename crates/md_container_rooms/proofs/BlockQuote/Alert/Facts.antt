@@ -26,22 +26,16 @@ use Rattle.md_frame.proofs.PrefixFacts.{Opens, PrefixFacts, begins}
 use Rattle.md_frame.proofs.PrefixNames.{ArePrefixes, IsNamed, prefixes-front, prefixes-roles}
 use Rattle.md_container_rooms.proofs.BlockQuote.Alert.Events.{alert-is, front-is, inside_list}
 use Rattle.md_container_rooms.proofs.BlockQuote.Alert.Grammar.{alert-begins}
-use Rattle.md_container_rooms.proofs.BlockQuote.Alert.Pieces.{alert-stood}
-use Rattle.md_container_rooms.proofs.BlockQuote.Alert.Places.{alert-between, alert-nested, alert-others, alert-tiled}
+use Rattle.md_container_rooms.proofs.BlockQuote.Alert.Places.{alert-part}
+use Rattle.md_container_rooms.proofs.FrontParts.{part-facts}
 use Rattle.md_container_rooms.proofs.BlockQuote.Parted.{prefix-clear}
 use Rattle.md_container_rooms.proofs.BlockQuote.Prefix.{front-unmarked, pair-prefixes, prefix-are, white-unmarked}
 
 alert-facts : (bytes : List ℕ) (kind : AlertKind) (p q : Point) (es : List Event) →
     IsOpening bytes (Some kind) p q es → PrefixFacts bytes p q es
-alert-facts bytes kind p q es o = record {
-  nested = alert-nested bytes kind p q es o;
-  line = o.marker.line ∙ o.prefix.line;
-  tiled = alert-tiled bytes kind p q es o;
-  stood = alert-stood bytes kind p q es o;
-  others = alert-others bytes kind p q es o;
-  clear = λ behind. prefix-clear bytes p o.middle (o.front ++ exit n.BlockQuotePrefix o.middle ∷ []) o.prefix;
-  between = λ from. alert-between bytes kind p q es from o;
-}
+alert-facts bytes kind p q es o =
+    part-facts (alert-part bytes kind p q es o) (o.marker.line ∙ o.prefix.line)
+    (λ behind. prefix-clear bytes p o.middle (o.front ++ exit n.BlockQuotePrefix o.middle ∷ []) o.prefix)
 
 -- They have names of prefixes.
 

@@ -1,6 +1,6 @@
--- The pieces of the prefix of an alert are over their bytes.
-use Rattle.std.proofs.Common.{◌≡◌, ℕ, ◌+◌, ◌<◌, Bool, true, false, cond, List, [], ◌∷◌, ◌++◌, length}
-use Rattle.std.proofs.Common.{slice_range, Some, refl, sym, subst, arith}
+-- The marker of an alert is over its bytes.
+use Rattle.std.proofs.Common.{◌≡◌, ℕ, ◌+◌, ◌<◌, Bool, true, false, cond, List, [], ◌∷◌, ◌++◌, length, slice_range, Some}
+use Rattle.std.proofs.Common.{refl, subst, arith}
 use Rattle.std.specs.Prelude.{◌==◌, nat_lt}
 use Rattle.std.specs.Char.{to_ascii_lowercase}
 use Rattle.std.specs.List.{list_all}
@@ -11,18 +11,13 @@ use Rattle.std.proofs.lemmas.Bool.Decides.{nat_tests}
 use Rattle.md_engine.specs.declared.event.Event.{Event}
 use Rattle.md_engine.specs.declared.event.Name.TheVariants as n
 use Rattle.md_engine.specs.declared.event.Point.{Point}
-use Rattle.md_containers.proofs.OpeningLines.{IsMarker, IsOpening}
+use Rattle.md_containers.proofs.OpeningLines.{IsMarker}
 use Rattle.md_meaning.specs.Alert.{first_kind, is_marker, kinds, marker_of}
 use Rattle.md_meaning.specs.declared.alert.AlertKind.{AlertKind}
 use Rattle.md_meaning.specs.declared.alert.AlertKind.TheVariants as its
-use Rattle.md_seam.specs.Events.Inline.{pair_unless_empty}
-use Rattle.md_seam.specs.Events.Nested.{around, exit, pair}
 use Rattle.md_seam.specs.Events.Pieces.{is_one_of, piece_stands}
 use Rattle.md_frame.proofs.BetweenFacts.{is_low}
-use Rattle.md_frame.proofs.PieceFacts.{PiecesValid, begins-whole, over-stands, span, stood-append, stood-around}
-use Rattle.md_frame.proofs.PieceFacts.{stood-pair, stood-unless_empty}
-use Rattle.md_container_rooms.proofs.BlockQuote.Alert.Events.{alert-is, inside_list}
-use Rattle.md_container_rooms.proofs.BlockQuote.Pieces.{marker-stands, white-stands}
+use Rattle.md_frame.proofs.PieceFacts.{begins-whole, over-stands, span}
 
 -- The bytes of a marker.
 
@@ -101,7 +96,7 @@ marker-low bytes kind p q es m =
     let some = known.2 in
     let past = m.past in (omega arith, same.1, omega arith)
 
-bytes-stand : (bytes : List ℕ) (kind : AlertKind) (p q : Point) (es : List Event) → (m : IsMarker bytes kind p q es) →
+pub bytes-stand : (bytes : List ℕ) (kind : AlertKind) (p q : Point) (es : List Event) → (m : IsMarker bytes kind p q es) →
     piece_stands bytes (span n.BlockQuoteMarker m.opens m.closes) ≡ true
 bytes-stand bytes kind p q es m =
     let line : List ℕ = slice_range bytes m.opens.index m.closes.index in
@@ -111,35 +106,3 @@ bytes-stand bytes kind p q es m =
     (begins-whole n.BlockQuoteMarker m.opens m.opens_whole)
     (or_right (is_one_of (62 ∷ []) line) (is_marker line)
     (some-kind (λ (k : AlertKind). str_eq_ignore_ascii_case (marker_of k) line) kind m.marker))
-
--- the marker, with the whitespace around it
-marker-stood : (bytes : List ℕ) (kind : AlertKind) (p q : Point) (es : List Event) → IsMarker bytes kind p q es →
-    PiecesValid bytes es
-marker-stood bytes kind p q es m =
-    subst (PiecesValid bytes) (sym m.events)
-    (stood-append bytes (pair_unless_empty n.SpaceOrTab p m.opens)
-    (pair n.BlockQuoteMarker m.opens m.closes ++ pair_unless_empty n.SpaceOrTab m.closes q)
-    (stood-unless_empty bytes n.SpaceOrTab p m.opens (λ e. white-stands bytes p m.opens e m.white_before))
-    (stood-append bytes (pair n.BlockQuoteMarker m.opens m.closes) (pair_unless_empty n.SpaceOrTab m.closes q)
-    (stood-pair bytes n.BlockQuoteMarker m.opens m.closes (bytes-stand bytes kind p q es m))
-    (stood-unless_empty bytes n.SpaceOrTab m.closes q (λ e. white-stands bytes m.closes q e m.white_behind))))
-
--- all of the prefix
-pub alert-stood : (bytes : List ℕ) (kind : AlertKind) (p q : Point) (es : List Event) →
-    IsOpening bytes (Some kind) p q es → PiecesValid bytes es
-alert-stood bytes kind p q es o =
-    let is = o.prefix in
-    let first : List Event = pair n.BlockQuoteMarker is.marker is.behind in
-    let white : List Event = pair_unless_empty n.SpaceOrTab is.behind o.middle in
-    let inside : List Event = inside_list is.marker is.behind o.middle o.alert in
-    subst (PiecesValid bytes) (sym (alert-is bytes kind p q es o))
-    (stood-append bytes (pair_unless_empty n.SpaceOrTab p is.marker) (around n.BlockQuotePrefix is.marker q inside)
-    (stood-unless_empty bytes n.SpaceOrTab p is.marker (λ e. white-stands bytes p is.marker e is.white_before))
-    (stood-around bytes n.BlockQuotePrefix is.marker q inside refl
-    (stood-append bytes first (white ++ o.alert)
-    (stood-pair bytes n.BlockQuoteMarker is.marker is.behind
-    (marker-stands bytes p o.middle (o.front ++ exit n.BlockQuotePrefix o.middle ∷ []) is))
-    (stood-append bytes white o.alert
-    (stood-unless_empty bytes n.SpaceOrTab is.behind o.middle
-    (λ e. white-stands bytes is.behind o.middle e is.white_behind))
-    (marker-stood bytes kind o.middle q o.alert o.marker)))))
