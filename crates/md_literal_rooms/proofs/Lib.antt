@@ -5,3 +5,4 @@ pub mod FenceSpan
 pub mod HtmlFlow
 pub mod HtmlSpan
 pub mod IndentRemoved
+pub mod LeafRead

@@ -70,7 +70,6 @@ code_further-fits options on said text behind r p stop is h k short =
 -- What is known of the rest of a first line: an indent, and text behind it.
 pub record IsCodeRest (options : ParseOptions) (on : HeldLeaf) (r : Rest) : Type 0 where
   pub enabled : options.constructs.code_indented ≡ true
-  pub free : may_open on ≡ true
   pub indented : nat_le 4 (indent r) ≡ true
   pub dark : is_blank r.bytes ≡ false
 
@@ -83,7 +82,6 @@ code-rest options on r e =
     let first = and_parts options.constructs.code_indented (may_open on) more.0 in
     record {
       enabled = first.0;
-      free = first.1;
       indented = more.1;
       dark = no (is_blank r.bytes) both.1;
     }

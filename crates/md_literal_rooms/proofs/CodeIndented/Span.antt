@@ -14,7 +14,7 @@ use Rattle.md_leaves.proofs.SpannedLines.{IsBegin, IsFurther}
 use Rattle.md_leaves.specs.Further.{further_link}
 use Rattle.md_seam.specs.Events.Nested.{enter, enter_link}
 use Rattle.md_literal_rooms.specs.Leaf.CodeIndented.{code_further, code_leaf, code_parts, line_parts}
-use Rattle.md_frame.specs.Row.{Row, any_framed, is_blank_row, last_row, span_behind, span_by, span_done}
+use Rattle.md_frame.specs.Row.{Row, any_framed, is_blank_row, last_row, span_behind, span_by}
 use Rattle.md_literal_rooms.proofs.CodeIndented.Blank.{blank-blocks, blank-placed}
 use Rattle.md_literal_rooms.proofs.CodeIndented.Cells.{code-rest}
 use Rattle.md_literal_rooms.proofs.CodeIndented.Parts.{code-inside, code-is}
@@ -23,7 +23,7 @@ use Rattle.md_literal_rooms.proofs.CodeIndented.Rows.{row-in, text-some}
 use Rattle.md_literal_rooms.proofs.CodeIndented.Lines.{first-framed, lines-facts}
 use Rattle.md_literal_rooms.proofs.CodeIndented.Split.{AreSplit, rows-split, split-shuts}
 use Rattle.md_frame.proofs.LeafLines.Rest.{row_unread}
-use Rattle.md_frame.proofs.FillFacts.{filled-read}
+use Rattle.md_literal_rooms.proofs.LeafRead.{facts-read}
 use Rattle.md_frame.proofs.LeafFacts.{LeafFacts}
 use Rattle.md_literal_rooms.proofs.IndentRemoved.Parts.{inside-lines}
 use Rattle.md_frame.proofs.IndentRemoved.Places.{further-at}
@@ -156,28 +156,13 @@ all-facts options bytes row rows is are =
         last-in bytes is.rest row (ins rows) (further-at options bytes code_leaf row is)
         (first-ending options bytes row is) (all-split options bytes row rows is are).within
 
--- Nothing of them is read later, so they are read as they are.
-
-all-read : (options : ParseOptions) (bytes : List ℕ) (row : Row) (rows : List Row) →
-    (is : IsLineOf options bytes code_leaf row) →
-    AreBehind options bytes code_further row rows → span_by row_unread row rows ≡ span_done bytes row rows
-all-read options bytes row rows is are =
-    sym
-    (filled-read bytes (span_by row_unread row rows) (span_by row_unread row rows)
-    (all-facts options bytes row rows is are).stand.stretch.filled)
-
 -- The laws.
 pub code-span : SpanLaws code_leaf code_further
 code-span = record {
   first_spanned = λ options bytes row is first. first-spanned options bytes row is;
   further_spanned = λ options bytes row is further. further-spanned bytes row (row-in options bytes row is);
   block = all-block;
-  facts = λ options bytes row rows is first are.
-      subst
-      (λ (es : List Event).
-      LeafFacts bytes (Some (all-block options bytes row rows is are)) (not (last_row row rows).empty) row.first
-      (last_row row rows).end (span_by row_unread row rows) es) (all-read options bytes row rows is are)
-      (all-facts options bytes row rows is are);
+  facts = λ options bytes row rows is first are. facts-read (all-facts options bytes row rows is are);
   shuts = λ options bytes row rows is first are bs.
       split-shuts options bytes is.rest row rows (ins rows) (outs rows) are
       (all-split options bytes row rows is are) bs;

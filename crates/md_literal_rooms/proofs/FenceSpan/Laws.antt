@@ -25,7 +25,7 @@ use Rattle.md_seam.proofs.SpelledLemmas.{Roles}
 use Rattle.md_frame.specs.RestLine.{rest_line}
 use Rattle.md_literal_rooms.specs.Leaf.Fence.{fence_leaf, linked, opening_at, past_white, read_inner, white_part}
 use Rattle.md_literal_rooms.specs.Leaf.FenceFurther.{fence_further, further_parts}
-use Rattle.md_frame.specs.Row.{Row, last_row, span_by, span_done}
+use Rattle.md_frame.specs.Row.{Row, last_row, span_by}
 use Rattle.md_literal_rooms.proofs.Fence.Kept as kept
 use Rattle.md_literal_rooms.proofs.FenceFurther.Grammar.{behind-line-ends, behind_line}
 use Rattle.md_literal_rooms.proofs.FenceFurther.Joined.{block-lines, further-begins, further-ends, further-is}
@@ -39,7 +39,7 @@ use Rattle.md_literal_rooms.proofs.FenceSpan.Opening.{opening-same, opening_of, 
 use Rattle.md_frame.proofs.LeafLines.Rest.{HasRest, row_done, row_unread}
 use Rattle.md_frame.proofs.LeafLines.Whole.{rest-facts}
 use Rattle.md_literal_rooms.proofs.FenceSpan.Walk.{rest-open}
-use Rattle.md_frame.proofs.FillFacts.{filled-read}
+use Rattle.md_literal_rooms.proofs.LeafRead.{facts-read}
 use Rattle.md_frame.proofs.LeafFacts.{LeafFacts}
 use Rattle.md_frame.proofs.LeafLines.Framed.{framed_by}
 use Rattle.md_frame.proofs.LeafLines.Inside.{InsideFacts}
@@ -202,27 +202,13 @@ span-of options bytes row rows is are =
         first-others options bytes (rest_line is.rest) (drop row.end.index bytes) row.first row.end
         (line-laid options bytes row is)
 
--- what is read of them all is read of each
-done-read : (options : ParseOptions) (bytes : List ℕ) (row : Row) (rows : List Row) →
-    IsLineOf options bytes fence_leaf row → AreBehind options bytes fence_further row rows →
-    framed_by (row_done bytes) row rows ≡ span_done bytes row rows
-done-read options bytes row rows is are =
-    sym
-    (filled-read bytes (span_by row_unread row rows) (framed_by (row_done bytes) row rows)
-    (span-of options bytes row rows is are).stand.stretch.filled)
-
 -- The laws.
 pub fence-span : SpanLaws fence_leaf fence_further
 fence-span = record {
   first_spanned = λ options bytes row is first. first-spanned options bytes row is;
   further_spanned = λ options bytes row is further. inl (further-spanned options bytes row is);
   block = λ options bytes row rows is are. block_of (rest-of options bytes row rows is are).to;
-  facts = λ options bytes row rows is first are.
-      subst
-      (λ (es : List Event).
-      LeafFacts bytes (Some (block_of (rest-of options bytes row rows is are).to)) (not (last_row row rows).empty)
-      row.first (last_row row rows).end (span_by row_unread row rows) es)
-      (done-read options bytes row rows is are) (span-of options bytes row rows is are);
+  facts = λ options bytes row rows is first are. facts-read (span-of options bytes row rows is are);
   shuts = λ options bytes row rows is first are bs.
       (rest-of options bytes row rows is are).shuts options bs;
 }

@@ -16,9 +16,9 @@ use Rattle.md_seam.specs.Events.Nested.{enter, enter_link, exit}
 use Rattle.md_seam.specs.Events.Spelled.{HtmlLeaf, OfHtml, block_of, fresh}
 use Rattle.md_frame.specs.RestLine.{rest_line}
 use Rattle.md_literal_rooms.specs.Leaf.HtmlFlow.{begins_as, html_further, html_leaf, kind_begun}
-use Rattle.md_frame.specs.Row.{Row, but_end, last_row, span_by, span_done}
+use Rattle.md_frame.specs.Row.{Row, but_end, last_row, span_by}
 use Rattle.md_literal_rooms.proofs.IndentRemoved.Sites.{is_told_of}
-use Rattle.md_frame.proofs.FillFacts.{filled-read}
+use Rattle.md_literal_rooms.proofs.LeafRead.{facts-read}
 use Rattle.md_literal_rooms.proofs.HtmlSpan.Lines.{behind_first, first-facts, html-inside, html_name, html_parts}
 use Rattle.md_literal_rooms.proofs.HtmlSpan.Lines.{html_site}
 use Rattle.md_literal_rooms.proofs.HtmlSpan.Rows.{first-done, first-full, first-inside, first-parts, further-inside}
@@ -130,27 +130,13 @@ all-facts options bytes row rows is are =
     (first-line options bytes row is) (rest-of options bytes row rows is are) others others
     (first-full options bytes row is)
 
--- what is read of them all is read of each
-all-read : (options : ParseOptions) (bytes : List ℕ) (row : Row) (rows : List Row) →
-    IsLineOf options bytes html_leaf row → AreBehind options bytes html_further row rows →
-    framed_by (row_done bytes) row rows ≡ span_done bytes row rows
-all-read options bytes row rows is are =
-    sym
-    (filled-read bytes (span_by row_unread row rows) (framed_by (row_done bytes) row rows)
-    (all-facts options bytes row rows is are).stand.stretch.filled)
-
 -- The laws.
 pub html-span : SpanLaws html_leaf html_further
 html-span = record {
   first_spanned = λ options bytes row is first. first-spanned options bytes row is;
   further_spanned = λ options bytes row is further. inl (further-spanned options bytes row is);
   block = λ options bytes row rows is are. block_of (rest-of options bytes row rows is are).to;
-  facts = λ options bytes row rows is first are.
-      subst
-      (λ (es : List Event).
-      LeafFacts bytes (Some (block_of (rest-of options bytes row rows is are).to)) (not (last_row row rows).empty)
-      row.first (last_row row rows).end (span_by row_unread row rows) es) (all-read options bytes row rows is are)
-      (all-facts options bytes row rows is are);
+  facts = λ options bytes row rows is first are. facts-read (all-facts options bytes row rows is are);
   shuts = λ options bytes row rows is first are bs.
       (rest-of options bytes row rows is are).shuts options bs;
 }

@@ -12,7 +12,6 @@ use Rattle.md_seam.specs.Events.Endings.{on_line}
 use Rattle.md_seam.specs.Events.Spelled.{role}
 use Rattle.md_seam.specs.Events.Tiles.{part_kind}
 use Rattle.md_seam.proofs.EndingsLemmas.{AreOthers, is_other}
-use Rattle.md_seam.proofs.SpelledLemmas.{Roles}
 use Rattle.md_literal_rooms.proofs.IndentRemoved.Names.{AreInside, inside-name, is_inside}
 
 -- Names.
@@ -32,11 +31,7 @@ inside-other = inside-name (λ name. is_other (on_line name) ≡ true) refl refl
 
 -- Events.
 
--- they are parts of a leaf
-pub inside-parts : (es : List Event) → AreInside es → Roles IsPart es
-inside-parts es all = all (Roles IsPart) tt (λ kind name x es e h. (inside-part name e, h))
-
--- of no block, so of no line of a leaf either,
+-- they are of no block, so of no line of a leaf either,
 pub inside-blocks : (es : List Event) → AreInside es → NoBlocks es
 inside-blocks es all = all NoBlocks tt (λ kind name x es e h. (inside-block name e, h))
 
