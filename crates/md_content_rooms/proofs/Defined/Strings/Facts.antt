@@ -14,8 +14,9 @@ use Rattle.md_seam.specs.declared.inline.PartKind.TheVariants.{String}
 use Rattle.md_seam.specs.Events.Endings.{on_line}
 use Rattle.md_seam.specs.Events.Grammar.{Expression, behind, inside}
 use Rattle.md_seam.specs.Events.Nested.{around}
-use Rattle.md_seam.specs.Events.Spelled.{DefinitionLeaf, DefinitionSoFar, Purpose, TextRole, first_told, role}
-use Rattle.md_seam.specs.Events.Spelled.{with_title}
+use Rattle.md_meaning.specs.Tree.{Line}
+use Rattle.md_seam.specs.Events.Spelled.{Reading, noted, on_leaf, told, DefinitionLeaf, DefinitionSoFar, Purpose}
+use Rattle.md_seam.specs.Events.Spelled.{TextRole, first_told, role, with_title}
 use Rattle.md_seam.specs.Events.Tiles.{part_kind}
 use Rattle.md_seam.proofs.EndingsLemmas.{is_other}
 use Rattle.md_seam.proofs.SpelledLemmas.{Between, Roles}
@@ -52,6 +53,7 @@ FurtherFilled (OneLine p e q r text front s) = AreFilled s
 -- What a name says of its part: it is a string of a leaf, and a text for this purpose.
 pub record IsString (name : Name) (purpose : Purpose) : Type 0 where
   pub tells : role name ≡ TextRole purpose
+  pub leaf : (line : Line) (r : Reading) → told purpose line r ≡ on_leaf (noted purpose line) r
   pub kind : part_kind name ≡ Some String
   pub inside_is : (text : Expression) → inside text name ≡ text
   pub other : is_other (on_line name) ≡ true

@@ -14,16 +14,17 @@ use Rattle.md_seam.specs.Events.Endings.{on_line}
 use Rattle.md_seam.specs.Events.Grammar.{Expression, plain_text, unread_text}
 use Rattle.md_seam.specs.Events.Inline.{plain_chunk}
 use Rattle.md_seam.specs.Events.Nested.{around, enter, enter_link, exit}
+use Rattle.md_meaning.specs.Tree.{Line}
 use Rattle.md_seam.specs.Events.Spelled.{AsDestination, AsLabel, AsTitle, DefinitionLeaf, DefinitionSoFar, OpenLeaf}
 use Rattle.md_seam.specs.Events.Spelled.{Purpose, Text, begun, byte_at, noted, role, text_to, first_told, with_title}
 use Rattle.md_seam.proofs.BlocksLemmas.{read-told}
 use Rattle.md_seam.proofs.EndingsLemmas.{AreOthers, Stays, is_other, stays-append, stays-others}
 use Rattle.md_seam.proofs.GrammarLemmas.{IsWord, leads-around}
 use Rattle.md_seam.proofs.SpelledLemmas.{text_after}
-use Rattle.md_content_rooms.proofs.Defined.Form.{IsRun, IsStrand, LastLine, Strand, strand_done}
-use Rattle.md_content_rooms.proofs.Defined.Form.{strand_lines, strand_unread}
-use Rattle.md_content_rooms.proofs.Defined.Strings.Facts.{FurtherFilled, IsString, StringFacts, label_told}
-use Rattle.md_content_rooms.proofs.Defined.Strings.Facts.{target_told, title_told}
+use Rattle.md_content_rooms.proofs.Defined.Form.{IsRun, IsStrand, LastLine, Strand, strand_done, strand_lines}
+use Rattle.md_content_rooms.proofs.Defined.Form.{strand_unread}
+use Rattle.md_content_rooms.proofs.Defined.Strings.Facts.{FurtherFilled, IsString, StringFacts, label_told, target_told}
+use Rattle.md_content_rooms.proofs.Defined.Strings.Facts.{title_told}
 use Rattle.md_content_rooms.proofs.Defined.Strings.Lines.{AreLines, Last, More, NoneLeft, strand-lines}
 use Rattle.md_content_rooms.proofs.Defined.Strings.Parted.{line-sits, strand-sits}
 use Rattle.md_content_rooms.proofs.Defined.Strings.Parts.{strand-begins, strand-inside, strand-one, strand-order}
@@ -55,14 +56,34 @@ string-stays name purpose p q es named h =
     stays-append (enter name p ∷ []) (es ++ exit name q ∷ []) (stays-others (enter name p ∷ []) begin)
     (stays-append es (exit name q ∷ []) h (stays-others (exit name q ∷ []) end))
 
--- all of it, where it is parted and read so
+-- What it says of a definition is read so.
+
+abbrev Says : List ℕ → Purpose → Point → Point → (DefinitionSoFar → DefinitionSoFar) → Strand → Type 0
+Says bytes purpose p q tells s =
+    let text : Text = text_after bytes (begun p) (strand_done bytes s) in
+    (d : DefinitionSoFar) →
+    noted purpose (record { spaces = text.spaces; text = text_to bytes q.index text }) (DefinitionLeaf d) ≡
+    DefinitionLeaf (tells d)
+
+string-reads : (bytes : List ℕ) (name : Name) (purpose : Purpose) (p q : Point)
+    (tells : DefinitionSoFar → DefinitionSoFar) (s : Strand) (d : DefinitionSoFar) → IsString name purpose →
+    AreLines bytes p q s → Says bytes purpose p q tells s →
+    ReadsLeaf bytes (DefinitionLeaf d) (DefinitionLeaf (tells d)) (around name p q (strand_done bytes s))
+string-reads bytes name purpose p q tells s d named lines says r none opened =
+    let text : Text = text_after bytes (begun p) (strand_done bytes s) in
+    let line : Line = record { spaces = text.spaces; text = text_to bytes q.index text } in
+    read-told bytes r name purpose p q (strand_done bytes s) named.tells none (strand-inside bytes p q s lines).roles
+    ∙ named.leaf line r
+    ∙ ap (λ (o : Option OpenLeaf). record r { leaf = option_map (noted purpose line) o }) opened
+    ∙ ap (λ (l : OpenLeaf). record r { leaf = Some l }) (says d)
+
+-- all of it, where it is parted
 string-facts : (bytes : List ℕ) (name : Name) (purpose : Purpose) (p q : Point)
     (tells : DefinitionSoFar → DefinitionSoFar) (s : Strand) → IsString name purpose → p.vs ≡ 0 → HasLine s →
     AreLines bytes p q s → PrefixesAtLineStart bytes (around name p q (strand_done bytes s)) →
-    ((d : DefinitionSoFar) →
-    ReadsLeaf bytes (DefinitionLeaf d) (DefinitionLeaf (tells d)) (around name p q (strand_done bytes s))) →
+    Says bytes purpose p q tells s →
     StringFacts bytes name purpose p q tells (strand_unread s) (strand_done bytes s)
-string-facts bytes name purpose p q tells s named whole has lines parted reads = record {
+string-facts bytes name purpose p q tells s named whole has lines parted says = record {
   facts = λ x d. record {
     stretch =
         stretch-part IsPart name named.part between-part named.kind (unread-starts s has)
@@ -78,7 +99,7 @@ string-facts bytes name purpose p q tells s named whole has lines parted reads =
         (done-word bytes true p q s lines));
     unread_stays = string-stays name purpose p q unread named (unread-stays bytes p q s lines);
     stays = string-stays name purpose p q done named (done-stays bytes p q s lines);
-    reads = reads d;
+    reads = string-reads bytes name purpose p q tells s d named lines says;
   };
   texts = (strand-inside bytes p q s lines).roles;
   known = λ unlisted.
@@ -98,25 +119,7 @@ string-facts bytes name purpose p q tells s named whole has lines parted reads =
 -- A label.
 
 label-name : IsString n.DefinitionLabelString AsLabel
-label-name = record { tells = refl; kind = refl; inside_is = λ text. refl; other = refl; part = tt }
-
-label-reads : (bytes : List ℕ) (p q : Point) (s : Strand) (d : DefinitionSoFar) → p.vs ≡ 0 → FurtherFilled s →
-    AreLines bytes p q s →
-    ReadsLeaf bytes (DefinitionLeaf d) (DefinitionLeaf (label_told (strand_lines s) d))
-    (around n.DefinitionLabelString p q (strand_done bytes s))
-label-reads bytes p q s d whole filled lines r none opened =
-    let text : Text = text_after bytes (begun p) (strand_done bytes s) in
-    read-told bytes r n.DefinitionLabelString AsLabel p q (strand_done bytes s) refl none
-    (strand-inside bytes p q s lines).roles
-    ∙ ap
-    (λ (o : Option OpenLeaf).
-    record r {
-      leaf = option_map (noted AsLabel (record { spaces = text.spaces; text = text_to bytes q.index text })) o;
-    }) opened
-    ∙ ap
-    (λ (l : List (List ℕ)).
-    record r { leaf = Some (DefinitionLeaf (record d { label = first_told d.label l })) })
-    (told-lines bytes p q s whole filled lines)
+label-name = record { tells = refl; leaf = λ line r. refl; kind = refl; inside_is = λ text. refl; other = refl; part = tt }
 
 -- All that is asked of the text of a label.
 pub label-facts : (bytes : List ℕ) (p q : Point) (s : Strand) → p.vs ≡ 0 → IsStrand bytes p q s → FurtherFilled s →
@@ -127,28 +130,13 @@ label-facts bytes p q s whole is filled =
     string-facts bytes n.DefinitionLabelString AsLabel p q (label_told (strand_lines s)) s label-name whole
     (strand-some bytes p q s is) lines
     (strand-sits bytes n.DefinitionLabelString AsLabel p q s refl refl filled lines)
-    (λ d. label-reads bytes p q s d whole filled lines)
+    (λ d. ap (λ (l : List (List ℕ)). DefinitionLeaf (record d { label = first_told d.label l }))
+    (told-lines bytes p q s whole filled lines))
 
 -- A title.
 
 title-name : IsString n.DefinitionTitleString AsTitle
-title-name = record { tells = refl; kind = refl; inside_is = λ text. refl; other = refl; part = tt }
-
-title-reads : (bytes : List ℕ) (p q : Point) (s : Strand) (d : DefinitionSoFar) → p.vs ≡ 0 → FurtherFilled s →
-    AreLines bytes p q s →
-    ReadsLeaf bytes (DefinitionLeaf d) (DefinitionLeaf (title_told (strand_lines s) d))
-    (around n.DefinitionTitleString p q (strand_done bytes s))
-title-reads bytes p q s d whole filled lines r none opened =
-    let text : Text = text_after bytes (begun p) (strand_done bytes s) in
-    read-told bytes r n.DefinitionTitleString AsTitle p q (strand_done bytes s) refl none
-    (strand-inside bytes p q s lines).roles
-    ∙ ap
-    (λ (o : Option OpenLeaf).
-    record r {
-      leaf = option_map (noted AsTitle (record { spaces = text.spaces; text = text_to bytes q.index text })) o;
-    }) opened
-    ∙ ap (λ (l : List (List ℕ)). record r { leaf = Some (DefinitionLeaf (with_title l d)) })
-    (told-lines bytes p q s whole filled lines)
+title-name = record { tells = refl; leaf = λ line r. refl; kind = refl; inside_is = λ text. refl; other = refl; part = tt }
 
 pub title-facts : (bytes : List ℕ) (p q : Point) (s : Strand) → p.vs ≡ 0 → IsStrand bytes p q s → FurtherFilled s →
     StringFacts bytes n.DefinitionTitleString AsTitle p q (title_told (strand_lines s)) (strand_unread s)
@@ -158,30 +146,12 @@ title-facts bytes p q s whole is filled =
     string-facts bytes n.DefinitionTitleString AsTitle p q (title_told (strand_lines s)) s title-name whole
     (strand-some bytes p q s is) lines
     (strand-sits bytes n.DefinitionTitleString AsTitle p q s refl refl filled lines)
-    (λ d. title-reads bytes p q s d whole filled lines)
+    (λ d. ap (λ (l : List (List ℕ)). DefinitionLeaf (with_title l d)) (told-lines bytes p q s whole filled lines))
 
 -- A destination, which is on one line.
 
 target-name : IsString n.DefinitionDestinationString AsDestination
-target-name = record { tells = refl; kind = refl; inside_is = λ text. refl; other = refl; part = tt }
-
-target-reads : (bytes text : List ℕ) (p q : Point) (d : DefinitionSoFar) → p.vs ≡ 0 → text ≢ [] →
-    IsRun bytes text p q →
-    ReadsLeaf bytes (DefinitionLeaf d) (DefinitionLeaf (target_told text d))
-    (around n.DefinitionDestinationString p q (plain_chunk bytes (record { first = p; after = q })))
-target-reads bytes text p q d whole some run r none opened =
-    let chunk : List Event = plain_chunk bytes (record { first = p; after = q }) in
-    let read_text : Text = text_after bytes (begun p) chunk in
-    read-told bytes r n.DefinitionDestinationString AsDestination p q chunk refl none
-    (strand-inside bytes p q (LastLine p q text) (Last p q text some run)).roles
-    ∙ ap
-    (λ (o : Option OpenLeaf).
-    record r {
-      leaf = option_map
-          (noted AsDestination (record { spaces = read_text.spaces; text = text_to bytes q.index read_text })) o;
-    }) opened
-    ∙ ap (λ (l : List ℕ). record r { leaf = Some (DefinitionLeaf (target_told l d)) })
-    (told-line bytes text p q whole run)
+target-name = record { tells = refl; leaf = λ line r. refl; kind = refl; inside_is = λ text. refl; other = refl; part = tt }
 
 pub target-facts : (bytes : List ℕ) (p q : Point) (text : List ℕ) → p.vs ≡ 0 → text ≢ [] → IsRun bytes text p q →
     StringFacts bytes n.DefinitionDestinationString AsDestination p q (target_told text)
@@ -190,4 +160,4 @@ target-facts bytes p q text whole some run =
     string-facts bytes n.DefinitionDestinationString AsDestination p q (target_told text) (LastLine p q text)
     target-name whole tt (Last p q text some run)
     (line-sits bytes n.DefinitionDestinationString AsDestination p q refl)
-    (λ d. target-reads bytes text p q d whole some run)
+    (λ d. ap (λ (l : List ℕ). DefinitionLeaf (target_told l d)) (told-line bytes text p q whole run))
