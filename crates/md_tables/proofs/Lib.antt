@@ -12,6 +12,7 @@ pub mod GfmTableLook
 pub mod DelimiterBytes
 pub mod DelimiterSpread
 pub mod RowSpread
+pub mod RunSpread
 pub mod CellLemmas
 pub mod DelimiterColumns
 pub mod TabledWalk

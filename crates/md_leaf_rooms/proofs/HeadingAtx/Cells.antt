@@ -7,23 +7,22 @@ use Rattle.std.proofs.lemmas.Bool.{and_parts, eqb-true}
 use Rattle.std.proofs.lemmas.Bool.Decides.{nat_tests}
 use Rattle.md_engine.specs.declared.configuration.ParseOptions.{ParseOptions}
 use Rattle.md_engine.specs.declared.event.Event.{Event}
-use Rattle.md_engine.specs.declared.event.Name.TheVariants.{HeadingAtx, SpaceOrTab}
+use Rattle.md_engine.specs.declared.event.Name.TheVariants.{HeadingAtx}
 use Rattle.md_engine.specs.declared.event.Point.{Point}
 use Rattle.md_engine.specs.declared.tokenizer.Line.{Line}
 use Rattle.md_engine.specs.Meaning.{Cell}
-use Rattle.md_leaves.specs.HeadingRule.{Apart, Hashes, Run, Text, White, begun, closes, goes_on, heading_inside}
-use Rattle.md_leaves.specs.HeadingRule.{is_heading, is_heading_line, is_opening, opens, runs}
+use Rattle.md_leaves.specs.HeadingRule.{Apart, Run, White, begun, closes, goes_on, heading_inside, is_heading}
+use Rattle.md_leaves.specs.HeadingRule.{is_heading_line, is_opening, opens, runs}
 use Rattle.md_leaves.specs.HeadingTitle.{line_runs}
-use Rattle.md_seam.specs.Ahead.{begins_white, line_cells, white_end, white_rest}
-use Rattle.md_seam.specs.Events.Nested.{around, enter, pair}
+use Rattle.md_seam.specs.Ahead.{line_cells}
+use Rattle.md_seam.specs.Events.Nested.{around}
 use Rattle.md_seam.specs.Events.Places.{past_byte, past_text}
 use Rattle.md_seam.specs.Spaces.{small_indent}
 use Rattle.md_meaning.specs.Rest.{Rest, has_small_indent, is_white, run_len, trim_start}
-use Rattle.md_seam.proofs.AheadLemmas.{white-no_ending}
-use Rattle.md_seam.proofs.FeedLines.{Stops, byte_cells, bytes_of, cell, columns_more, next_column, spread, tab_cells}
-use Rattle.md_seam.proofs.FeedLines.{tab_end, tab_end-last, tab_end-next, tab_end-stop}
+use Rattle.md_seam.proofs.FeedLines.{Stops, bytes_of, cell, columns_more, spread, tab_cells}
 use Rattle.md_seam.proofs.RestCells.{RestAt, rest_cells}
 use Rattle.md_meaning.proofs.TextsLemmas.{NoEnding}
+use Rattle.md_tables.proofs.RunSpread.{AreSpread, HaveWhite, bytes-run, front-run}
 use Rattle.md_frame.specs.RestLine.{rest_line}
 use Rattle.md_leaf_rooms.specs.Leaf.HeadingAtx.{heading_leaf}
 use Rattle.md_frame.proofs.MarkRuns.Fits.{Tells, line-fits}
@@ -138,132 +137,37 @@ heading-fits options said text behind r p stop is h k short =
 
 -- What it adds.
 
--- a run of whitespace ends in front of what is none
-white-ends : (c : Cell) (cs : List Cell) (q : Point) → is_white c.byte ≡ false →
-    runs White (line_cells (c ∷ cs)) q ≡ closes White q ++ runs Apart (line_cells (c ∷ cs)) q
-white-ends c cs q e = go (c.byte == 10) refl
+abbrev heading_turns : Run → Point → List Event → List Event
+heading_turns run p es = cond (goes_on run 9) es (closes run p ++ opens White p ++ es)
+
+heading-are : AreSpread Run White heading_turns runs line_runs
+heading-are = record {
+  none = λ run p. refl;
+  byte = λ run b line cs bs p more.
+      ap₂ (λ (xs zs : List Event). cond (goes_on run b) xs (closes run p ++ opens (begun b) p ++ zs)) (more run)
+      (more (begun b));
+  column = column;
+  tab = tab;
+  more = λ byte at line cs q e. rw e refl;
+}
   where
-    go : (y : Bool) → (c.byte == 10) ≡ y →
-        runs White (line_cells (c ∷ cs)) q ≡ closes White q ++ runs Apart (line_cells (c ∷ cs)) q
-    go true f = rw f refl
-    go false f = rw f (rw e refl)
+    column : (run : Run) (at : Point) (line : Line) (cs : List Cell) (p : Point) →
+        runs run (cell 9 at line ∷ cs) p ≡ heading_turns run p (runs White cs at)
+    column Apart at line cs p = refl
+    column _ at line cs p = refl
 
--- it ends behind all of it, where that has room
-white-run : (room : ℕ) (cells : List Cell) (q : Point) → begins_white (white_rest room cells) ≡ false →
-    runs White (line_cells cells) q ≡
-    closes White (white_end room cells q)
-    ++ runs Apart (line_cells (white_rest room cells)) (white_end room cells q)
-white-run room [] q h = refl
-white-run zero (c ∷ cs) q h = white-ends c cs q h
-white-run (suc room) (c ∷ cs) q h = go (is_white c.byte) refl (λ k. white-run room cs c.after k)
-  where
-    go : (x : Bool) → is_white c.byte ≡ x →
-        (begins_white (white_rest room cs) ≡ false →
-        runs White (line_cells cs) c.after ≡
-        closes White (white_end room cs c.after)
-        ++ runs Apart (line_cells (white_rest room cs)) (white_end room cs c.after)) →
-        runs White (line_cells (c ∷ cs)) q ≡
-        closes White (white_end (suc room) (c ∷ cs) q)
-        ++ runs Apart (line_cells (white_rest (suc room) (c ∷ cs))) (white_end (suc room) (c ∷ cs) q)
-    go true e more =
-        rw (white-no_ending c.byte e, e)
-        (more (sym (ap (λ (t : Bool). begins_white (cond t (white_rest room cs) (c ∷ cs))) e) ∙ h))
-    go false e more =
-        white-ends c cs q e
-        ∙ sym
-        (ap
-        (λ (t : Bool).
-        closes White (cond t (white_end room cs c.after) q)
-        ++ runs Apart (line_cells (cond t (white_rest room cs) (c ∷ cs))) (cond t (white_end room cs c.after) q)) e)
+    tab : (run : Run) (bs : List ℕ) (p : Point) →
+        line_runs run (9 ∷ bs) p ≡ heading_turns run p (line_runs White bs (past_byte 9 p))
+    tab Apart bs p = refl
+    tab _ bs p = refl
 
--- the whitespace in front with the runs behind it is all the runs
-front-run : (room : ℕ) (cells : List Cell) (p : Point) → begins_white (white_rest room cells) ≡ false →
-    cond (begins_white cells) (pair SpaceOrTab p (white_end room cells p)) []
-    ++ runs Apart (line_cells (white_rest room cells)) (white_end room cells p) ≡
-    runs Apart (line_cells cells) p
-front-run room [] p h = refl
-front-run zero (c ∷ cs) p h = ap (λ (t : Bool). cond t (pair SpaceOrTab p p) [] ++ runs Apart (line_cells (c ∷ cs)) p) h
-front-run (suc room) (c ∷ cs) p h = go (is_white c.byte) refl
-  where
-    q : Point
-    q = white_end (suc room) (c ∷ cs) p
-
-    go : (x : Bool) → is_white c.byte ≡ x →
-        cond (is_white c.byte) (pair SpaceOrTab p q) [] ++ runs Apart (line_cells (white_rest (suc room) (c ∷ cs))) q ≡
-        runs Apart (line_cells (c ∷ cs)) p
-    go true e =
-        let opened : runs Apart (line_cells (c ∷ cs)) p ≡
-        enter SpaceOrTab p ∷ runs White (line_cells (c ∷ cs)) p = rw (white-no_ending c.byte e, e) refl in
-        ap
-        (λ (t : Bool).
-        cond t (pair SpaceOrTab p q) [] ++ runs Apart (line_cells (white_rest (suc room) (c ∷ cs))) q) e
-        ∙ sym (opened ∙ ap (λ (es : List Event). enter SpaceOrTab p ∷ es) (white-run (suc room) (c ∷ cs) p h))
-    go false e = rw e refl
-
--- The cells of a byte lie in one run.
-
--- a tab lies in whitespace as a whole
-tab-white : (line : Line) (n byte : ℕ) (p q : Point) (ys : List Cell) → is_white byte ≡ true →
-    runs White (tab_cells line n byte p ++ ys) q ≡ runs White ys (tab_end n p)
-tab-white line zero byte p q ys e = rw e (ap (runs White ys) (tab_end-last p))
-tab-white line (suc n) byte p q ys e =
-    rw e (tab-white line n 32 (next_column p) (next_column p) ys refl ∙ ap (runs White ys) (tab_end-next n p))
-
--- behind another run it begins whitespace
-tab-begins : (run : Run) (line : Line) (n : ℕ) (p : Point) (ys : List Cell) → goes_on run 9 ≡ false →
-    runs run (tab_cells line n 9 p ++ ys) p ≡ closes run p ++ opens White p ++ runs White (tab_cells line n 9 p ++ ys) p
-tab-begins run line zero p ys e = rw e refl
-tab-begins run line (suc n) p ys e = rw e refl
-
--- so its columns are one byte to the runs
-tab-run : (run : Run) (line : Line) (p : Point) (ys : List Cell) (bs : List ℕ) → 1 ≤ p.column →
-    runs White ys (past_byte 9 p) ≡ line_runs White bs (past_byte 9 p) →
-    runs run (tab_cells line (columns_more p) 9 p ++ ys) p ≡ line_runs run (9 ∷ bs) p
-tab-run run line p ys bs one more = go run
-  where
-    white : runs White (tab_cells line (columns_more p) 9 p ++ ys) p ≡ line_runs White bs (past_byte 9 p)
-    white = tab-white line (columns_more p) 9 p p ys refl ∙ ap (runs White ys) (tab_end-stop p one) ∙ more
-
-    begins : (run : Run) → goes_on run 9 ≡ false →
-        runs run (tab_cells line (columns_more p) 9 p ++ ys) p ≡
-        closes run p ++ opens White p ++ line_runs White bs (past_byte 9 p)
-    begins run e =
-        tab-begins run line (columns_more p) p ys e
-        ∙ ap (λ (es : List Event). closes run p ++ opens White p ++ es) white
-
-    go : (run : Run) → runs run (tab_cells line (columns_more p) 9 p ++ ys) p ≡ line_runs run (9 ∷ bs) p
-    go Apart = begins Apart refl
-    go White = white
-    go Hashes = begins Hashes refl
-    go Text = begins Text refl
-
--- and so are the cells of any byte
-byte-run : (run : Run) (line : Line) (b : ℕ) (p : Point) (ys : List Cell) (bs : List ℕ) → 1 ≤ p.column →
-    ((run : Run) → runs run ys (past_byte b p) ≡ line_runs run bs (past_byte b p)) →
-    runs run (byte_cells line b p ++ ys) p ≡ line_runs run (b ∷ bs) p
-byte-run run line b p ys bs one = go (b == 9) refl
-  where
-    P : ℕ → Type 0
-    P c =
-        ((run : Run) → runs run ys (past_byte c p) ≡ line_runs run bs (past_byte c p)) →
-        runs run (byte_cells line c p ++ ys) p ≡ line_runs run (c ∷ bs) p
-
-    go : (t : Bool) → (b == 9) ≡ t → P b
-    go true e = subst P (sym (eqb-true b 9 e)) (λ more. tab-run run line p ys bs one (more White))
-    go false e = λ more.
-        ap
-        (λ (t : Bool).
-        runs run (cond t (tab_cells line (columns_more p) 9 p) (cell b (past_byte b p) line ∷ []) ++ ys) p) e
-        ∙ ap₂ (λ (xs zs : List Event). cond (goes_on run b) xs (closes run p ++ opens (begun b) p ++ zs)) (more run)
-        (more (begun b))
-
--- the runs of the cells of a line are those of its bytes
-spread-runs : (run : Run) (line : Line) (bytes : List ℕ) (p : Point) → 1 ≤ p.column →
-    runs run (spread line bytes p) p ≡ line_runs run bytes p
-spread-runs run line [] p one = refl
-spread-runs run line (b ∷ bs) p one =
-    byte-run run line b p (spread line bs (past_byte b p)) bs one
-    (λ (r : Run). spread-runs r line bs (past_byte b p) (omega arith))
+heading-white : HaveWhite Run White Apart runs
+heading-white = record {
+  none = λ q. refl;
+  dark = λ c cs q e. rw e refl;
+  more = λ c cs q e. rw e refl;
+  opens = λ c cs p e. rw e refl;
+}
 
 -- What it adds for the cells of the rest of a line are the runs of its bytes.
 pub heading-adds : (options : ParseOptions) (said : Line) (text behind : List ℕ) (r : Rest) (p : Point)
@@ -294,8 +198,8 @@ heading-adds options said text behind r p stop is h k short starts =
 
     inside : heading_inside options cells p ≡ line_runs Apart (rest_line r) p
     inside =
-        front-run (small_indent options) cells p indented.none
+        front-run Run White Apart runs heading-white (small_indent options) cells p indented.none
         ∙ rest-same (List Event) (λ (l : List Cell). runs Apart (line_cells l) p) said
         (λ at cs. refl) r p stop one is.cut
         ∙ ap (λ (l : List Cell). runs Apart l p) (spread-line said (rest_line r) p stop (rest-no_ending r h) k)
-        ∙ spread-runs Apart said (rest_line r) p one
+        ∙ bytes-run Run White heading_turns runs line_runs heading-are Apart said (rest_line r) p one

@@ -20,11 +20,11 @@ use Rattle.md_meaning.specs.Texts.{first_byte}
 use Rattle.md_seam.specs.Events.Nested.{around, enter, exit, pair}
 use Rattle.md_seam.specs.Events.Places.{past_byte, past_text}
 use Rattle.md_seam.proofs.AheadLemmas.{small-some, white-no_ending}
-use Rattle.md_seam.proofs.FeedLines.{Stops, byte_cells, bytes_of, cell, columns_more, next_column, spread}
-use Rattle.md_seam.proofs.FeedLines.{tab_cells, tab_end, tab_end-last, tab_end-next, tab_end-stop}
+use Rattle.md_seam.proofs.FeedLines.{Stops, bytes_of, cell, columns_more, spread, tab_cells}
 use Rattle.md_seam.proofs.RestCells.{Cut, RestAt, rest_cells}
 use Rattle.md_seam.proofs.RestLines.{spread-line}
 use Rattle.md_meaning.proofs.TextsLemmas.{NoEnding}
+use Rattle.md_tables.proofs.RunSpread.{AreSpread, bytes-run}
 use Rattle.md_frame.specs.RestLine.{rest_line}
 use Rattle.md_frame.specs.MarkRuns.{Apart, Marks, Run, White, mark_runs}
 use Rattle.md_frame.proofs.RestFacts.{rest-line_end, rest-no_ending, rest-same, rest-trim, small-indented}
@@ -51,115 +51,62 @@ white-other b m w e = go (b == m) refl
     go true same = let bad = ap is_white (eqb-true b m same) in cc
     go false other = refl
 
--- Tabs.
-
--- a tab lies in whitespace as a whole
-tab-white : (name : Name) (line : Line) (m k byte : ℕ) (p q : Point) (ys : List Cell) → (byte == m) ≡ false →
-    (32 == m) ≡ false →
-    celled.mark_runs name celled.White m (tab_cells line k byte p ++ ys) q ≡
-    celled.mark_runs name celled.White m ys (tab_end k p)
-tab-white name line m zero byte p q ys e f = rw e (ap (celled.mark_runs name celled.White m ys) (tab_end-last p))
-tab-white name line m (suc k) byte p q ys e f =
-    rw e
-    (tab-white name line m k 32 (next_column p) (next_column p) ys f f
-    ∙ ap (celled.mark_runs name celled.White m ys) (tab_end-next k p))
-
--- behind another run it begins whitespace
-tab-apart : (name : Name) (line : Line) (m k : ℕ) (p : Point) (ys : List Cell) → (9 == m) ≡ false →
-    celled.mark_runs name celled.Apart m (tab_cells line k 9 p ++ ys) p ≡
-    enter n.SpaceOrTab p ∷ celled.mark_runs name celled.White m (tab_cells line k 9 p ++ ys) p
-tab-apart name line m zero p ys e = rw e refl
-tab-apart name line m (suc k) p ys e = rw e refl
-
--- behind a run of markers
-tab-marks : (name : Name) (line : Line) (m k : ℕ) (p : Point) (ys : List Cell) → (9 == m) ≡ false →
-    celled.mark_runs name celled.Marks m (tab_cells line k 9 p ++ ys) p ≡
-    exit name p ∷ enter n.SpaceOrTab p ∷ celled.mark_runs name celled.White m (tab_cells line k 9 p ++ ys) p
-tab-marks name line m zero p ys e = rw e refl
-tab-marks name line m (suc k) p ys e = rw e refl
-
 -- Lines.
 
--- a run of cells as one of bytes
+-- runs of cells, each as one of bytes
 abbrev cell_run : Run → celled.Run
 cell_run Apart = celled.Apart
 cell_run Marks = celled.Marks
 cell_run White = celled.White
 
--- the runs of cells are those of bytes
-abbrev Same : Name → Run → ℕ → List Cell → List ℕ → Point → Type 0
-Same name run m ys bs p = celled.mark_runs name (cell_run run) m ys p ≡ mark_runs name run m bs p
+abbrev cell_runs : Name → ℕ → Run → List Cell → Point → List Event
+cell_runs name m run cells p = celled.mark_runs name (cell_run run) m cells p
 
--- those of a tab
-tab-same : (name : Name) (run : Run) (line : Line) (m : ℕ) (p : Point) (ys : List Cell) (bs : List ℕ) →
-    is_white m ≡ false → 1 ≤ p.column → Same name White m ys bs (past_byte 9 p) →
-    Same name run m (tab_cells line (columns_more p) 9 p ++ ys) (9 ∷ bs) p
-tab-same name run line m p ys bs dark one more = go run
+abbrev byte_runs : Name → ℕ → Run → List ℕ → Point → List Event
+byte_runs name m run bytes p = mark_runs name run m bytes p
+
+-- in front of whitespace another run ends
+abbrev mark_turns : Name → Run → Point → List Event → List Event
+mark_turns name Apart p es = enter n.SpaceOrTab p ∷ es
+mark_turns name Marks p es = exit name p ∷ enter n.SpaceOrTab p ∷ es
+mark_turns name White p es = es
+
+marks-are : (name : Name) (m : ℕ) → is_white m ≡ false →
+    AreSpread Run White (mark_turns name) (cell_runs name m) (byte_runs name m)
+marks-are name m dark = record {
+  none = none;
+  byte = byte;
+  column = column;
+  tab = tab;
+  more = λ b at line cs q e. rw (white-other b m e dark) refl;
+}
   where
-    tab : (9 == m) ≡ false
-    tab = tab-other m dark
+    none : (run : Run) (p : Point) → cell_runs name m run [] p ≡ byte_runs name m run [] p
+    none Apart p = refl
+    none _ p = refl
 
-    space : (32 == m) ≡ false
-    space = space-other m dark
-
-    white :
-        celled.mark_runs name celled.White m (tab_cells line (columns_more p) 9 p ++ ys) p ≡
-        mark_runs name White m bs (past_byte 9 p)
-    white =
-        tab-white name line m (columns_more p) 9 p p ys tab space
-        ∙ ap (celled.mark_runs name celled.White m ys) (tab_end-stop p one)
-        ∙ more
-
-    go : (run : Run) → Same name run m (tab_cells line (columns_more p) 9 p ++ ys) (9 ∷ bs) p
-    go Apart =
-        rw tab
-        (tab-apart name line m (columns_more p) p ys tab ∙ ap (λ (es : List Event). enter n.SpaceOrTab p ∷ es) white)
-    go Marks =
-        rw tab
-        (tab-marks name line m (columns_more p) p ys tab
-        ∙ ap (λ (es : List Event). exit name p ∷ enter n.SpaceOrTab p ∷ es) white)
-    go White = rw tab white
-
--- those of a byte
-byte-same : (name : Name) (run : Run) (line : Line) (m b : ℕ) (p : Point) (ys : List Cell) (bs : List ℕ) →
-    is_white m ≡ false → 1 ≤ p.column → ((run : Run) → Same name run m ys bs (past_byte b p)) →
-    Same name run m (byte_cells line b p ++ ys) (b ∷ bs) p
-byte-same name run line m b p ys bs dark one = go (b == 9) refl
-  where
-    P : ℕ → Type 0
-    P c =
-        ((run : Run) → Same name run m ys bs (past_byte c p)) → Same name run m (byte_cells line c p ++ ys) (c ∷ bs) p
-
-    whole : (run : Run) → ((run : Run) → Same name run m ys bs (past_byte b p)) →
-        Same name run m (cell b (past_byte b p) line ∷ ys) (b ∷ bs) p
-    whole Apart more =
+    byte : (run : Run) (b : ℕ) (line : Line) (cs : List Cell) (bs : List ℕ) (p : Point) →
+        ((r : Run) → cell_runs name m r cs (past_byte b p) ≡ byte_runs name m r bs (past_byte b p)) →
+        cell_runs name m run (cell b (past_byte b p) line ∷ cs) p ≡ byte_runs name m run (b ∷ bs) p
+    byte Apart b line cs bs p more =
         ap₂ (λ (xs zs : List Event). cond (b == m) (enter name p ∷ xs) (enter n.SpaceOrTab p ∷ zs)) (more Marks)
         (more White)
-    whole Marks more =
+    byte Marks b line cs bs p more =
         ap₂ (λ (xs zs : List Event). cond (b == m) xs (exit name p ∷ enter n.SpaceOrTab p ∷ zs)) (more Marks)
         (more White)
-    whole White more =
+    byte White b line cs bs p more =
         ap₂ (λ (xs zs : List Event). cond (b == m) (exit n.SpaceOrTab p ∷ enter name p ∷ xs) zs) (more Marks)
         (more White)
 
-    go : (t : Bool) → (b == 9) ≡ t → P b
-    go true e = subst P (sym (eqb-true b 9 e)) (λ more. tab-same name run line m p ys bs dark one (more White))
-    go false e =
-        λ more. ap
-        (λ (t : Bool).
-        celled.mark_runs name (cell_run run) m
-        (cond t (tab_cells line (columns_more p) 9 p) (cell b (past_byte b p) line ∷ []) ++ ys) p) e
-        ∙ whole run more
+    column : (run : Run) (at : Point) (line : Line) (cs : List Cell) (p : Point) →
+        cell_runs name m run (cell 9 at line ∷ cs) p ≡ mark_turns name run p (cell_runs name m White cs at)
+    column Apart at line cs p = rw (tab-other m dark) refl
+    column _ at line cs p = rw (tab-other m dark) refl
 
--- those of a line
-spread-same : (name : Name) (run : Run) (line : Line) (m : ℕ) (bytes : List ℕ) (p : Point) → is_white m ≡ false →
-    1 ≤ p.column → Same name run m (spread line bytes p) bytes p
-spread-same name Apart line m [] p dark one = refl
-spread-same name Marks line m [] p dark one = refl
-spread-same name White line m [] p dark one = refl
-spread-same name run line m (b ∷ bs) p dark one =
-    byte-same name run line m b p (spread line bs (past_byte b p)) bs dark one
-    (λ (r : Run). spread-same name r line m bs (past_byte b p) dark (omega arith))
+    tab : (run : Run) (bs : List ℕ) (p : Point) →
+        byte_runs name m run (9 ∷ bs) p ≡ mark_turns name run p (byte_runs name m White bs (past_byte 9 p))
+    tab Apart bs p = rw (tab-other m dark) refl
+    tab _ bs p = rw (tab-other m dark) refl
 
 -- those of the rest of a line
 rest-runs : (name : Name) (line : Line) (m : ℕ) (r : Rest) (p : Point) (stop : List Cell) → is_white m ≡ false →
@@ -171,7 +118,8 @@ rest-runs name line m r p stop dark h k one cut =
     one cut
     ∙ ap (λ (l : List Cell). celled.mark_runs name celled.Apart m l p)
     (spread-line line (rest_line r) p stop (rest-no_ending r h) k)
-    ∙ spread-same name Apart line m (rest_line r) p dark one
+    ∙ bytes-run Run White (mark_turns name) (cell_runs name m) (byte_runs name m) (marks-are name m dark) Apart line
+    (rest_line r) p one
   where
     tab : (9 == m) ≡ false
     tab = tab-other m dark
