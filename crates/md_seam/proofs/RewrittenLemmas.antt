@@ -1,8 +1,7 @@
 -- A list of events that is rewritten in its own place.
 use Rattle.std.proofs.Common.{◌≡◌, ℕ, ◌+◌, ◌-◌, ◌≤◌, List, [], ◌∷◌, ◌++◌, take, drop, length, sym, ◌∙◌, ap, arith}
-use Rattle.std.proofs.Common.{append_assoc}
 use Rattle.std.proofs.Math.Seq.{take-add}
-use Rattle.std.proofs.lemmas.List.{drop-drop, drop-take, take-append-drop, take_all}
+use Rattle.std.proofs.lemmas.List.{drop-drop, drop-take, take_all}
 use Rattle.md_engine.specs.declared.event.Event.{Event}
 
 -- one event more is held

@@ -3,7 +3,7 @@
 -- A fold over the events. It goes on from a half-read tree: the containers that are open, the blocks that are finished
 -- in the innermost, the leaf block that is open, and the text that is being read.
 use Rattle.std.specs.Prelude.{ℕ, ◌+◌, ◌-◌, Bool, true, false, ◌||◌, ◌==◌, nat_lt, if◌then◌else◌, List, [], ◌∷◌, ◌++◌}
-use Rattle.std.specs.Prelude.{length, map, slice_range, Option, Some, None, option_map, take, drop}
+use Rattle.std.specs.Prelude.{length, map, slice_range, Option, Some, None, option_map, drop}
 use Rattle.md_engine.specs.declared.event.Point.{Point}
 use Rattle.md_engine.specs.declared.event.Event.{Event}
 use Rattle.md_engine.specs.declared.event.Kind.{Kind}

@@ -1,4 +1,4 @@
-use Rattle.std.proofs.Common.{◌≡◌, ◌<◌, ℕ, ◌+◌, ◌∷◌, ◌++◌, ◌⊎◌, List, [], append-nil, append_assoc, ap, arith, drop, get_or, inl, inr}
+use Rattle.std.proofs.Common.{◌≡◌, ◌<◌, ℕ, ◌+◌, ◌++◌, ◌⊎◌, List, [], append-nil, append_assoc, ap, arith, drop, get_or, inl, inr}
 use Rattle.std.proofs.Common.{length, subst, suc, sym, take, ◌∙◌}
 use Rattle.std.specs.List.{prefix_len}
 use Rattle.std.specs.Prelude.{None, Some}
