@@ -7,7 +7,7 @@ use Rattle.std.proofs.lemmas.List.{length-drop}
 use Rattle.md_meaning.proofs.DefinitionLemmas.{cut_definitions-none, cut_definitions-some}
 use Rattle.md_meaning.specs.Definition.{Defined, cut_definitions, definition_at, label_at}
 use Rattle.md_meaning.specs.Rest.{trim_start}
-use Rattle.md_meaning.specs.State.{shut_paragraph, texts, then_definitions, then_paragraph}
+use Rattle.md_meaning.specs.State.{cut, shut_paragraph, texts, then_definitions, then_paragraph}
 use Rattle.md_meaning.specs.Tree.{Block, Blocks, Definition}
 use Rattle.md_engine.specs.declared.configuration.ParseOptions.{ParseOptions}
 use Rattle.md_engine.specs.declared.event.Event.{Event}
@@ -141,19 +141,10 @@ defined-reads bytes d row rows r is none shut =
 
 -- What the line definition comes to.
 
--- where these were cut
-abbrev then_cut : Blocks → List Defined × List (List ℕ) → Blocks
-then_cut bs c = then_paragraph (then_definitions bs c.0) c.1
-
-shut-off : (options : ParseOptions) (bs : Blocks) (lines : List (List ℕ)) → options.constructs.definition ≡ false →
-    shut_paragraph options bs lines ≡ then_paragraph bs lines
-unfolding shut_paragraph
-shut-off options bs lines off = rw off refl
-
-shut-on : (options : ParseOptions) (bs : Blocks) (lines : List (List ℕ)) → options.constructs.definition ≡ true →
-    shut_paragraph options bs lines ≡ then_cut bs (cut_definitions lines)
-unfolding shut_paragraph
-shut-on options bs lines on = rw on refl
+-- it cuts definitions where they are on
+pub cut-as : (options : ParseOptions) (lines : List (List ℕ)) (x : Bool) → options.constructs.definition ≡ x →
+    cut options lines ≡ cond x (cut_definitions lines) ([], lines)
+cut-as options lines x e = ap (λ (y : Bool). cond y (cut_definitions lines) ([], lines)) e
 
 pub none-found : definition_at [] ≡ None
 unfolding definition_at label_at
@@ -163,12 +154,12 @@ none-found = refl
 
 -- those of a text alone
 lines-alone : (options : ParseOptions) (bytes : List ℕ) (row : Row) (rows : List Row) →
-    (are : AreLines options bytes row rows) → (r : Reading) → r.text ≡ None →
+    (are : AreLines options bytes row rows) → (r : Reading) → r.text ≡ None → r.leaf ≡ None →
     read bytes r (lines_done bytes row rows) ≡
     record r { here = then_paragraph r.here (texts (kept-of options bytes row rows are)) }
-lines-alone options bytes row [] are r none =
+lines-alone options bytes row [] are r none shut =
     read-lines bytes row [] (kept-of options bytes row [] are) r (lines-read options bytes row [] are) none
-lines-alone options bytes row (next ∷ rows) are r none =
+lines-alone options bytes row (next ∷ rows) are r none shut =
     read-lines bytes row (next ∷ rows) (kept-of options bytes row (next ∷ rows) are) r
     (lines-read options bytes row (next ∷ rows) are) none
 
@@ -215,98 +206,126 @@ read-gap options bytes last next left r more none shut =
 
 -- At most so many definitions, and what remains.
 
-abbrev cut_done : ParseOptions → List ℕ → ℕ → Row → List Row → List Event
-cut_done options bytes n row rows = cut_at_most (defined_done bytes) (lines_done bytes) options bytes n row rows
+-- behind a definition more lines remain, of which something is known, or none, and then nothing is read
+abbrev pub IsLeft : (options : ParseOptions) (bytes : List ℕ) →
+    ((row : Row) (rows : List Row) → AreLines options bytes row rows → Type 0) → (Blocks → List (List ℕ) → Blocks) →
+    List Row → Type 0
+IsLeft options bytes C last [] = (bs : Blocks) → last bs [] ≡ bs
+IsLeft options bytes C last (next ∷ more) = (are : AreLines options bytes next more) → C next more are
 
--- so many are enough for these lines
-abbrev ReadsBy : ParseOptions → List ℕ → ℕ → Type 0
-ReadsBy options bytes n =
-    (row : Row) (rows : List Row) → length rows < n → (are : AreLines options bytes row rows) → (r : Reading) →
-    r.text ≡ None → r.leaf ≡ None →
-    read bytes r (cut_done options bytes n row rows) ≡
-    record r { here = shut_paragraph options r.here (texts (kept-of options bytes row rows are)) }
+-- The lines of which this is known are read so where no definition is cut, and others behind a definition.
+pub record ReadsRest (options : ParseOptions) (bytes : List ℕ)
+    (C : (row : Row) (rows : List Row) → AreLines options bytes row rows → Type 0) (done : Row → List Row → List Event)
+    (last : Blocks → List (List ℕ) → Blocks) : Type 0 where
+  pub alone : (row : Row) (rows : List Row) (are : AreLines options bytes row rows) → C row rows are → (r : Reading) →
+      r.text ≡ None → r.leaf ≡ None →
+      read bytes r (done row rows) ≡ record r { here = last r.here (texts (kept-of options bytes row rows are)) }
+  pub behind : (row : Row) (rows : List Row) (are : AreLines options bytes row rows) → C row rows are →
+      options.constructs.definition ≡ true → (d : DefinitionParts) →
+      definition_parts (lines_cells options bytes row rows) ≡ Some d →
+      IsBehind options bytes d (drop (further_lines d row) rows) →
+      IsLeft options bytes C last (drop (further_lines d row) rows)
 
--- behind one definition
-cut-behind : (options : ParseOptions) (bytes : List ℕ) (k : ℕ) (d : DefinitionParts) (last : Row) (left : List Row)
-    (r : Reading) →
-    options.constructs.definition ≡ true → ReadsBy options bytes k → length left ≤ k → IsMore options bytes left →
-    IsBehind options bytes d left → r.text ≡ None → r.leaf ≡ None →
-    read bytes r (behind_cut (cut_done options bytes k) last left) ≡
-    record r { here = then_cut r.here (cut_definitions (further (definition_rest d))) }
-cut-behind options bytes k d last [] r on fewer some more behind none shut =
-    ap (λ (cut : List Defined × List (List ℕ)). record r { here = then_cut r.here cut })
-    (sym (none-behind options bytes d behind))
-cut-behind options bytes k d last (next ∷ left) r on fewer some more behind none shut =
-    let between : List Event = ending_events n.LineEnding last ++ next.front in
-    read-from bytes r r between (cut_done options bytes k next left)
-    (read-gap options bytes last next left r more none shut)
-    ∙ fewer next left (omega arith) more.2 r none shut
-    ∙ ap (λ (bs : Blocks). record r { here = bs })
-    (shut-on options r.here (texts (kept-of options bytes next left more.2)) on
-    ∙ ap (λ (lines : List (List ℕ)). then_cut r.here (cut_definitions lines))
-    (sym (further-behind options bytes d next left more.2 behind)))
+module _ (options : ParseOptions) (bytes : List ℕ)
+    (C : (row : Row) (rows : List Row) → AreLines options bytes row rows → Type 0) (done : Row → List Row → List Event)
+    (last : Blocks → List (List ℕ) → Blocks) (of : ReadsRest options bytes C done last) where
+  -- behind these blocks, where these were cut
+  abbrev then_cut : Blocks → List Defined × List (List ℕ) → Blocks
+  then_cut bs c = last (then_definitions bs c.0) c.1
 
--- with one more
-reads-more : (options : ParseOptions) (bytes : List ℕ) (k : ℕ) (row : Row) (rows : List Row) → length rows < suc k →
-    (are : AreLines options bytes row rows) → (r : Reading) → r.text ≡ None → r.leaf ≡ None →
-    ReadsBy options bytes k →
-    read bytes r (cut_done options bytes (suc k) row rows) ≡
-    record r { here = shut_paragraph options r.here (texts (kept-of options bytes row rows are)) }
-reads-more options bytes k row rows few are r none shut fewer =
-    go options.constructs.definition refl (definition_parts cells) refl
-  where
-    cells : List Cell
-    cells = lines_cells options bytes row rows
+  abbrev cut_done : ℕ → Row → List Row → List Event
+  cut_done n row rows = cut_at_most (defined_done bytes) done options bytes n row rows
 
-    lines : List (List ℕ)
-    lines = texts (kept-of options bytes row rows are)
+  -- so many are enough for these lines
+  abbrev ReadsBy : ℕ → Type 0
+  ReadsBy n =
+      (row : Row) (rows : List Row) → length rows < n → (are : AreLines options bytes row rows) → C row rows are →
+      (r : Reading) → r.text ≡ None → r.leaf ≡ None →
+      read bytes r (cut_done n row rows) ≡
+      record r { here = then_cut r.here (cut options (texts (kept-of options bytes row rows are))) }
 
-    found : definition_at lines ≡ cut_of (definition_parts cells)
-    found = lines-definition options bytes row rows are
+  -- behind one definition
+  cut-behind : (k : ℕ) (d : DefinitionParts) (end : Row) (left : List Row) (r : Reading) →
+      options.constructs.definition ≡ true → ReadsBy k → length left ≤ k → IsMore options bytes left →
+      IsBehind options bytes d left → IsLeft options bytes C last left → r.text ≡ None → r.leaf ≡ None →
+      read bytes r (behind_cut (cut_done k) end left) ≡
+      record r { here = then_cut r.here (cut_definitions (further (definition_rest d))) }
+  cut-behind k d end [] r on fewer some more behind is none shut =
+      ap (λ (bs : Blocks). record r { here = bs }) (sym (is r.here))
+      ∙ ap (λ (c : List Defined × List (List ℕ)). record r { here = then_cut r.here c })
+      (sym (none-behind options bytes d behind))
+  cut-behind k d end (next ∷ left) r on fewer some more behind is none shut =
+      read-from bytes r r (ending_events n.LineEnding end ++ next.front) (cut_done k next left)
+      (read-gap options bytes end next left r more none shut)
+      ∙ fewer next left (omega arith) more.2 (is more.2) r none shut
+      ∙ ap (λ (c : List Defined × List (List ℕ)). record r { here = then_cut r.here c })
+      (cut-as options (texts (kept-of options bytes next left more.2)) true on
+      ∙ ap cut_definitions (sym (further-behind options bytes d next left more.2 behind)))
 
-    go : (x : Bool) → options.constructs.definition ≡ x → (o : Option DefinitionParts) → definition_parts cells ≡ o →
-        read bytes r
-        (cut_by (defined_done bytes) (lines_done bytes) (cut_done options bytes k) (cond x o None) row rows) ≡
-        record r { here = shut_paragraph options r.here lines }
-    go false off o e =
-        lines-alone options bytes row rows are r none
-        ∙ ap (λ (bs : Blocks). record r { here = bs }) (sym (shut-off options r.here lines off))
-    go true on None e =
-        lines-alone options bytes row rows are r none
-        ∙ ap (λ (bs : Blocks). record r { here = bs })
-        (sym
-        (shut-on options r.here lines on
-        ∙ ap (then_cut r.here) (cut_definitions-none lines (found ∙ ap cut_of e))))
-    go true on (Some d) e =
-        let small = (first-text options bytes row rows are).1.small in
-        let is : IsCut options bytes row rows d = lines-cut options bytes small row rows are d e in
-        let own : List Row = take (further_lines d row) rows in
-        let left : List Row = drop (further_lines d row) rows in
-        let next : Reading = add_block (defined_block (defined_of d)) r in
-        let size = length-drop (further_lines d row) rows in
-        read-from bytes r next (defined_done bytes d row own)
-        (behind_cut (cut_done options bytes k) (last_row row own) left)
-        (defined-reads bytes d row own r is.defined none shut)
-        ∙ cut-behind options bytes k d (last_row row own) left next on fewer (omega (arith, size, few))
-        (lines-behind options bytes (further_lines d row) row rows are) is.rest none shut
-        ∙ ap (λ (bs : Blocks). record r { here = bs })
-        (sym
-        (shut-on options r.here lines on
-        ∙ ap (then_cut r.here)
-        (cut_definitions-some lines
-        (record { defined = defined_of d; rest = further (definition_rest d) }) (found ∙ ap cut_of e))))
+  -- with one more
+  reads-more : (k : ℕ) (row : Row) (rows : List Row) → length rows < suc k → (are : AreLines options bytes row rows) →
+      C row rows are → (r : Reading) → r.text ≡ None → r.leaf ≡ None → ReadsBy k →
+      read bytes r (cut_done (suc k) row rows) ≡
+      record r { here = then_cut r.here (cut options (texts (kept-of options bytes row rows are))) }
+  reads-more k row rows few are holds r none shut fewer =
+      go options.constructs.definition refl (definition_parts cells) refl
+    where
+      cells : List Cell
+      cells = lines_cells options bytes row rows
 
--- so it goes on
-reads-by : (options : ParseOptions) (bytes : List ℕ) (k : ℕ) → ReadsBy options bytes k
-reads-by options bytes zero = λ row rows few are r none shut. absurd (omega (arith, few))
-reads-by options bytes (suc k) =
-    λ row rows few are r none shut. reads-more options bytes k row rows few are r none shut
-    (reads-by options bytes k)
+      lines : List (List ℕ)
+      lines = texts (kept-of options bytes row rows are)
+
+      to : List Defined × List (List ℕ) → Reading
+      to c = record r { here = then_cut r.here c }
+
+      found : definition_at lines ≡ cut_of (definition_parts cells)
+      found = lines-definition options bytes row rows are
+
+      alone : cut options lines ≡ ([], lines) → read bytes r (done row rows) ≡ to (cut options lines)
+      alone e = of.alone row rows are holds r none shut ∙ ap to (sym e)
+
+      go : (x : Bool) → options.constructs.definition ≡ x → (o : Option DefinitionParts) → definition_parts cells ≡ o →
+          read bytes r (cut_by (defined_done bytes) done (cut_done k) (cond x o None) row rows) ≡ to (cut options lines)
+      go false off o e = alone (cut-as options lines false off)
+      go true on None e = alone (cut-as options lines true on ∙ cut_definitions-none lines (found ∙ ap cut_of e))
+      go true on (Some d) e =
+          let small = (first-text options bytes row rows are).1.small in
+          let is : IsCut options bytes row rows d = lines-cut options bytes small row rows are d e in
+          let own : List Row = take (further_lines d row) rows in
+          let left : List Row = drop (further_lines d row) rows in
+          let next : Reading = add_block (defined_block (defined_of d)) r in
+          let size = length-drop (further_lines d row) rows in
+          read-from bytes r next (defined_done bytes d row own) (behind_cut (cut_done k) (last_row row own) left)
+          (defined-reads bytes d row own r is.defined none shut)
+          ∙ cut-behind k d (last_row row own) left next on fewer (omega (arith, size, few))
+          (lines-behind options bytes (further_lines d row) row rows are) is.rest
+          (of.behind row rows are holds on d e is.rest) none shut
+          ∙ ap to
+          (sym
+          (cut-as options lines true on
+          ∙ cut_definitions-some lines
+          (record { defined = defined_of d; rest = further (definition_rest d) }) (found ∙ ap cut_of e)))
+
+  -- so it goes on
+  pub reads-by : (k : ℕ) → ReadsBy k
+  reads-by zero = λ row rows few are holds r none shut. absurd (omega (arith, few))
+  reads-by (suc k) =
+      λ row rows few are holds r none shut. reads-more k row rows few are holds r none shut (reads-by k)
 
 -- The lines of a text are read as what it comes to.
 pub text-read : (options : ParseOptions) (bytes : List ℕ) (row : Row) (rows : List Row) →
     (are : AreLines options bytes row rows) → (r : Reading) → r.text ≡ None → r.leaf ≡ None →
     read bytes r (text_done options bytes row rows) ≡
     record r { here = shut_paragraph options r.here (texts (kept-of options bytes row rows are)) }
+unfolding shut_paragraph
 text-read options bytes row rows are r none shut =
-    reads-by options bytes (suc (length rows)) row rows (omega arith) are r none shut
+    reads-by options bytes (λ row rows are. Unit {0}) (lines_done bytes) then_paragraph
+    (record {
+      alone = λ row rows are holds. lines-alone options bytes row rows are;
+      behind = λ row rows are holds on d e is. left (drop (further_lines d row) rows);
+    }) (suc (length rows)) row rows (omega arith) are tt r none shut
+  where
+    left : (rows : List Row) → IsLeft options bytes (λ row rows are. Unit {0}) then_paragraph rows
+    left [] = λ bs. refl
+    left (next ∷ more) = λ are. tt
