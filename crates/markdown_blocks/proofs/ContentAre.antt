@@ -1,6 +1,6 @@
 -- What stands in a text once its lines and its content are read: texts that are not read yet.
 use Rattle.md_engine.specs.declared.tokenizer.held_leaf.HeldLeaf.TheVariants as held_leaf
-use Rattle.std.proofs.Common.{◌≡◌, ◌^◌, ◌<◌, ℕ, suc, List, [], length, drop, refl, sym, ◌∙◌, subst}
+use Rattle.std.proofs.Common.{◌≡◌, ◌^◌, ◌<◌, ℕ, suc, List, [], length, refl, sym, ◌∙◌, subst}
 use Rattle.md_engine.specs.declared.configuration.ParseOptions.{ParseOptions}
 use Rattle.md_engine.specs.declared.event.Event.{Event}
 use Rattle.md_engine.specs.declared.event.Point.{Point}
@@ -10,11 +10,9 @@ use Rattle.md_engine.specs.World.{World}
 use Rattle.md_registry.specs.Resolving.{lines_joined}
 use Rattle.md_content.specs.ContentReads.{content_readings, wants_content}
 use Rattle.md_seam.specs.Substituted.{Substituted}
-use Rattle.md_meaning.specs.Texts.{split_lines}
 use Rattle.md_front_rooms.specs.Front.{body_point, front_events}
 use Rattle.md_rows.specs.TextRows.{text_cells, text_rows}
-use Rattle.markdown_blocks.specs.Parsed.{IsWithoutMdx}
-use Rattle.md_frame.specs.Row.{Row}
+use Rattle.md_row_steps.specs.WithoutMdx.{IsWithoutMdx}
 use Rattle.md_rows.specs.Rows.{groups, rows_events}
 use Rattle.md_rows.specs.Unread.{unread_groups}
 use Rattle.md_frame.proofs.ContentFacts.{content-alone}
@@ -24,31 +22,17 @@ use Rattle.md_rows.proofs.HeadJoined.{heads-joined}
 use Rattle.md_rows.proofs.JoinedLemmas.{EachNoContent, rows_at-no_content}
 use Rattle.md_rows.proofs.Begun.{begun}
 use Rattle.md_front_rooms.proofs.Frontmatter.Whole.{FrontPart}
-use Rattle.md_rows.proofs.RowFacts.{AreRows}
-use Rattle.markdown_blocks.proofs.RowLemmas.{fresh-rows}
+use Rattle.md_row_steps.proofs.TextAre.{lines_of, rows_of, text-are}
 use Rattle.md_rows.proofs.AloneGroups.{leaves-alone}
 use Rattle.md_content.specs.Joined.{joined}
 use Rattle.md_table_rooms.specs.Headed.{heads_read}
 use Rattle.md_order.specs.Alone.{HoldNoBlock, Nothing}
 use Rattle.markdown_blocks.proofs.FlowReads.{FlowFlushed}
 
--- the lines of a text, behind its front
-abbrev pub lines_of : ParseOptions → List ℕ → List (List ℕ)
-lines_of options bytes = split_lines (drop (body_point options bytes).index bytes)
-
-abbrev pub rows_of : ParseOptions → List ℕ → List Row
-rows_of options bytes = text_rows options bytes (body_point options bytes)
-
 pub text-quiet : (options : ParseOptions) (bytes : List ℕ) (p : Point) → EachNoContent (text_rows options bytes p)
 text-quiet options bytes p =
     rows_at-no_content options (suc (length (text_cells bytes options p))) [] held_leaf.None
     (text_cells bytes options p) p
-
-pub text-are : (options : ParseOptions) (bytes : List ℕ) → IsWithoutMdx options → length bytes < 2 ^ 61 →
-    AreRows options bytes [] held_leaf.None (body_point options bytes) (lines_of options bytes) (rows_of options bytes)
-text-are options bytes built small =
-    let begins = begun options bytes in
-    fresh-rows options bytes (body_point options bytes) built small begins.index begins.vs begins.column
 
 pub part-of : (options : ParseOptions) (bytes : List ℕ) →
     FrontPart bytes first_point (body_point options bytes) (front_events options bytes)

@@ -7,7 +7,7 @@ use Rattle.md_frame.specs.HeldLeaf.{may_go_on, takes_lazy}
 use Rattle.md_rows.specs.Rows.{is_further, is_last, onto_span, Headed, LeafLines, Turned, onto_leaf, takes_head}
 use Rattle.md_rows.specs.Rows.{line_behind, Group, Lines, Single, groups_events, is_lazy, is_text, line_kind}
 use Rattle.md_rows.specs.Rows.{onto_groups}
-use Rattle.markdown_blocks.proofs.StepBehind.{GoesOn, goes-on}
+use Rattle.md_row_steps.proofs.StepBehind.{GoesOn, goes-on}
 use Rattle.md_registry.specs.Registry.{leaf}
 use Rattle.md_rows.proofs.TextGroups.{lines-first, text-onto, text_group}
 use Rattle.std.proofs.lemmas.Bool.{and_parts}
@@ -18,12 +18,12 @@ use Rattle.md_meaning.specs.State.{Container, Path}
 use Rattle.md_frame.specs.Change.{Change, is_none}
 use Rattle.md_frame.specs.Closed.{close_containers}
 use Rattle.md_rows.specs.Fronted.{Contained, rest_from}
-use Rattle.markdown_blocks.specs.Parsed.{IsWithoutMdx}
+use Rattle.md_row_steps.specs.WithoutMdx.{IsWithoutMdx}
 use Rattle.md_frame.specs.Row.{BlankRow, LeafRow, Row, RowKind, TextRow}
 use Rattle.md_rows.specs.Stands.{IsPlain, containers_of, still_of, reading}
 use Rattle.md_rows.proofs.ContainedLemmas.{lazy-opens}
 use Rattle.md_frame.proofs.FrontFacts.{LinePrefix}
-use Rattle.markdown_blocks.proofs.LineSteps.{contained-lazy, contained_at, goes_lazy}
+use Rattle.md_row_steps.proofs.LineSteps.{contained-lazy, contained_at, goes_lazy}
 use Rattle.md_registry.proofs.Registry.{laws}
 use Rattle.md_rows.proofs.RowFacts as f
 use Rattle.md_frame.proofs.PrefixFacts.{begins}

@@ -10,10 +10,10 @@ use Rattle.md_meaning.specs.State.{Container, Path}
 use Rattle.md_meaning.specs.Step.{step, steps}
 use Rattle.md_frame.specs.Change.{open_behind}
 use Rattle.md_rows.specs.Fronted.{Contained}
-use Rattle.markdown_blocks.specs.Parsed.{IsWithoutMdx}
+use Rattle.md_row_steps.specs.WithoutMdx.{IsWithoutMdx}
 use Rattle.md_rows.specs.Stands.{IsPlain, containers_of}
-use Rattle.markdown_blocks.proofs.LineSteps.{contained_at, goes_further, renewed}
-use Rattle.markdown_blocks.proofs.StepBehind.{GoesOn, containers-all, containers-step, goes-on}
+use Rattle.md_row_steps.proofs.LineSteps.{contained_at, goes_further, renewed}
+use Rattle.md_row_steps.proofs.StepBehind.{GoesOn, containers-all, containers-step, goes-on}
 
 -- what a line does, of which it is told whether it stands over the end of the text
 abbrev pub step_over : ParseOptions → Bool → Path → Rest → Path

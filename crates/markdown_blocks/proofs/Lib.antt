@@ -1,12 +1,8 @@
 pub mod FlowMeans
 pub mod FlowRuns
-pub mod FrontRows
-pub mod RowLemmas
 pub mod LinesFed
 pub mod FlowSteps
 pub mod FlowReads
-pub mod LineSteps
-pub mod StepBehind
 pub mod LastLine
 pub mod SpelledPaths
 pub mod SpelledHeads

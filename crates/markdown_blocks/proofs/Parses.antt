@@ -21,7 +21,8 @@ use Rattle.md_seam.proofs.PlainTiles.{plain-only}
 use Rattle.md_rows.specs.BlockList.{block_list}
 use Rattle.md_front_rooms.specs.Front.{body_point, front_events}
 use Rattle.md_frame.specs.ReadsPlain.{reads_plain}
-use Rattle.markdown_blocks.specs.Parsed.{IsParsed, IsRead, IsWithoutMdx}
+use Rattle.markdown_blocks.specs.Parsed.{IsParsed, IsRead}
+use Rattle.md_row_steps.specs.WithoutMdx.{IsWithoutMdx}
 use Rattle.md_meaning.specs.Wrapped.{IsSmall}
 use Rattle.md_frame.specs.Row.{Row}
 use Rattle.md_rows.specs.Rows.{groups, groups_events}
@@ -32,7 +33,8 @@ use Rattle.md_rows.proofs.HeldRows.{events-held}
 use Rattle.md_rows.proofs.NestedRows.{Nests, rows-nest}
 use Rattle.md_rows.proofs.PieceRows.{events-pieces}
 use Rattle.md_rows.proofs.RowFacts.{AreRows}
-use Rattle.markdown_blocks.proofs.ContentAre.{lines_of, part-of, rows_of, text-are, text-quiet}
+use Rattle.md_row_steps.proofs.TextAre.{lines_of, rows_of, text-are}
+use Rattle.markdown_blocks.proofs.ContentAre.{part-of, text-quiet}
 use Rattle.markdown_blocks.proofs.TextBlocks.{read-is, read_of}
 use Rattle.md_rows.proofs.TileReads.{end-read}
 

@@ -36,7 +36,8 @@ use Rattle.md_rows.specs.BlockList.{block_list}
 use Rattle.markdown_blocks.specs.FlowReads.{FlowReads}
 use Rattle.md_container_rooms.specs.Footnotes.{footnotes_listed}
 use Rattle.md_front_rooms.specs.Front.{body_point, front_events}
-use Rattle.markdown_blocks.specs.Parsed.{IsRead, IsWithoutMdx}
+use Rattle.markdown_blocks.specs.Parsed.{IsRead}
+use Rattle.md_row_steps.specs.WithoutMdx.{IsWithoutMdx}
 use Rattle.md_front_rooms.proofs.FrontUnlinked.{front-stays}
 use Rattle.markdown_blocks.proofs.TextBlocks.{HasBlocks, blocks-read, has-blocks, parsed-footnotes, parsed-labels}
 use Rattle.markdown_blocks.proofs.TextItemised.{text-itemised}

@@ -16,13 +16,13 @@ use Rattle.md_registry.specs.Registry.{further_of, leaf, turn_leaf}
 use Rattle.md_rows.specs.Rows.{front_done, group_done, is_further, onto_span, onto_leaf, takes_head, Group, Single}
 use Rattle.md_rows.specs.Rows.{groups, groups_events, is_lazy, is_text, leaf_done, line_kind, onto_groups}
 use Rattle.md_rows.proofs.GroupLines.{AreLines, kept-of, line-of}
-use Rattle.markdown_blocks.proofs.LineSteps.{come_by, renewed-spot, with_came, contained_at, goes_further, goes_lazy}
-use Rattle.markdown_blocks.proofs.LineSteps.{longer, path_by, renewed, spot_by, step-contained}
+use Rattle.md_row_steps.proofs.LineSteps.{come_by, renewed-spot, with_came, contained_at, goes_further, goes_lazy}
+use Rattle.md_row_steps.proofs.LineSteps.{longer, path_by, renewed, spot_by, step-contained}
 use Rattle.md_registry.proofs.OpenSpan.{TurnsText}
 use Rattle.md_registry.proofs.LeafStarts.{text-turns}
 use Rattle.md_rows.proofs.RowLeaf.{EndsOnLine, block_of, row-facts}
 use Rattle.md_frame.proofs.SpanLaws.{IsLineOf}
-use Rattle.markdown_blocks.proofs.StepBehind.{GoesOn, further-unlazy, goes-on, lazy-text}
+use Rattle.md_row_steps.proofs.StepBehind.{GoesOn, further-unlazy, goes-on, lazy-text}
 use Rattle.markdown_blocks.proofs.SpelledHeads.{IsOfText, met-dark, none-of_text}
 use Rattle.md_frame.specs.LeafName.{LeafName}
 use Rattle.md_rows.proofs.TextGroups.{text_group}
@@ -42,7 +42,7 @@ use Rattle.md_frame.specs.Change.{Change}
 use Rattle.md_frame.specs.Closed.{close_containers}
 use Rattle.md_rows.specs.Fronted.{Contained, rest_from}
 use Rattle.md_frame.specs.RestLine.{rest_line}
-use Rattle.markdown_blocks.specs.Parsed.{IsWithoutMdx}
+use Rattle.md_row_steps.specs.WithoutMdx.{IsWithoutMdx}
 use Rattle.md_frame.specs.Row.{BlankRow, LeafRow, Row, RowKind, TextRow, ending_of, last_row, is_blank_row}
 use Rattle.md_rows.specs.Stands.{IsPlain, containers_of, still_of, reading}
 use Rattle.md_rows.proofs.ContainedLemmas.{contained-shapes}

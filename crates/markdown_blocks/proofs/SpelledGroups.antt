@@ -13,9 +13,9 @@ use Rattle.md_frame.specs.Row.{is_blank_row, LeafRow, Row, TextRow, last_row}
 use Rattle.md_rows.specs.Rows.{is_further, onto_span, LeafLines, Group, Lines, groups_events, is_text, onto_groups}
 use Rattle.md_rows.specs.Rows.{tail_events}
 use Rattle.md_rows.proofs.GroupLines.{AreLines, IsUnder, kept-of}
-use Rattle.markdown_blocks.proofs.LineSteps.{with_came, longer, renewed, renewed-spot}
+use Rattle.md_row_steps.proofs.LineSteps.{with_came, longer, renewed, renewed-spot}
 use Rattle.md_frame.proofs.SpanLaws.{AreBehind, come_behind}
-use Rattle.markdown_blocks.proofs.StepBehind.{containers-longer}
+use Rattle.md_row_steps.proofs.StepBehind.{containers-longer}
 use Rattle.md_frame.specs.LeafName.{LeafName}
 use Rattle.md_registry.specs.Registry.{leaf}
 use Rattle.md_engine.specs.declared.configuration.ParseOptions.{ParseOptions}

@@ -30,7 +30,7 @@ use Rattle.md_rows.specs.Stands.{reading, reading_on}
 use Rattle.md_table_rooms.proofs.GfmTable.TableForm.{IsFilledLine}
 use Rattle.md_table_rooms.proofs.GfmTable.TableLaws.{AreFilled, cells-trimmed, table-facts, table-shuts}
 use Rattle.md_rows.proofs.HeadedTable.{line-filled}
-use Rattle.markdown_blocks.proofs.LineSteps.{longer, with_came}
+use Rattle.md_row_steps.proofs.LineSteps.{longer, with_came}
 use Rattle.md_registry.proofs.Registry.{text-laws}
 use Rattle.md_rows.proofs.RowFacts as f
 use Rattle.md_rows.proofs.RowLeaf.{leaf-at}

@@ -25,12 +25,12 @@ use Rattle.md_frame.specs.ContainerNames.{container_name}
 use Rattle.md_frame.specs.Change.{Change, ends_of}
 use Rattle.md_frame.specs.Closed.{close_containers}
 use Rattle.md_rows.specs.Fronted.{Contained, contained, rest_from}
-use Rattle.markdown_blocks.specs.Parsed.{IsWithoutMdx}
+use Rattle.md_row_steps.specs.WithoutMdx.{IsWithoutMdx}
 use Rattle.md_frame.specs.Row.{BlankRow, LeafRow, Row, RowKind, TextRow, ending_events}
 use Rattle.md_rows.specs.Stands.{IsPlain, containers_of, still_of, reading}
 use Rattle.md_frame.proofs.FrontFacts.{Behind, Begins, LinePrefix, Goes}
-use Rattle.markdown_blocks.proofs.LineSteps.{spot_by}
-use Rattle.markdown_blocks.proofs.StepBehind.{still-step}
+use Rattle.md_row_steps.proofs.LineSteps.{spot_by}
+use Rattle.md_row_steps.proofs.StepBehind.{still-step}
 use Rattle.md_registry.proofs.Registry.{laws}
 use Rattle.md_rows.proofs.RowFacts as f
 use Rattle.md_frame.proofs.LeafFacts.{shown}

@@ -17,7 +17,7 @@ use Rattle.md_frame.specs.Row.{RowKind}
 use Rattle.md_rows.specs.Rows.{line_kind}
 use Rattle.md_frame.specs.Around.{around_of}
 use Rattle.md_rows.specs.Stands.{containers_of, final_on, outer_on, reading, reading_on}
-use Rattle.markdown_blocks.proofs.LineSteps.{behind_path, kept_to, longer, new_line, new_path, renewed, spot_by}
+use Rattle.md_row_steps.proofs.LineSteps.{behind_path, kept_to, longer, new_line, new_path, renewed, spot_by}
 use Rattle.md_frame.specs.Leaf.Paragraph.{held_of}
 use Rattle.md_registry.proofs.Registry.{text-laws}
 use Rattle.md_frame.proofs.ContainerNames.{container-facts}

@@ -9,7 +9,7 @@ use Rattle.std.proofs.lemmas.Bool.Decides.{nat_tests}
 use Rattle.md_meaning.proofs.TextsLemmas.{Both, Ending, LineFeed, Return, ending_bytes}
 use Rattle.md_rows.specs.Rows.{is_further, groups, groups_events, is_lazy}
 use Rattle.md_rows.proofs.LineBehind.{line-begins}
-use Rattle.markdown_blocks.proofs.StepBehind.{containers-step, plain-step}
+use Rattle.md_row_steps.proofs.StepBehind.{containers-step, plain-step}
 use Rattle.md_engine.specs.declared.configuration.ParseOptions.{ParseOptions}
 use Rattle.md_engine.specs.declared.event.Point.{Point}
 use Rattle.md_meaning.specs.Preamble.{rest_at}
@@ -24,11 +24,11 @@ use Rattle.md_frame.specs.Closed.{close_containers}
 use Rattle.markdown_blocks.specs.Fed.{last_leaves, rests_from}
 use Rattle.md_rows.specs.Fronted.{Contained, rest_from}
 use Rattle.md_frame.specs.RestLine.{rest_line}
-use Rattle.markdown_blocks.specs.Parsed.{IsWithoutMdx}
+use Rattle.md_row_steps.specs.WithoutMdx.{IsWithoutMdx}
 use Rattle.md_frame.specs.Row.{Row}
 use Rattle.md_rows.specs.Stands.{IsPlain, containers_of, final, still_of, reading}
 use Rattle.md_rows.proofs.ContainedLemmas.{contained-shapes}
-use Rattle.markdown_blocks.proofs.LineSteps.{contained_at}
+use Rattle.md_row_steps.proofs.LineSteps.{contained_at}
 use Rattle.markdown_blocks.proofs.LastLine.{Told, containers-over, no_bytes, steps_over, told}
 use Rattle.md_rows.proofs.RowFacts as f
 use Rattle.markdown_blocks.proofs.SpelledPaths.{close_containers-all}

@@ -9,11 +9,11 @@ use Rattle.md_frame.specs.HeldLeaf.{kind_of_leaf, left_by, may_go_on, takes_lazy
 use Rattle.md_registry.specs.Registry.{further_of, leaf}
 use Rattle.md_frame.specs.Row.{is_blank_row, span_done, Row, ending_of}
 use Rattle.md_rows.specs.Rows.{front_done, onto_span, LeafLines, Group, groups_events, is_text}
-use Rattle.markdown_blocks.proofs.LineSteps.{front-unlazy, with_came}
+use Rattle.md_row_steps.proofs.LineSteps.{front-unlazy, with_came}
 use Rattle.md_registry.proofs.SpanLeaves.{further-is, span-laws}
 use Rattle.md_rows.proofs.RowLeaf.{row-as}
 use Rattle.md_frame.proofs.SpanLaws.{IsLineOf, SpanLaws, come_behind}
-use Rattle.markdown_blocks.proofs.StepBehind.{came-spot}
+use Rattle.md_row_steps.proofs.StepBehind.{came-spot}
 use Rattle.md_frame.specs.LeafName.{LeafName}
 use Rattle.md_meaning.specs.Step.{came}
 use Rattle.md_engine.specs.declared.configuration.ParseOptions.{ParseOptions}

@@ -20,7 +20,7 @@ use Rattle.md_table_rooms.specs.Headed.{headed_done}
 use Rattle.md_table_rooms.specs.Leaf.GfmTable.{table_leaf}
 use Rattle.md_frame.specs.Leaf.Paragraph.{held_of}
 use Rattle.md_rows.proofs.GroupLines.{kept-of}
-use Rattle.markdown_blocks.proofs.LineSteps.{with_came, longer}
+use Rattle.md_row_steps.proofs.LineSteps.{with_came, longer}
 use Rattle.md_registry.proofs.LeafStarts.{text-turns}
 use Rattle.md_rows.proofs.RowLeaf.{row-as}
 use Rattle.md_frame.proofs.SpanLaws.{AreBehind, IsLineOf, come_behind}

@@ -23,17 +23,17 @@ use Rattle.md_frame.specs.Change.{open_behind}
 use Rattle.md_frame.specs.Closed.{close_containers}
 use Rattle.markdown_blocks.specs.Fed.{FlowRan, StandsBehind, fed, flow_begins, last_leaves, line_begins, rests_from}
 use Rattle.md_rows.specs.Fronted.{rest_from}
-use Rattle.markdown_blocks.specs.Parsed.{IsWithoutMdx}
+use Rattle.md_row_steps.specs.WithoutMdx.{IsWithoutMdx}
 use Rattle.md_frame.specs.Row.{Row}
 use Rattle.md_rows.specs.Rows.{groups, groups_events}
 use Rattle.md_rows.specs.Stands.{AreOpen, IsPlain, StandsFor, containers_of, still_of, reading}
 use Rattle.md_registry.specs.States.{FlowStep}
 use Rattle.md_rows.specs.TextRows.{text_rows, text_setting}
 use Rattle.markdown_blocks.proofs.LinesFed.{LineFed, line-fed, lines-fed, open_after, leaf_after}
-use Rattle.markdown_blocks.proofs.StepBehind.{containers-step, plain-step}
+use Rattle.md_row_steps.proofs.StepBehind.{containers-step, plain-step}
 use Rattle.markdown_blocks.proofs.LastLine.{told-some}
 use Rattle.md_rows.proofs.RowFacts as f
-use Rattle.markdown_blocks.proofs.RowLemmas.{fresh-rows}
+use Rattle.md_row_steps.proofs.RowLemmas.{fresh-rows}
 use Rattle.markdown_blocks.proofs.SpelledLines.{still-line}
 use Rattle.markdown_blocks.proofs.SpelledRows.{lines-read, rests-behind, rows-below}
 

@@ -38,7 +38,7 @@ use Rattle.md_rows.specs.BlockList.{block_list, tabled_groups}
 use Rattle.md_front_rooms.specs.Front.{body_point, front_events}
 use Rattle.markdown_blocks.specs.FlowReads.{FlowReads}
 use Rattle.md_container_rooms.specs.Footnotes.{footnotes_listed}
-use Rattle.markdown_blocks.specs.Parsed.{IsWithoutMdx}
+use Rattle.md_row_steps.specs.WithoutMdx.{IsWithoutMdx}
 use Rattle.md_frame.specs.Row.{Row}
 use Rattle.md_rows.specs.Rows.{groups, groups_events}
 use Rattle.md_rows.specs.Unread.{unread_groups}
@@ -70,7 +70,8 @@ use Rattle.md_rows.proofs.PlainEvents.{groups-unlisted}
 use Rattle.md_rows.proofs.RowFacts.{AreRows}
 use Rattle.md_rows.proofs.AloneGroups.{leaves-alone}
 use Rattle.md_rows.proofs.TabledGroups.{chain}
-use Rattle.markdown_blocks.proofs.ContentAre.{content-are, lines_of, part-of, rows_of, text-are, text-quiet}
+use Rattle.md_row_steps.proofs.TextAre.{lines_of, rows_of, text-are}
+use Rattle.markdown_blocks.proofs.ContentAre.{content-are, part-of, text-quiet}
 use Rattle.md_rows.proofs.TileCovers.{blocks-cover}
 use Rattle.md_rows.proofs.TileParts.{blocks-chunks, blocks-nested, blocks-stand}
 use Rattle.md_rows.proofs.TileReads.{blocks-empty, end-unread, text-filled}

@@ -30,20 +30,20 @@ use Rattle.md_meaning.specs.Texts.{split_lines}
 use Rattle.md_meaning.specs.Tree.{Blocks, End}
 use Rattle.md_meaning.proofs.LinesLemmas.{without_ending-onto}
 use Rattle.markdown_blocks.specs.Fed.{rests_from}
-use Rattle.markdown_blocks.specs.Parsed.{IsWithoutMdx}
+use Rattle.md_row_steps.specs.WithoutMdx.{IsWithoutMdx}
 use Rattle.md_frame.specs.TextLines.{text_leaf}
 use Rattle.md_frame.specs.Row.{BlankRow, LeafRow, Row, RowKind, TextRow}
 use Rattle.md_registry.specs.OpenSpan.{IsBuiltLeaf, IsOpenSpan}
 use Rattle.md_rows.specs.Stands.{IsPlain, containers_of, still_of}
 use Rattle.md_rows.proofs.ContainedLemmas.{contained-kinds, contained-still, lines-open}
 use Rattle.md_rows.proofs.KindLemmas.{kind-plain}
-use Rattle.markdown_blocks.proofs.LineSteps.{behind_path, come_by, contained_at, further_path, goes_further, goes_lazy}
-use Rattle.markdown_blocks.proofs.LineSteps.{kept_to, longer, new_line, path_by, renewed, spot_by, step-contained}
-use Rattle.markdown_blocks.proofs.LineSteps.{with_came}
+use Rattle.md_row_steps.proofs.LineSteps.{behind_path, come_by, contained_at, further_path, goes_further, goes_lazy}
+use Rattle.md_row_steps.proofs.LineSteps.{kept_to, longer, new_line, path_by, renewed, spot_by, step-contained}
+use Rattle.md_row_steps.proofs.LineSteps.{with_came}
 use Rattle.md_rows.proofs.FurtherSpan.{FurtherSpan, further-span, other_kind}
 use Rattle.md_registry.proofs.OpenSpan.{ComesShallow}
 use Rattle.markdown_blocks.proofs.LastLine.{no_bytes, no_rests, step_over, steps_over, told}
-use Rattle.markdown_blocks.proofs.StepBehind.{GoesOn, begun-leaf, further-unlazy, goes-on, plain-step, span-open}
+use Rattle.md_row_steps.proofs.StepBehind.{GoesOn, begun-leaf, further-unlazy, goes-on, plain-step, span-open}
 use Rattle.md_frame.specs.HeldLeaf.{has_lines, takes_lazy}
 use Rattle.md_rows.proofs.RowFacts as f
 use Rattle.markdown_blocks.proofs.SpelledRows.{spelled-rows}

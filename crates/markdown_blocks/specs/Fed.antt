@@ -18,7 +18,7 @@ use Rattle.md_meaning.specs.Step.{spot_of, steps}
 use Rattle.md_meaning.specs.Texts.{split_lines}
 use Rattle.md_meaning.specs.Tree.{End}
 use Rattle.md_rows.specs.Fronted.{rest_from}
-use Rattle.markdown_blocks.specs.Parsed.{IsWithoutMdx}
+use Rattle.md_row_steps.specs.WithoutMdx.{IsWithoutMdx}
 use Rattle.md_frame.specs.Row.{Row, behind_row}
 use Rattle.md_rows.specs.Rows.{groups, groups_events, rows_events}
 use Rattle.md_rows.specs.Stands.{StandsFor}

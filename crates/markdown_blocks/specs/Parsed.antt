@@ -1,5 +1,5 @@
 -- What a parse asks for, and what it gives.
-use Rattle.std.specs.Prelude.{◌≡◌, ℕ, ◌<◌, true, false, IsTrue, List, [], length, map}
+use Rattle.std.specs.Prelude.{◌≡◌, ℕ, ◌<◌, true, IsTrue, List, [], length, map}
 use Rattle.std.specs.String.{string_bytes}
 use Rattle.md_engine.specs.declared.configuration.ParseOptions.{ParseOptions}
 use Rattle.md_engine.specs.declared.event.Event.{Event}
@@ -22,16 +22,9 @@ use Rattle.md_meaning.specs.Wrapped.{NestsInItem, NestsInQuote, itemised, quoted
 use Rattle.md_outline.specs.Outlined.{IsOutlined}
 use Rattle.md_wrap.specs.Footnoted.{NestsInFootnote, footnoted}
 pub use Rattle.md_meaning.specs.Wrapped.{IsItemable, IsQuotable, IsSmall}
+pub use Rattle.md_row_steps.specs.WithoutMdx.{IsWithoutMdx}
 use Rattle.md_rows.specs.BlockList.{block_list}
 use Rattle.md_frame.specs.ReadsPlain.{reads_plain}
-
--- the constructs of MDX, which are not built, are off
-pub record IsWithoutMdx (options : ParseOptions) : Type 0 where
-  pub mdx_esm : options.constructs.mdx_esm ≡ false
-  pub mdx_expression_flow : options.constructs.mdx_expression_flow ≡ false
-  pub mdx_expression_text : options.constructs.mdx_expression_text ≡ false
-  pub mdx_jsx_flow : options.constructs.mdx_jsx_flow ≡ false
-  pub mdx_jsx_text : options.constructs.mdx_jsx_text ≡ false
 
 -- What is known of a text that was read with an inline layer, whatever it is: its events nest, stand at its points,
 -- spell its tree and tile it, and the labels are those of that tree.

@@ -10,9 +10,9 @@ use Rattle.md_exact.specs.Blocks.{front_size, grouped, text_lines}
 use Rattle.md_exact.specs.Places.{TextLine}
 use Rattle.md_exact.specs.Rows.{rows_of as exact_rows}
 use Rattle.md_rows.specs.Rows.{groups}
-use Rattle.markdown_blocks.specs.Parsed.{IsWithoutMdx}
-use Rattle.markdown_blocks.proofs.ContentAre.{lines_of, rows_of, text-are}
-use Rattle.markdown_blocks.proofs.StepBehind.{containers-step, plain-step, still-step}
+use Rattle.md_row_steps.specs.WithoutMdx.{IsWithoutMdx}
+use Rattle.md_row_steps.proofs.TextAre.{lines_of, rows_of, text-are}
+use Rattle.md_row_steps.proofs.StepBehind.{containers-step, plain-step, still-step}
 use Rattle.md_exact_roles.proofs.Aligned.{aligned}
 use Rattle.md_exact_roles.proofs.ExactRoles.{AreMet}
 use Rattle.md_exact_roles.proofs.GroupsMatch.{Fits, GroupsMatch, Pairs, groups-match}

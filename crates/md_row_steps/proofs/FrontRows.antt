@@ -20,7 +20,7 @@ use Rattle.md_meaning.proofs.ContainerLemmas.{opens-leaves}
 use Rattle.md_seam.proofs.FeedLines.{Stops}
 use Rattle.md_seam.proofs.RestCells.{RestAt, past_rest, rest_cells}
 use Rattle.md_meaning.proofs.TextsLemmas.{NoEnding}
-use Rattle.markdown_blocks.specs.Parsed.{IsWithoutMdx}
+use Rattle.md_row_steps.specs.WithoutMdx.{IsWithoutMdx}
 use Rattle.md_frame.specs.Passed.{Passed}
 use Rattle.md_registry.specs.Registry.{goes_at, opens_at}
 use Rattle.md_rows.proofs.ContainedLemmas.{change-opens}

@@ -23,7 +23,7 @@ use Rattle.md_meaning.proofs.TakenLemmas.{LeavesFewer}
 use Rattle.md_frame.specs.Change.{Change, change_by, interrupts, is_none, against, others_of}
 use Rattle.md_rows.specs.Fronted.{Contained, Prefixed, contained, no_prefix, one_more, prefixes_new}
 use Rattle.md_rows.specs.Fronted.{prefixes_behind, prefixes_on}
-use Rattle.markdown_blocks.specs.Parsed.{IsWithoutMdx}
+use Rattle.md_row_steps.specs.WithoutMdx.{IsWithoutMdx}
 use Rattle.md_frame.specs.LeafName.{LeafName}
 use Rattle.md_frame.specs.TextLines.{text_leaf}
 use Rattle.md_registry.specs.Registry.{leaf, bars_containers}

@@ -28,11 +28,11 @@ use Rattle.md_frame.specs.Change.{open_behind}
 use Rattle.md_rows.specs.TextRows.{text_cells, text_rows, text_setting}
 use Rattle.md_rows.specs.Fronted.{Contained, contained, rest_from}
 use Rattle.md_frame.specs.RestLine.{rest_line}
-use Rattle.markdown_blocks.specs.Parsed.{IsWithoutMdx}
+use Rattle.md_row_steps.specs.WithoutMdx.{IsWithoutMdx}
 use Rattle.md_frame.specs.Row.{Row, RowKind}
 use Rattle.md_rows.specs.Rows.{behind_held, leaf_behind, Held, after_ending, closes_before, ends_blank, held_at}
 use Rattle.md_rows.specs.Rows.{inside_of, line_kind, onto_rows, row_kind, row_of, rows_at, rows_by, stays_blank}
-use Rattle.markdown_blocks.proofs.FrontRows.{HasHeld, held-is}
+use Rattle.md_row_steps.proofs.FrontRows.{HasHeld, held-is}
 use Rattle.md_frame.proofs.RestFacts.{rest-line_end, rest-no_ending}
 use Rattle.md_frame.proofs.RestRows.{rest-blank, rest-cut, rest-empty, rest-ending, rest-past, rest-whole}
 use Rattle.md_rows.proofs.RowFacts.{AreRows, IsLine, IsRow, behind_line}

@@ -20,7 +20,7 @@ use Rattle.md_rows.specs.Fronted.{Contained}
 use Rattle.md_frame.specs.HeldLeaf.{has_lines, kind_of_leaf, left_by, may_go_on, takes_lazy}
 use Rattle.md_registry.specs.OpenSpan.{IsBuiltLeaf, IsOpenSpan}
 use Rattle.md_frame.specs.Leaf.Paragraph.{held_of, open_lines}
-use Rattle.markdown_blocks.specs.Parsed.{IsWithoutMdx}
+use Rattle.md_row_steps.specs.WithoutMdx.{IsWithoutMdx}
 use Rattle.md_frame.specs.LeafName.{GfmTable, LeafName}
 use Rattle.md_frame.specs.TextLines.{text_leaf}
 use Rattle.md_registry.specs.Registry.{turn_leaf, further_of, leaf}
@@ -31,9 +31,9 @@ use Rattle.md_rows.proofs.ContainedLemmas.{contained-met, contained-size, contai
 use Rattle.md_rows.proofs.KindLemmas.{kind-starts}
 use Rattle.md_rows.proofs.FurtherSpan.{FurtherSpan, further-span, none-further, other-begins, other_kind}
 use Rattle.md_frame.proofs.LastKept.{last-is}
-use Rattle.markdown_blocks.proofs.LineSteps.{behind_path, come_by, contained-lazy, contained_at, further_path}
-use Rattle.markdown_blocks.proofs.LineSteps.{goes_further, goes_lazy, kept_to, longer, new_line, path_by, renewed}
-use Rattle.markdown_blocks.proofs.LineSteps.{renewed-spot, spot_by, step-contained, with_came}
+use Rattle.md_row_steps.proofs.LineSteps.{behind_path, come_by, contained-lazy, contained_at, further_path}
+use Rattle.md_row_steps.proofs.LineSteps.{goes_further, goes_lazy, kept_to, longer, new_line, path_by, renewed}
+use Rattle.md_row_steps.proofs.LineSteps.{renewed-spot, spot_by, step-contained, with_came}
 use Rattle.md_registry.proofs.OpenSpan.{Begun, ComesShallow, TurnsText}
 use Rattle.md_registry.proofs.LeafStarts.{text-turns}
 use Rattle.md_registry.proofs.SpanLeaves.{leaf-begun}

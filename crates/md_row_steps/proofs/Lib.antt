@@ -1,0 +1,5 @@
+pub mod FrontRows
+pub mod RowLemmas
+pub mod TextAre
+pub mod LineSteps
+pub mod StepBehind
