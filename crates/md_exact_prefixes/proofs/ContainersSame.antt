@@ -33,14 +33,15 @@ use Rattle.md_frame.proofs.PassedFacts.{Agree, HasOpening}
 use Rattle.md_frame.proofs.RegistryRead.{IsRead}
 use Rattle.md_registry.specs.Registry.{goes_at, opens_at}
 use Rattle.md_registry.proofs.Registry.{container-laws}
-use Rattle.md_exact.specs.Places.{TextLine, place}
-use Rattle.md_exact.specs.Prefixes.{footnote_prefix, further_prefix, item_prefix, quote_prefix}
+use Rattle.md_exact.specs.Places.{TextLine}
+use Rattle.md_exact.specs.Prefixes.{footnote_prefix, further_prefix, item_prefix}
 use Rattle.md_exact.proofs.OnLine.{LineIn, OnLine, place-on}
 use Rattle.md_exact_fronts.proofs.Alerts.{opening-same}
 use Rattle.md_exact_fronts.proofs.Footnotes.{footnote-opens}
 use Rattle.md_exact_fronts.proofs.FurtherPrefixes.{footnote-same, item-same}
 use Rattle.md_exact_fronts.proofs.Items.{item-opens}
 use Rattle.md_exact_fronts.proofs.Quotes.{has-front, quote-same}
+use Rattle.md_exact_lists.specs.Unlisted.{plain_begin}
 
 -- these events are those of a container on a line, and its rest stands where they end
 pub record HasEvents (text behind : List ℕ) (line : TextLine) (es : List Event) (left : Rest) (passed : Passed) : Type 0
@@ -150,17 +151,9 @@ goes-same options (InFootnote label) cell_line text behind line r p stop passed 
 
 -- Where one opens.
 
--- its begin and its prefix
-abbrev pub opening_part : TextLine → Container → Rest → Rest → List Event
-opening_part line (InQuote alert) r s = enter n.BlockQuote (place line r) ∷ quote_prefix line alert r s
-opening_part line (InItem digits marker width starts_blank) r s =
-    enter n.ListItem (place line r) ∷ item_prefix line digits r s
-opening_part line (InFootnote label) r s =
-    enter n.GfmFootnoteDefinition (place line r) ∷ footnote_prefix line label r s
-
 abbrev Opens : List ℕ → List ℕ → TextLine → Rest → Taken → Passed → Type 0
 Opens text behind line r t passed =
-    HasEvents text behind line (opening_part line t.container r t.rest) t.rest passed
+    HasEvents text behind line (plain_begin line t.container r t.rest) t.rest passed
 
 quote-opens : (options : ParseOptions) (cell_line : Line) (text behind : List ℕ) (line : TextLine) (r : Rest)
     (p : Point) (stop : List Cell) (t : Taken) →
@@ -171,7 +164,7 @@ quote-opens options cell_line text behind line r p stop t is on plain k short e 
     let has = opening-same options cell_line text behind line r p stop t is on plain k short e in
     record {
       events =
-          ap (λ (c : Container). opening_part line c r t.rest) has.container
+          ap (λ (c : Container). plain_begin line c r t.rest) has.container
           ∙ ap₂ (λ (x : Point) (es : List Event). enter n.BlockQuote x ∷ es) (place-on text behind line r p is on)
           has.events;
       on = has.on;
@@ -186,7 +179,7 @@ item-begins cell_line text behind line r p stop own t is on plain k opened =
     let has = item-opens cell_line text behind line r p stop own t is on plain k opened in
     record {
       events =
-          ap (λ (c : Container). opening_part line c r t.rest) has.container
+          ap (λ (c : Container). plain_begin line c r t.rest) has.container
           ∙ ap (λ (x : Point). enter n.ListItem x ∷ item_prefix line has.digits r t.rest)
           (place-on text behind line r p is on)
           ∙ has.events;
@@ -202,7 +195,7 @@ footnote-begins cell_line text behind line r p stop own t is on plain k opened =
     let has = footnote-opens cell_line text behind line r p stop own t is on plain k opened in
     record {
       events =
-          ap (λ (c : Container). opening_part line c r t.rest) has.container
+          ap (λ (c : Container). plain_begin line c r t.rest) has.container
           ∙ ap (λ (x : Point). enter n.GfmFootnoteDefinition x ∷ footnote_prefix line has.label r t.rest)
           (place-on text behind line r p is on)
           ∙ has.events;
@@ -220,7 +213,7 @@ pub opens-same : (options : ParseOptions) (interrupting : Bool) (cell_line : Lin
     length (rest_cells cell_line r p ++ stop) < 2 ^ 63 →
     opens_at options interrupting (rest_cells cell_line r p ++ stop) p ≡ Some passed →
     opens options interrupting r ≡ Some t →
-    HasEvents text behind line (opening_part line t.container r t.rest) t.rest passed
+    HasEvents text behind line (plain_begin line t.container r t.rest) t.rest passed
 opens-same options interrupting cell_line text behind line r p stop passed t is on plain k short e f =
     quotes (cond (options.constructs.block_quote && takes_prefix options cells) (Some new) None) (opens_quote options r)
     refl refl

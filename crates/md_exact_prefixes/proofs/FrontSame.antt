@@ -23,7 +23,8 @@ use Rattle.md_rows.specs.Stands.{containers_of}
 use Rattle.md_exact.specs.Places.{TextLine}
 use Rattle.md_exact.specs.Prefixes.{behind_all, further_prefix, further_prefixes, gone_on, opened}
 use Rattle.md_exact.proofs.OnLine.{LineIn, OnLine}
-use Rattle.md_exact_prefixes.proofs.ContainersSame.{goes-same, opening_part, opens-same}
+use Rattle.md_exact_lists.specs.Unlisted.{plain_begin, plain_begins}
+use Rattle.md_exact_prefixes.proofs.ContainersSame.{goes-same, opens-same}
 
 -- the containers of these
 abbrev pub held_in : List Taken → List Container
@@ -119,18 +120,13 @@ continued-same options cell_line text behind line (Within before c q) r p stop r
         (sym fed)
         (below t.rest u.point has.on agree.passes.no_ending (omega (arith, size, less, short))))
 
--- Those that open, without the lists around items.
-abbrev pub opening_parts : TextLine → Rest → List Taken → List Event
-opening_parts line r [] = []
-opening_parts line r (t ∷ ts) = opening_part line t.container r t.rest ++ opening_parts line t.rest ts
-
--- They have the events of the cells too.
+-- Those that open, without the lists around items, have the events of the cells too.
 pub opened-same : (options : ParseOptions) (cell_line : Line) (text behind : List ℕ) (line : TextLine)
     (interrupting : Bool) (size : ℕ) (r : Rest) (p : Point) (stop : List Cell) →
     LineIn text behind line → OnLine text behind line r p → NoEnding r.bytes → Stops stop →
     length (rest_cells cell_line r p ++ stop) < 2 ^ 63 →
     IsFront cell_line text behind line stop (opened options interrupting size r)
-    (opening_parts line r (opened options interrupting size r))
+    (plain_begins line r (opened options interrupting size r))
     (behind_all r (opened options interrupting size r))
     (opened_prefixes options interrupting size (rest_cells cell_line r p ++ stop) p)
 opened-same options cell_line text behind line interrupting zero r p stop is on plain k short =
@@ -148,7 +144,7 @@ opened-same options cell_line text behind line interrupting (suc size) r p stop 
         (s : Rest) (x : Point) → OnLine text behind line s x → NoEnding s.bytes →
         length (rest_cells cell_line s x ++ stop) < 2 ^ 63 →
         IsFront cell_line text behind line stop (opened options false size s)
-        (opening_parts line s (opened options false size s))
+        (plain_begins line s (opened options false size s))
         (behind_all s (opened options false size s))
         (opened_prefixes options false size (rest_cells cell_line s x ++ stop) x)
 
@@ -164,7 +160,7 @@ opened-same options cell_line text behind line interrupting (suc size) r p stop 
     go : Below → (a : Option Passed) (b : Option Taken) → opens_at options interrupting cells p ≡ a →
         opens options interrupting r ≡ b →
         Agree (HasOpening cell_line text behind p (past_rest r p) stop cells) a b →
-        IsFront cell_line text behind line stop (taken_by b) (opening_parts line r (taken_by b))
+        IsFront cell_line text behind line stop (taken_by b) (plain_begins line r (taken_by b))
         (behind_all r (taken_by b))
         (front_by a)
     go below None None e f agree = none-front cell_line text behind line stop r p on plain short
@@ -176,14 +172,14 @@ opened-same options cell_line text behind line interrupting (suc size) r p stop 
         let size_is = ap length fed in
         let less = agree.passes.shorter in
         more-front cell_line text behind line stop t (opened options false size t.rest)
-        (opening_part line t.container r t.rest)
-        (opening_parts line t.rest (opened options false size t.rest))
+        (plain_begin line t.container r t.rest)
+        (plain_begins line t.rest (opened options false size t.rest))
         (behind_all t.rest (opened options false size t.rest)) u (opened_prefixes options false size u.cells u.point)
         agree.passes.container has.events
         (subst
         (λ (l : List Cell).
         IsFront cell_line text behind line stop (opened options false size t.rest)
-        (opening_parts line t.rest (opened options false size t.rest))
+        (plain_begins line t.rest (opened options false size t.rest))
         (behind_all t.rest (opened options false size t.rest)) (opened_prefixes options false size l u.point))
         (sym fed)
         (below t.rest u.point has.on agree.passes.no_ending (omega (arith, size_is, less, short))))
