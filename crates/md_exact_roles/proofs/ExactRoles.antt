@@ -31,11 +31,11 @@ contained_at options p r = contained options (containers_of p) (still_of p) r
 
 -- What the line meets, and its rest, by the containers that go on and open.
 
-none-new : (ts : List Taken) → is_none (held_in ts) ≡ (length ts == 0)
+pub none-new : (ts : List Taken) → is_none (held_in ts) ≡ (length ts == 0)
 none-new [] = refl
 none-new (t ∷ ts) = let some : (length (t ∷ ts) == 0) ≡ false = grind (arith, nat_tests) in sym some
 
-contained-by : (options : ParseOptions) (p : Path) (line : TextLine) → IsPlain p →
+pub contained-by : (options : ParseOptions) (p : Path) (line : TextLine) → IsPlain p →
     let on = gone_on options p (whole line) in
     let all = length on == length (containers p) in
     let inner = behind_all (whole line) on in

@@ -134,7 +134,7 @@ framed-none false y e = e
 
 -- A line that goes on a leaf.
 
-code-held : (on : HeldLeaf) → is_code on ≡ true → on ≡ held_leaf.Code
+pub code-held : (on : HeldLeaf) → is_code on ≡ true → on ≡ held_leaf.Code
 code-held held_leaf.Code e = refl
 code-held held_leaf.None e = cc
 code-held (held_leaf.Text at) e = cc

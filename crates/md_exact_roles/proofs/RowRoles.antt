@@ -170,11 +170,11 @@ text-open (OpenFence o lines) = refl
 text-open (OpenHtml kind lines) = refl
 text-open (OpenTable delimiter cells) = refl
 
-record IsCode (open_leaf : Leaf) : Type 0 where
-  lines : List Line
-  is : open_leaf ≡ OpenCode lines
+pub record IsCode (open_leaf : Leaf) : Type 0 where
+  pub lines : List Line
+  pub is : open_leaf ≡ OpenCode lines
 
-code-is : (open_leaf : Leaf) → kind_of_leaf open_leaf ≡ held_leaf.Code → IsCode open_leaf
+pub code-is : (open_leaf : Leaf) → kind_of_leaf open_leaf ≡ held_leaf.Code → IsCode open_leaf
 code-is (OpenCode lines) e = record { lines = lines; is = refl }
 code-is NoLeaf e = absurd (cc)
 code-is (OpenParagraph lines) e = absurd (cc)

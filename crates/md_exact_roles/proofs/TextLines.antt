@@ -1,20 +1,31 @@
 -- The lines behind the front of a text, by their bytes: they are those that rows are made of.
-use Rattle.std.proofs.Common.{◌≡◌, ◌⊎◌, inl, inr, ℕ, zero, suc, ◌+◌, ◌-◌, Bool, true, false, cond, List, [], ◌∷◌, ◌++◌}
-use Rattle.std.proofs.Common.{length, drop, refl, ap, sym, ◌∙◌, subst, subst₂, append_assoc, arith}
+use Rattle.std.proofs.Common.{◌≡◌, ◌≤◌, ◌⊎◌, inl, inr, ℕ, zero, suc, ◌+◌, ◌-◌, Bool, true, false, cond, List, [], ◌∷◌}
+use Rattle.std.proofs.Common.{◌++◌, length, drop, slice_index, refl, ap, ap₂, sym, ◌∙◌, subst, subst₂, append_assoc}
+use Rattle.std.proofs.Common.{arith}
+use Rattle.std.specs.Prelude.{◌==◌}
 use Rattle.std.proofs.Math.Seq.{drop-append_seam, drop-nil}
-use Rattle.std.proofs.lemmas.List.{drop-drop}
+use Rattle.std.proofs.lemmas.List.{drop-drop, length-append}
 use Rattle.md_engine.specs.declared.configuration.ParseOptions.{ParseOptions}
 use Rattle.md_engine.specs.declared.event.Point.{Point}
+use Rattle.md_engine.specs.Place.{first_point, next_point}
 use Rattle.md_meaning.specs.Bytes.{is_end}
-use Rattle.md_meaning.specs.Lines.{full_lines_of}
+use Rattle.md_meaning.specs.Lines.{begins_with, full_lines_of}
 use Rattle.md_meaning.specs.Preamble.{first_column, has_mark, without_mark}
 use Rattle.md_meaning.specs.Texts.{split_lines}
-use Rattle.md_meaning.proofs.TextsLemmas.{Both, Ending, LineFeed, Return, ending_bytes, split-line, split-next}
+use Rattle.md_meaning.proofs.PreambleLemmas.{mark-bytes}
+use Rattle.md_meaning.proofs.TextsLemmas.{Both, Ending, EndsBefore, LineFeed, Return, ending_bytes, split-line}
+use Rattle.md_meaning.proofs.TextsLemmas.{split-next}
+use Rattle.md_seam.specs.Events.Places.{past_text}
+use Rattle.md_seam.proofs.FeedLines.{drop-past, front-within, past-next, past_ending}
+use Rattle.md_seam.proofs.InlineLemmas.{past-index}
+use Rattle.md_seam.proofs.PlacesLemmas.{Placed, at-next, placed-text}
+use Rattle.md_seam.proofs.ReachedLemmas.{placed-next}
 use Rattle.md_front_rooms.specs.Front.{body_point, ending_of}
 use Rattle.md_front_rooms.proofs.FullLines.{IsLines, LastLine, NextLine, NoLines, ending-is, full-lines, last-ending}
 use Rattle.md_front_rooms.proofs.FullLines.{last-is, line-is}
 use Rattle.md_exact.specs.Blocks.{front_size, text_lines}
 use Rattle.md_exact.specs.Places.{TextLine, line_at, lines_from}
+use Rattle.md_exact.proofs.OnLine.{past-line}
 use Rattle.md_exact_fronts.proofs.Front.{begin}
 use Rattle.md_exact_fronts.proofs.FrontBody.{Body, Ends, Goes, front-body}
 use Rattle.md_exact_roles.proofs.RowsMet.{HaveBytes}
@@ -53,6 +64,53 @@ have-bytes number index column text fulls (NextLine line ending rest more h befo
     full : List ℕ
     full = line ++ ending_bytes ending
 
+-- Where a line begins.
+
+-- behind an ending, which an LF behind a CR belongs to
+at-end : (index : ℕ) (text : List ℕ) → drop index text ≡ [] → slice_index text index ≡ 0
+at-end zero [] e = refl
+at-end zero (b ∷ text) e = cc
+at-end (suc index) [] e = refl
+at-end (suc index) (b ∷ text) e = at-end index text e
+
+no-feed : (index : ℕ) (text rest : List ℕ) → drop index text ≡ rest → begins_with 10 rest ≡ false →
+    (slice_index text index == 10) ≡ false
+no-feed index text [] e h = ap (λ (b : ℕ). b == 10) (at-end index text e)
+no-feed index text (b ∷ rest) e h = ap (λ (c : ℕ). c == 10) (at-next index text b rest e) ∙ h
+
+next-line : (text : List ℕ) (ending : Ending) (rest : List ℕ) (p : Point) →
+    drop p.index text ≡ ending_bytes ending ++ rest → EndsBefore ending rest → next_point text p ≡ past_ending ending p
+next-line text LineFeed rest p e h = rw (at-next p.index text 10 rest e) refl
+next-line text Return rest p e h =
+    rw (at-next p.index text 13 rest e, no-feed (p.index + 1) text rest (past-next p.index text 13 rest e) h) refl
+next-line text Both rest p e h =
+    rw (
+      at-next p.index text 13 (10 ∷ rest) e,
+      at-next (p.index + 1) text 10 rest (past-next p.index text 13 (10 ∷ rest) e),
+    ) refl
+
+pub placed-behind : (text : List ℕ) (ending : Ending) (rest : List ℕ) (p : Point) →
+    drop p.index text ≡ ending_bytes ending ++ rest → EndsBefore ending rest → Placed text p →
+    Placed text (past_ending ending p)
+placed-behind text ending rest p e before placed =
+    let next = next-line text ending rest p e before in
+    let fits = front-within text p.index (ending_bytes ending) rest e placed.index in
+    subst (Placed text) next
+    (placed-next text p placed (subst (λ (q : Point). q.index ≤ length text) (sym next) (omega (arith, fits))))
+
+-- and the first line of a text
+first-placed : (text : List ℕ) → let size = first_column text in Placed text (begin 1 size size)
+first-placed text = go (has_mark text) refl
+  where
+    none : Placed text first_point
+    none = record { index = omega arith; within = refl; line = refl; column = refl; apart = refl }
+
+    go : (t : Bool) → has_mark text ≡ t → Placed text (begin 1 (cond t 3 0) (cond t 3 0))
+    go true e =
+        placed-text text first_point (239 ∷ 187 ∷ 191 ∷ []) (drop 3 text) none (mark-bytes text e)
+        (refl, (refl, (refl, tt)))
+    go false e = none
+
 -- Behind some of its lines.
 
 pub record LinesLeft (text : List ℕ) (lines : List TextLine) : Type 0 where
@@ -61,6 +119,7 @@ pub record LinesLeft (text : List ℕ) (lines : List TextLine) : Type 0 where
   pub column : ℕ
   pub fulls : List (List ℕ)
   pub are : IsLines (drop index text) fulls
+  pub placed : Placed text (begin number index column)
   pub is : lines ≡ lines_from number index column fulls
 
 lines-behind : (text full : List ℕ) (more : List (List ℕ)) (fulls : List (List ℕ)) → IsLines text fulls →
@@ -80,20 +139,60 @@ lines-behind text full more fulls (NextLine line ending rest below h before is s
     ∙ ap (drop (length (line ++ ending_bytes ending))) (sym (append_assoc line (ending_bytes ending) rest))
     ∙ drop-append_seam (line ++ ending_bytes ending) rest)) others is
 
+-- the next one begins behind the ending of one, at a point of the text if that does
+pub begin-behind : (number index column : ℕ) (line : List ℕ) (ending : Ending) →
+    past_ending ending (past_text line (begin number index column)) ≡
+    begin (number + 1) (index + length (line ++ ending_bytes ending)) 0
+begin-behind number index column line ending =
+    let p : Point = begin number index column in
+    let at = past-index line p in
+    let size = length-append line (ending_bytes ending) in
+    ap₂ (λ (l i : ℕ). begin l i 0) (ap (λ (l : ℕ). l + 1) (past-line line p)) (omega (arith, at, size))
+
+next-begins : (text left : List ℕ) (number index column : ℕ) (full : List ℕ) (more fulls : List (List ℕ)) →
+    drop index text ≡ left → IsLines left fulls → fulls ≡ full ∷ more → is_end (ending_of full) ≡ false →
+    Placed text (begin number index column) → Placed text (begin (number + 1) (index + length full) 0)
+next-begins text left number index column full more fulls is NoLines e some placed = absurd (cc)
+next-begins text left number index column full more fulls is (LastLine b line h) e some placed =
+    let same : b ∷ line ≡ full = cc in
+    let bad : true ≡ false = sym (ap is_end (last-ending (b ∷ line) h)) ∙ ap (λ (l : List ℕ). is_end (ending_of l)) same
+    ∙ some in
+    absurd (cc)
+next-begins text left number index column full more fulls is (NextLine line ending rest below h before lines
+    so) e some placed =
+    let one : line ++ ending_bytes ending ≡ full = cc in
+    let p : Point = begin number index column in
+    let q : Point = past_text line p in
+    let behind : drop q.index text ≡ ending_bytes ending ++ rest =
+    ap (λ (i : ℕ). drop i text) (past-index line p) ∙ drop-past text index line (ending_bytes ending ++ rest) is in
+    subst (Placed text)
+    (begin-behind number index column line ending
+    ∙ ap (λ (l : List ℕ). begin (number + 1) (index + length l) 0) one)
+    (placed-behind text ending rest q behind before
+    (placed-text text p line (ending_bytes ending ++ rest) placed is h))
+
 lines-left : (text : List ℕ) (number index column : ℕ) (fulls : List (List ℕ)) → IsLines (drop index text) fulls →
-    (k : ℕ) →
+    Placed text (begin number index column) → (k : ℕ) →
     (drop k (lines_from number index column fulls) ≡ [])
     ⊎ LinesLeft text (drop k (lines_from number index column fulls))
-lines-left text number index column fulls are zero =
+lines-left text number index column fulls are placed zero =
     inr
-    (record { number = number; index = index; column = column; fulls = fulls; are = are; is = refl })
-lines-left text number index column [] are (suc k) = inl (drop-nil k)
-lines-left text number index column (full ∷ more) are (suc k) =
+    (record {
+      number = number;
+      index = index;
+      column = column;
+      fulls = fulls;
+      are = are;
+      placed = placed;
+      is = refl;
+    })
+lines-left text number index column [] are placed (suc k) = inl (drop-nil k)
+lines-left text number index column (full ∷ more) are placed (suc k) =
     go (is_end (ending_of full)) refl
-    (λ next. lines-left text (number + 1) (index + length full) 0 more next k)
+    (λ next begins. lines-left text (number + 1) (index + length full) 0 more next begins k)
   where
     go : (x : Bool) → is_end (ending_of full) ≡ x →
-        (IsLines (drop (index + length full) text) more →
+        (IsLines (drop (index + length full) text) more → Placed text (begin (number + 1) (index + length full) 0) →
         (drop k (lines_from (number + 1) (index + length full) 0 more) ≡ [])
         ⊎ LinesLeft text (drop k (lines_from (number + 1) (index + length full) 0 more))) →
         (drop k (cond (is_end (ending_of full)) [] (lines_from (number + 1) (index + length full) 0 more)) ≡ [])
@@ -111,7 +210,8 @@ lines-left text number index column (full ∷ more) are (suc k) =
         ⊎ LinesLeft text (drop k (cond x [] (lines_from (number + 1) (index + length full) 0 more)))) (sym e)
         (below
         (subst (λ (l : List ℕ). IsLines l more) (drop-drop (length full) index text)
-        (lines-behind (drop index text) full more (full ∷ more) are refl e)))
+        (lines-behind (drop index text) full more (full ∷ more) are refl e))
+        (next-begins text (drop index text) number index column full more (full ∷ more) refl are refl e placed))
 
 -- Behind its front.
 
@@ -146,12 +246,14 @@ first-is : (f : TextLine → ℕ) (number index column : ℕ) (fulls : List (Lis
 first-is f number index column [] x h = h []
 first-is f number index column (full ∷ more) x h = h full
 
--- They have the bytes of the lines of its body, of which the first begins in the column of that; or there are none.
-pub body-bytes : (options : ParseOptions) (text : List ℕ) →
-    let q = body_point options text in
-    let lines = drop (front_size options text) (text_lines text) in
-    (lines ≡ []) ⊎ HaveBytes (q.column - 1) lines (split_lines (drop q.index text))
-body-bytes options text = by (begins q lines (front-body options text)) left
+-- They are lines of the text from where its body begins; or there are none.
+pub record BodyLines (options : ParseOptions) (text : List ℕ) : Type 0 where
+  pub left : LinesLeft text (drop (front_size options text) (text_lines text))
+  pub point : body_point options text ≡ begin left.number left.index left.column
+
+pub body-lines : (options : ParseOptions) (text : List ℕ) →
+    (drop (front_size options text) (text_lines text) ≡ []) ⊎ BodyLines options text
+body-lines options text = by (begins q lines (front-body options text)) left
   where
     q : Point
     q = body_point options text
@@ -166,16 +268,19 @@ body-bytes options text = by (begins q lines (front-body options text)) left
     left =
         lines-left text 1 size size (full_lines_of (without_mark text))
         (subst (λ (l : List ℕ). IsLines l (full_lines_of (without_mark text))) (mark-left text)
-        (full-lines (without_mark text))) (front_size options text)
+        (full-lines (without_mark text))) (first-placed text) (front_size options text)
 
-    some : BeginsAt q lines → LinesLeft text lines → HaveBytes (q.column - 1) lines (split_lines (drop q.index text))
-    some from is =
-        subst (λ (ls : List TextLine). HaveBytes (q.column - 1) ls (split_lines (drop q.index text))) (sym is.is)
-        (subst₂
-        (λ (column index : ℕ).
-        HaveBytes column (lines_from is.number is.index is.column is.fulls) (split_lines (drop index text)))
-        (sym column) (sym index)
-        (have-bytes is.number is.index is.column (drop is.index text) is.fulls is.are))
+    some : BeginsAt q lines → LinesLeft text lines → BodyLines options text
+    some from is = record {
+      left = is;
+      point =
+          from.point
+          ∙ ap₂ (λ (n i : ℕ). begin n i from.column)
+          (same (λ (line : TextLine). line.number) from.number is.number (λ full. refl) (λ full. refl))
+          (same (λ (line : TextLine). line.index) from.index is.index (λ full. refl) (λ full. refl))
+          ∙ ap (begin is.number is.index)
+          (same (λ (line : TextLine). line.column) from.column is.column (λ full. refl) (λ full. refl));
+    }
       where
         same : (f : TextLine → ℕ) (x y : ℕ) →
             ((full : List ℕ) → f (line_at from.number from.index from.column full) ≡ x) →
@@ -184,19 +289,33 @@ body-bytes options text = by (begins q lines (front-body options text)) left
             sym (first-is f from.number from.index from.column from.fulls x h)
             ∙ ap (first_of f) (sym from.is ∙ is.is) ∙ first-is f is.number is.index is.column is.fulls y k
 
-        index : q.index ≡ is.index
-        index =
-            ap (λ (p : Point). p.index) from.point
-            ∙ same (λ (line : TextLine). line.index) from.index is.index (λ full. refl) (λ full. refl)
-
-        column : q.column - 1 ≡ is.column
-        column =
-            let at : q.column ≡ from.column + 1 = ap (λ (p : Point). p.column) from.point in
-            let first : q.column - 1 ≡ from.column = omega (arith, at) in
-            first ∙ same (λ (line : TextLine). line.column) from.column is.column (λ full. refl) (λ full. refl)
-
     by : (lines ≡ []) ⊎ BeginsAt q lines → (lines ≡ []) ⊎ LinesLeft text lines →
-        (lines ≡ []) ⊎ HaveBytes (q.column - 1) lines (split_lines (drop q.index text))
+        (lines ≡ []) ⊎ BodyLines options text
     by (inl none) is = inl none
     by (inr from) (inl none) = inl none
     by (inr from) (inr is) = inr (some from is)
+
+-- So they have the bytes of the lines of its body, of which the first begins in the column of that.
+pub body-bytes : (options : ParseOptions) (text : List ℕ) →
+    let q = body_point options text in
+    let lines = drop (front_size options text) (text_lines text) in
+    (lines ≡ []) ⊎ HaveBytes (q.column - 1) lines (split_lines (drop q.index text))
+body-bytes options text = go (body-lines options text)
+  where
+    q : Point
+    q = body_point options text
+
+    lines : List TextLine
+    lines = drop (front_size options text) (text_lines text)
+
+    go : (lines ≡ []) ⊎ BodyLines options text →
+        (lines ≡ []) ⊎ HaveBytes (q.column - 1) lines (split_lines (drop q.index text))
+    go (inl none) = inl none
+    go (inr is) =
+        let left = is.left in
+        let column : left.column + 1 - 1 ≡ left.column = omega arith in
+        inr
+        (subst (λ (p : Point). HaveBytes (p.column - 1) lines (split_lines (drop p.index text))) (sym is.point)
+        (subst₂
+        (λ (ls : List TextLine) (c : ℕ). HaveBytes c ls (split_lines (drop left.index text))) (sym left.is) (sym column)
+        (have-bytes left.number left.index left.column (drop left.index text) left.fulls left.are)))
