@@ -1,6 +1,6 @@
 -- Places ahead in the rows of a text: of some rows so many are left, and of the first of these so many bytes.
 use Rattle.std.proofs.Common.{◌≡◌, ℕ, zero, suc, ◌+◌, ◌-◌, ◌≤◌, List, [], ◌∷◌, ◌++◌, length, take, drop, map, refl, sym}
-use Rattle.std.proofs.Common.{ap, ◌∙◌, subst, arith}
+use Rattle.std.proofs.Common.{ap, ◌∙◌, subst, arith, append_assoc}
 use Rattle.std.proofs.lemmas.List.{drop-drop, length-append, length-drop, length-map}
 use Rattle.md_meaning.specs.Rest.{Rest, trim_start}
 use Rattle.md_seam.specs.Events.Places.{column_past, columns_from}
@@ -175,3 +175,34 @@ back-is rows end ends h some =
   where
     size : length (drop 1 end.rest.bytes) + 1 ≡ length end.rest.bytes
     size = let all = length-drop 1 end.rest.bytes in omega (arith, all, some)
+
+-- Rows that are passed: behind the first of these stand others, and then those behind the first of the ends.
+pub record Onward (rows ends : List Row) : Type 0 where
+  pub passed : List Row
+  pub behind : drop 1 rows ≡ passed ++ drop 1 ends
+
+pub onward-here : (rows : List Row) → Onward rows rows
+onward-here rows = record { passed = []; behind = refl }
+
+pub onward-then : (rows mids ends : List Row) → Onward rows mids → Onward mids ends → Onward rows ends
+onward-then rows mids ends h k = record {
+  passed = h.passed ++ k.passed;
+  behind =
+      h.behind ∙ ap (λ (l : List Row). h.passed ++ l) k.behind
+      ∙ sym (append_assoc h.passed k.passed (drop 1 ends));
+}
+
+pub ahead-onward : (rows ends : List Row) → Ahead rows ends → Onward rows ends
+ahead-onward rows ends h = go h.front h.rows_are
+  where
+    ends_are : h.more ≡ drop 1 ends
+    ends_are = sym (ap (drop 1) h.ends_are)
+
+    go : (front : List Row) → rows ≡ front ++ h.row ∷ h.more → Onward rows ends
+    go [] e = record { passed = []; behind = ap (drop 1) e ∙ ends_are }
+    go (x ∷ xs) e = record {
+      passed = xs ++ h.row ∷ [];
+      behind =
+          ap (drop 1) e ∙ ap (λ (l : List Row). xs ++ h.row ∷ l) ends_are
+          ∙ sym (append_assoc xs (h.row ∷ []) (drop 1 ends));
+    }

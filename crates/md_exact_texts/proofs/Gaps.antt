@@ -13,6 +13,7 @@ use Rattle.md_engine.specs.Meaning.{Cell}
 use Rattle.md_meaning.specs.Bytes.{is_end}
 use Rattle.md_meaning.specs.Definition.{after_gap}
 use Rattle.md_meaning.specs.Rest.{Rest, is_white}
+use Rattle.md_meaning.specs.Texts.{first_byte}
 use Rattle.md_link_definitions.specs.GapRule.{ending_end, ending_part, ending_rest, gap_end, gap_part, gap_rest}
 use Rattle.md_link_definitions.specs.GapRule.{white_part}
 use Rattle.md_link_definitions.specs.CellLines.{cell_lines}
@@ -212,7 +213,7 @@ white-on text last row rows p cells turns walk along = record {
         ∙ walk-whole text last (white_end any_size cells p) rest turns known.takes.walk known.dark)
 
 -- on the line
-gap-here : (row : Row) (rows : List Row) (r : Rest) →
+pub gap-here : (row : Row) (rows : List Row) (r : Rest) →
     gap (row ∷ rows) (at row r ∷ rows) ≡ white row.line row.rest r
 gap-here row rows r =
     ap
@@ -460,6 +461,18 @@ first-lines c cs p whole plain =
       ap (cell_lines false) (whole-first p c cs whole) ∙ lines-byte false c (whole_cells c.after cs) plain refl
           ∙ ap (onto_first c.byte) some.2,
     )
+
+-- so with that cell the first of these rows begins
+abbrev head_line : List (List ℕ) → List ℕ
+head_line [] = []
+head_line (line ∷ lines) = line
+
+pub first-byte : (text : List ℕ) (row : Row) (rows : List Row) (p : Point) (c : Cell) (cs : List Cell)
+    (turns : List Turn) → Along text (row ∷ rows) p (c ∷ cs) turns → p.vs ≡ 0 → (c.byte == 10) ≡ false →
+    first_byte row.rest.bytes ≡ c.byte
+first-byte text row rows p c cs turns along whole plain =
+    ap (λ (l : List (List ℕ)). first_byte (head_line l))
+    (sym (rows-lines text (row ∷ rows) p (c ∷ cs) turns along whole) ∙ (first-lines c cs p whole plain).2)
 
 pub gap-found : (text : List ℕ) (last p : Point) (cells : List Cell) (turns : List Turn) (rows : List Row) →
     Walk text last p cells turns → Along text rows p cells turns → p.vs ≡ 0 → (c : Cell) (cs : List Cell) →

@@ -6,3 +6,4 @@ pub mod Marks
 pub mod Gaps
 pub mod Titles
 pub mod Targets
+pub mod Destinations

@@ -312,6 +312,7 @@ pub record LabelOn (text : List ℕ) (last p : Point) (t : LabelParts) (turns : 
   pub takes : Takes text last p turns t.closer.after t.rest left (label_events t p)
       (enclosed_part n.DefinitionLabel n.DefinitionLabelMarker n.DefinitionLabelString rows (behind_label rows))
   pub along : Along text (behind_label rows) t.closer.after t.rest left
+  pub ahead : Ahead rows (behind_label rows)
 
 -- a label is found in rows where their cells begin with one
 label-found : (text : List ℕ) (rows : List Row) (p : Point) (cells : List Cell) (turns : List Turn) (t : LabelParts) →
@@ -351,6 +352,7 @@ label-on text last p cells t turns (row ∷ rows) e walk along = record {
       (enclosed_part n.DefinitionLabel n.DefinitionLabelMarker n.DefinitionLabelString (row ∷ rows) on.ends))
       (label-strung t.text t.opener.after are.some) on.takes);
   along = subst (λ (l : List Row). Along text l c t.rest on.left) (sym found) on.along;
+  ahead = subst (Ahead (row ∷ rows)) (sym found) on.ahead;
 }
   where
     c : Point

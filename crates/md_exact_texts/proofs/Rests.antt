@@ -125,7 +125,7 @@ front-of line (b ∷ bs) (c ∷ cs) tail behind rest stop p none stops e k =
 
 -- Cells of a line.
 
-same-cut : (a b : ℕ) (p : Point) → Cut a p → Cut b p → a ≡ b
+pub same-cut : (a b : ℕ) (p : Point) → Cut a p → Cut b p → a ≡ b
 same-cut zero zero p h k = refl
 same-cut zero (suc m) p h k = absurd (omega (arith, h, k.0))
 same-cut (suc n) zero p h k = absurd (omega (arith, h.0, k))

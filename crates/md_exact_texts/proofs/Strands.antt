@@ -201,7 +201,7 @@ chunks-ending [] d ds p none ten = rw ten refl
 chunks-ending (c ∷ cs) d ds p none ten = rw none.0 (chunks-ending cs d ds c.after none.1 ten)
 
 -- from its begin
-chunks-one : (c : Cell) (cs : List Cell) (p : Point) → NoFeed (c ∷ cs) →
+pub chunks-one : (c : Cell) (cs : List Cell) (p : Point) → NoFeed (c ∷ cs) →
     chunks false (c ∷ cs) p ≡ chunk String p (point_after (c ∷ cs) p)
 chunks-one c cs p none =
     rw none.0 (ap (λ (l : List Event). enter_link n.Data p string_link ∷ l) (chunks-stop cs c.after none.1))

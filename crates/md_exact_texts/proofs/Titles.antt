@@ -31,7 +31,7 @@ use Rattle.md_content_rooms.proofs.Defined.Marked.{MarkedOf, TitleAre, marked-of
 use Rattle.md_content_rooms.proofs.Defined.Takes.{Takes, Walk}
 use Rattle.md_exact_texts.proofs.Ahead.{Ahead, at, left-is}
 use Rattle.md_exact_texts.proofs.Along.{Along, rows-lines, rows-whole}
-use Rattle.md_exact_texts.proofs.Gaps.{first-lines}
+use Rattle.md_exact_texts.proofs.Gaps.{first-byte}
 use Rattle.md_exact_texts.proofs.Marks.{EnclosedOn, MarkOn, enclosed-on, mark-on, strung}
 
 -- its text
@@ -57,10 +57,6 @@ closed-texts closer c text (d ∷ ds) = go (d.byte == closer)
         title_texts (cond x (Some (record { opener = c; text = text; closer = d; rest = ds })) None)
     go true = refl
     go false = refl
-
-abbrev head_line : List (List ℕ) → List ℕ
-head_line [] = []
-head_line (line ∷ lines) = line
 
 -- by the lines behind its opening mark
 abbrev by_lines : List Row → Option Lines → List Row
@@ -100,10 +96,7 @@ title-found text row rows p c cs turns closer t along whole inner plain from clo
     lines = lines_left (at row (past 1 row.rest) ∷ rows)
 
     first : first_byte row.rest.bytes ≡ c.byte
-    first =
-        let known = first-lines c cs p whole plain in
-        ap (λ (l : List (List ℕ)). first_byte (head_line l))
-        (sym (rows-lines text (row ∷ rows) p (c ∷ cs) turns along whole) ∙ known.2)
+    first = first-byte text row rows p c cs turns along whole plain
 
     found : enclosed_lines c.byte closer lines ≡ title_texts (Some t)
     found =
@@ -123,12 +116,13 @@ pub record TitleOn (text : List ℕ) (last p : Point) (t : TitleParts) (turns : 
   pub takes : Takes text last p turns t.closer.after t.rest left (title_events t p)
       (enclosed_part n.DefinitionTitle n.DefinitionTitleMarker n.DefinitionTitleString rows (behind_title rows))
   pub along : Along text (behind_title rows) t.closer.after t.rest left
+  pub ahead : Ahead rows (behind_title rows)
 
 -- a mark is no whitespace, and ends no line
-mark-dark : (b : ℕ) → is_other b ≡ false → is_white b ≡ false
+pub mark-dark : (b : ℕ) → is_other b ≡ false → is_white b ≡ false
 mark-dark b e = grind (arith, nat_tests)
 
-mark-plain : (b : ℕ) → is_other b ≡ false → (b == 10) ≡ false
+pub mark-plain : (b : ℕ) → is_other b ≡ false → (b == 10) ≡ false
 mark-plain b e = grind (arith, nat_tests)
 
 title-by : (text : List ℕ) (last p : Point) (t : TitleParts) (turns : List Turn) (row : Row) (rows : List Row) →
@@ -153,6 +147,7 @@ title-by text last p t turns row rows close e walk along = record {
       (enclosed_part n.DefinitionTitle n.DefinitionTitleMarker n.DefinitionTitleString (row ∷ rows) on.ends))
       (title-strung t.text t.opener.after) on.takes);
   along = subst (λ (l : List Row). Along text l c t.rest on.left) (sym found) on.along;
+  ahead = subst (Ahead (row ∷ rows)) (sym found) on.ahead;
 }
   where
     c : Point
