@@ -7,3 +7,4 @@ pub mod Gaps
 pub mod Titles
 pub mod Targets
 pub mod Destinations
+pub mod HasTitles
