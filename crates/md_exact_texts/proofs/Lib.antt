@@ -8,3 +8,4 @@ pub mod Titles
 pub mod Targets
 pub mod Destinations
 pub mod HasTitles
+pub mod Definitions

@@ -1,3 +1,2 @@
-// That labels, destinations, titles and gaps of definitions have the same events by the exact list and by their cells,
-// also where they go over several lines.
+// That a definition has the same events by the exact list and by its cells, also where it goes over several lines.
 #![tactic(auto)]
