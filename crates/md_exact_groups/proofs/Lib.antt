@@ -1,2 +1,3 @@
 pub mod Tails
 pub mod Remaining
+pub mod CutTexts
