@@ -1,3 +1,4 @@
 pub mod Tails
 pub mod Remaining
 pub mod CutTexts
+pub mod WholeTexts
