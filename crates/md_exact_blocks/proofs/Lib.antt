@@ -1,0 +1,10 @@
+pub mod Put
+pub mod Behind
+pub mod FitLines
+pub mod Fronts
+pub mod Groups
+pub mod Several
+pub mod TextGroups
+pub mod LeafGroups
+pub mod BlocksSame
+pub mod ExactIs
