@@ -33,8 +33,9 @@ use Rattle.md_rows.proofs.GroupLines.{AreSpan, Begins, IsHead, IsSpanLine, line-
 use Rattle.md_rows.proofs.HeadedTable.{headed-is, headed-table}
 use Rattle.md_rows.proofs.KindLemmas.{kind-starts}
 use Rattle.md_rows.proofs.LineBehind.{line-heads}
-use Rattle.md_exact_groups.proofs.Tails.{last_of}
+use Rattle.md_exact_groups.proofs.Tails.{tail-last}
 use Rattle.md_exact_lines.proofs.Spans.{own}
+use Rattle.md_exact_lines.proofs.TextLines.{last_of}
 use Rattle.md_exact_lists.specs.Unlisted.{unlisted_group, unlisted_groups, without_lists}
 use Rattle.md_exact_roles.proofs.GroupsMatch.{Pairs, TakesEach, TakesLines, behind_leaf, within_leaf}
 use Rattle.md_exact_rows.proofs.Fit.{Fit}
@@ -89,10 +90,6 @@ lone-same options bytes l x r xs rs fit pairs are other first events =
 last-row : (r : FrameRow) (rs more : List FrameRow) → last_row r (rs ++ more) ≡ last_row (last_row r rs) more
 last-row r [] more = refl
 last-row r (next ∷ rs) more = last-row next rs more
-
-tail-last : (x : Row) (xs : List Row) → tail (x ∷ xs) ≡ tail (last_of x xs ∷ [])
-tail-last x [] = refl
-tail-last x (y ∷ ys) = tail-last y ys
 
 code-same : (options : ParseOptions) (bytes : List ℕ) (x : Row) (r : FrameRow) (xs : List Row)
     (rs more : List FrameRow) (More : List (List Row) → Type 0) (events : List Event) →

@@ -44,11 +44,11 @@ use Rattle.md_registry.specs.Registry.{asked_first, leaf}
 use Rattle.md_rows.specs.Rows.{tail_events}
 use Rattle.md_rows.proofs.KindLemmas.{kind-filled}
 use Rattle.md_rows.proofs.RowLeaf.{row-as}
-use Rattle.md_exact_groups.proofs.Tails.{last_of}
 use Rattle.md_exact_lines.proofs.BeginsAt.{rest_bytes}
 use Rattle.md_exact_lines.proofs.RoomLines.{behind-blank, first-code, first-fence, first-html, further-code}
 use Rattle.md_exact_lines.proofs.RoomLines.{further-fence, further-html}
 use Rattle.md_exact_lines.proofs.Spans.{Adds, AreLines, EndsFramed, fence-joined, leaf-joined, own}
+use Rattle.md_exact_lines.proofs.TextLines.{last_of}
 use Rattle.md_exact_lists.specs.Unlisted.{unlisted_groups, without_lists}
 use Rattle.md_exact_roles.proofs.GroupsMatch.{Pairs, TakesEach}
 use Rattle.md_exact_rows.proofs.Fit.{Fit}
