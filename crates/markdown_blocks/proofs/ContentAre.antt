@@ -1,9 +1,8 @@
 -- What stands in a text once its lines and its content are read: texts that are not read yet.
 use Rattle.md_engine.specs.declared.tokenizer.held_leaf.HeldLeaf.TheVariants as held_leaf
-use Rattle.std.proofs.Common.{◌≡◌, ◌^◌, ◌<◌, ℕ, suc, List, [], length, refl, sym, ◌∙◌, subst}
+use Rattle.std.proofs.Common.{◌≡◌, ◌^◌, ◌<◌, ℕ, List, [], length, refl, sym, ◌∙◌, subst}
 use Rattle.md_engine.specs.declared.configuration.ParseOptions.{ParseOptions}
 use Rattle.md_engine.specs.declared.event.Event.{Event}
-use Rattle.md_engine.specs.declared.event.Point.{Point}
 use Rattle.md_engine.specs.Found.{Found}
 use Rattle.md_engine.specs.Place.{first_point}
 use Rattle.md_engine.specs.World.{World}
@@ -11,7 +10,7 @@ use Rattle.md_registry.specs.Resolving.{lines_joined}
 use Rattle.md_content.specs.ContentReads.{content_readings, wants_content}
 use Rattle.md_seam.specs.Substituted.{Substituted}
 use Rattle.md_front_rooms.specs.Front.{body_point, front_events}
-use Rattle.md_rows.specs.TextRows.{text_cells, text_rows}
+use Rattle.md_rows.specs.TextRows.{text_rows}
 use Rattle.md_row_steps.specs.WithoutMdx.{IsWithoutMdx}
 use Rattle.md_rows.specs.Rows.{groups, rows_events}
 use Rattle.md_rows.specs.Unread.{unread_groups}
@@ -19,7 +18,6 @@ use Rattle.md_frame.proofs.ContentFacts.{content-alone}
 use Rattle.md_rows.proofs.ContentCut.{content-reads}
 use Rattle.md_rows.proofs.GroupLemmas.{content-read}
 use Rattle.md_rows.proofs.HeadJoined.{heads-joined}
-use Rattle.md_rows.proofs.JoinedLemmas.{EachNoContent, rows_at-no_content}
 use Rattle.md_rows.proofs.Begun.{begun}
 use Rattle.md_front_rooms.proofs.Frontmatter.Whole.{FrontPart}
 use Rattle.md_row_steps.proofs.TextAre.{lines_of, rows_of, text-are}
@@ -27,12 +25,7 @@ use Rattle.md_rows.proofs.AloneGroups.{leaves-alone}
 use Rattle.md_content.specs.Joined.{joined}
 use Rattle.md_table_rooms.specs.Headed.{heads_read}
 use Rattle.md_order.specs.Alone.{HoldNoBlock, Nothing}
-use Rattle.markdown_blocks.proofs.FlowReads.{FlowFlushed}
-
-pub text-quiet : (options : ParseOptions) (bytes : List ℕ) (p : Point) → EachNoContent (text_rows options bytes p)
-text-quiet options bytes p =
-    rows_at-no_content options (suc (length (text_cells bytes options p))) [] held_leaf.None
-    (text_cells bytes options p) p
+use Rattle.markdown_blocks.proofs.FlowReads.{FlowFlushed, text-quiet}
 
 pub part-of : (options : ParseOptions) (bytes : List ℕ) →
     FrontPart bytes first_point (body_point options bytes) (front_events options bytes)

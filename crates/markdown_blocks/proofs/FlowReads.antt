@@ -1,8 +1,8 @@
 -- What flow has read of a text, by what pushing it, flushing it and reading its content do.
 use Rattle.md_engine.specs.declared.tokenizer.held_leaf.HeldLeaf.TheVariants as held_leaf
 use Rattle.std.proofs.Common.{◌≡◌, ◌≢◌, ◌⊎◌, inl, inr, ◌^◌, ◌<◌, ℕ, suc, Bool, true, false, List, [], ◌∷◌, ◌++◌, length}
-use Rattle.std.proofs.Common.{◌≤◌, refl, sym, ◌∙◌, ap, subst, arith, not, ◌||◌}
-use Rattle.std.proofs.lemmas.Bool.{or_from, or_parts}
+use Rattle.std.proofs.Common.{◌≤◌, refl, sym, ◌∙◌, ap, subst, arith, append_assoc}
+use Rattle.std.proofs.lemmas.Bool.{or_from}
 use Rattle.md_engine.specs.declared.configuration.ParseOptions.{ParseOptions}
 use Rattle.md_engine.specs.declared.event.Event.{Event}
 use Rattle.md_engine.specs.declared.event.Name.TheVariants as n
@@ -20,7 +20,7 @@ use Rattle.md_engine.specs.World.{Setting, World, fresh, reads_to}
 use Rattle.md_engine.proofs.Keeps.{runs-append, runs-at_end, runs-setting}
 use Rattle.md_containers.specs.Listed.{listed}
 use Rattle.md_content.specs.ContentReads.{content_readings, wants_content}
-use Rattle.md_content.specs.Joined.{is_content, joined}
+use Rattle.md_content.specs.Joined.{joined}
 use Rattle.md_content.specs.Labels.{labels_in}
 use Rattle.md_content.proofs.LabelsLemmas.{labels-none}
 use Rattle.md_content.specs.Resolves.{found_in_content}
@@ -29,7 +29,8 @@ use Rattle.md_leaves.specs.Turned.{turned}
 use Rattle.md_tables.specs.Tabled.{tabled}
 use Rattle.md_registry.specs.Resolving.{lines_joined, resolved_as}
 use Rattle.md_seam.specs.Substituted.{Substituted}
-use Rattle.markdown_blocks.specs.ContentRead.{ReadIf, holds_content}
+use Rattle.markdown_blocks.specs.ContentRead.{AreSideBySide, ReadIf, holds_content, side_by_side}
+use Rattle.markdown_blocks.proofs.HoldsContent.{held-parts, quiet-side}
 use Rattle.markdown_blocks.specs.Fed.{FlowRan}
 use Rattle.markdown_blocks.specs.FlowReads.{FlowReads, has_text}
 use Rattle.md_rows.specs.TextRows.{text_cells, text_rows, text_setting}
@@ -42,69 +43,72 @@ use Rattle.md_rows.proofs.EachRow.{EachRow}
 use Rattle.md_registry.proofs.FlowLemmas.{flow_by_line}
 use Rattle.md_rows.proofs.FlowRows.{flow_at-rows}
 use Rattle.markdown_blocks.proofs.FlowRuns.{flow_flush, flow_outcome, flow_push}
-use Rattle.md_frame.proofs.ContentFacts.{content-alone, no_content-label, nothing as nothing_wanted, nothing-wanted}
+use Rattle.md_frame.proofs.ContentFacts.{NoContent, content-alone, no_content-label, nothing as nothing_wanted}
+use Rattle.md_frame.proofs.ContentFacts.{nothing-wanted}
 use Rattle.markdown_blocks.proofs.FlowSteps.{IsFramed, content-same, rows-no_content, rows_at-framed}
 use Rattle.md_table_rooms.proofs.HeadsRead.{heads-none}
-use Rattle.md_rows.proofs.JoinedLemmas.{EachNoContent, rows_at-no_content}
+use Rattle.md_rows.proofs.JoinedLemmas.{EachNoContent, HasNoContent, events-no_content, front-no_content}
+use Rattle.md_rows.proofs.JoinedLemmas.{rows_at-no_content, tail-no_content}
 use Rattle.markdown_blocks.proofs.StandsLemmas.{flow-ran}
 use Rattle.markdown_blocks.proofs.LinesFed.{text-follows_it}
 use Rattle.md_seam.specs.Spaces.{any_size}
 
 -- Lines among whose events no line of text is found.
 
--- whether content is found where every other event is asked for, from the first on or from the second
-abbrev asked : Bool → List Event → Bool
-asked now [] = false
-asked true (e ∷ es) = is_content e.name || asked false es
-asked false (e ∷ es) = asked true es
-
-asked-holds : (es : List Event) → asked true es ≡ holds_content es
-asked-holds [] = refl
-asked-holds (e ∷ []) = or_none (is_content e.name)
-  where
-    or_none : (x : Bool) → (x || false) ≡ x
-    or_none true = refl
-    or_none false = refl
-asked-holds (e ∷ f ∷ es) = ap (λ (x : Bool). is_content e.name || x) (asked-holds es)
-
--- which is asked for behind some events
-abbrev turned_by : Bool → List Event → Bool
-turned_by now [] = now
-turned_by now (e ∷ es) = turned_by (not now) es
-
-asked-parts : (now : Bool) (xs ys : List Event) → asked now (xs ++ ys) ≡ false →
-    (asked now xs ≡ false) × (asked (turned_by now xs) ys ≡ false)
-asked-parts now [] ys h = (refl, h)
-asked-parts true (x ∷ xs) ys h =
-    let parts = or_parts (is_content x.name) (asked false (xs ++ ys)) h in
-    let rest = asked-parts false xs ys parts.1 in
-    (or_from (is_content x.name) (asked false xs) parts.0 rest.0, rest.1)
-asked-parts false (x ∷ xs) ys h = asked-parts true xs ys h
-
--- the begin and the end of a line of text stand side by side
-none-text : (now : Bool) (k : RowKind) (row : Row) → asked now (row_events_by k row) ≡ false → k ≢ TextRow
-none-text now k row h e =
+-- a line of text would be found
+none-text : (k : RowKind) (row : Row) → holds_content (row_events_by k row) ≡ false → k ≢ TextRow
+none-text k row h e =
     let leaf : List Event = leaf_events TextRow row in
-    let whole : asked now ((row.front ++ leaf) ++ tail_events n.LineEnding row) ≡ false =
-    subst (λ (x : RowKind). asked now (row_events_by x row) ≡ false) e h in
-    two (turned_by now row.front)
-    (asked-parts now row.front leaf (asked-parts now (row.front ++ leaf) (tail_events n.LineEnding row) whole).0).1
-  where
-    two : (x : Bool) → asked x (leaf_events TextRow row) ≡ false → ⊥
-    two true h = let bad : true ≡ false = h in cc
-    two false h = let bad : true ≡ false = h in cc
+    let whole : holds_content ((row.front ++ leaf) ++ tail_events n.LineEnding row) ≡ false =
+    subst (λ (x : RowKind). holds_content (row_events_by x row) ≡ false) e h in
+    let bad : true ≡ false =
+    (held-parts row.front leaf (held-parts (row.front ++ leaf) (tail_events n.LineEnding row) whole).0).1 in
+    cc
 
-no-text : (now : Bool) (rows : List Row) → asked now (rows_events rows) ≡ false → has_text rows ≡ false
-no-text now [] h = refl
-no-text now (row ∷ rows) h =
-    let parts = asked-parts now (row_events row) (rows_events rows) h in
-    or_from (is_text row.kind) (has_text rows) (other row.kind (none-text now row.kind row parts.0))
-    (no-text (turned_by now (row_events row)) rows parts.1)
+no-text : (rows : List Row) → holds_content (rows_events rows) ≡ false → has_text rows ≡ false
+no-text [] h = refl
+no-text (row ∷ rows) h =
+    let parts = held-parts (row_events row) (rows_events rows) h in
+    or_from (is_text row.kind) (has_text rows) (other row.kind (none-text row.kind row parts.0)) (no-text rows parts.1)
   where
     other : (kind : RowKind) → kind ≢ TextRow → is_text kind ≡ false
     other BlankRow h = refl
     other (LeafRow l) h = refl
     other TextRow h = absurd (h refl)
+
+-- The begin and the end of each line of text stand side by side.
+row-side : (row : Row) (es : List Event) → IsFramed row → HasNoContent row →
+    side_by_side false (row_events row ++ es) ≡ side_by_side false es
+row-side row es framed quiet = go row.kind refl
+  where
+    front : NoContent nothing_wanted row.front
+    front = front-no_content nothing_wanted nothing-wanted row.front framed.front
+
+    other : row.kind ≢ TextRow → side_by_side false (row_events row ++ es) ≡ side_by_side false es
+    other h =
+        quiet-side nothing_wanted (row_events row) es
+        (events-no_content nothing_wanted row row.kind refl h front (quiet nothing_wanted nothing-wanted))
+
+    text : List Event
+    text = leaf_events TextRow row
+
+    tail : List Event
+    tail = tail_events n.LineEnding row
+
+    go : (kind : RowKind) → row.kind ≡ kind → side_by_side false (row_events row ++ es) ≡ side_by_side false es
+    go BlankRow is = other (λ h. cc)
+    go (LeafRow l) is = other (λ h. cc)
+    go TextRow is =
+        ap (λ (k : RowKind). side_by_side false (row_events_by k row ++ es)) is
+        ∙ ap (side_by_side false) (append_assoc (row.front ++ text) tail es ∙ append_assoc row.front text (tail ++ es))
+        ∙ quiet-side nothing_wanted row.front (text ++ (tail ++ es)) front
+        ∙ quiet-side nothing_wanted tail es (tail-no_content nothing_wanted n.LineEnding row refl)
+
+rows-side : (rows : List Row) → EachRow IsFramed rows → EachNoContent rows →
+    side_by_side false (rows_events rows) ≡ true
+rows-side [] framed quiet = refl
+rows-side (row ∷ rows) framed quiet =
+    row-side row (rows_events rows) framed.0 quiet.0 ∙ rows-side rows framed.1 quiet.1
 
 -- The step behind the states, whether content is read or not.
 
@@ -146,7 +150,7 @@ content-step bytes options rows at found new framed quiet events text set true h
     }
 content-step bytes options rows at found new framed quiet events text set false holds h =
     let none : has_text rows ≡ false =
-    no-text true rows (asked-holds (rows_events rows) ∙ ap holds_content (sym events) ∙ holds) in
+    no-text rows (ap holds_content (sym events) ∙ holds) in
     let same : new.events ≡ rows_events rows = ap (λ (w : World). w.events) h.1 ∙ events in
     let P : List Event →
     Type 0 = λ l. Substituted wants_content (content_readings bytes options) [] 0
@@ -298,6 +302,17 @@ pub record FlowFlushed (bytes : List ℕ) (options : ParseOptions) (p : Point) (
   pub definitions : found.definitions ≡ labels_in bytes content
   pub footnotes : found.footnotes ≡ []
 
+-- Of the rows of a text: no content stands in a line that is no text, and prefixes stand in front of each.
+pub text-quiet : (options : ParseOptions) (bytes : List ℕ) (p : Point) → EachNoContent (text_rows options bytes p)
+text-quiet options bytes p =
+    rows_at-no_content options (suc (length (text_cells bytes options p))) [] held_leaf.None
+    (text_cells bytes options p) p
+
+text-framed : (options : ParseOptions) (bytes : List ℕ) (p : Point) → EachRow IsFramed (text_rows options bytes p)
+text-framed options bytes p =
+    rows_at-framed options (suc (length (text_cells bytes options p))) [] held_leaf.None
+    (text_cells bytes options p) p
+
 pub flow-flushed : (bytes : List ℕ) (options : ParseOptions) (p : Point) (end : State) (at : World) (none : Found)
     (flushed : World) (found : Found) (new : World) →
     length bytes < 2 ^ 61 →
@@ -329,22 +344,32 @@ flow-flushed bytes options p end at none flushed found new small run f h =
     rows : List Row
     rows = text_rows options bytes p
 
-    quiet : EachNoContent rows
-    quiet =
-        rows_at-no_content options (suc (length (text_cells bytes options p))) [] held_leaf.None
-        (text_cells bytes options p) p
-
-    framed : EachRow IsFramed rows
-    framed =
-        rows_at-framed options (suc (length (text_cells bytes options p))) [] held_leaf.None
-        (text_cells bytes options p) p
-
     read : ContentRead bytes options rows f.at found new
     read =
-        content-step bytes options rows f.at found new framed quiet pushed.events
-        (ap (λ (x : Setting). x.bytes) pushed.setting) (ap (λ (x : Setting). x.options) pushed.setting)
+        content-step bytes options rows f.at found new (text-framed options bytes p) (text-quiet options bytes p)
+        pushed.events (ap (λ (x : Setting). x.bytes) pushed.setting) (ap (λ (x : Setting). x.options) pushed.setting)
         (holds_content f.at.events) refl
         (subst (λ (w : World). ReadIf (holds_content w.events) w found new) f.resolved.0 h)
+
+-- The begin and the end of each line of text stand side by side in what flow has added.
+pub flushed-side : (bytes : List ℕ) (options : ParseOptions) (p : Point)
+    (start : World) (to : ℕ) (end : State) (at : World) (none : Found) (flushed : World) →
+    start ≡ fresh bytes options p → to ≡ length bytes →
+    length bytes < 2 ^ 61 →
+    Runs FlowStep false (Next (s.Document document.ContainerExistingBefore)) (reads_to start to) end at →
+    Flushes FlowStep resolved_as end at false none flushed → AreSideBySide flushed.events
+flushed-side bytes options p start to end at none flushed same all small run f =
+    let P : World →
+    Type 0 = λ w. Runs FlowStep false (Next (s.Document document.ContainerExistingBefore))
+    (reads_to w (length bytes)) end at in
+    let Q : ℕ →
+    Type 0 = λ n. Runs FlowStep false (Next (s.Document document.ContainerExistingBefore))
+    (reads_to start n) end at in
+    let pushed : IsPushed bytes options p f.end f.at =
+    flow-pushed bytes options p end at none flushed small (subst P same (subst Q all run)) f in
+    inl
+    (ap (λ (w : World). side_by_side false w.events) f.resolved.0 ∙ ap (side_by_side false) pushed.events
+    ∙ rows-side (text_rows options bytes p) (text-framed options bytes p) (text-quiet options bytes p))
 
 -- the same for a tokenizer that is known to be fresh
 pub flow-flushed-from : (bytes : List ℕ) (options : ParseOptions) (p : Point)

@@ -34,7 +34,8 @@ use Rattle.md_rows.proofs.NestedRows.{Nests, rows-nest}
 use Rattle.md_rows.proofs.PieceRows.{events-pieces}
 use Rattle.md_rows.proofs.RowFacts.{AreRows}
 use Rattle.md_row_steps.proofs.TextAre.{lines_of, rows_of, text-are}
-use Rattle.markdown_blocks.proofs.ContentAre.{part-of, text-quiet}
+use Rattle.markdown_blocks.proofs.ContentAre.{part-of}
+use Rattle.markdown_blocks.proofs.FlowReads.{text-quiet}
 use Rattle.markdown_blocks.proofs.TextBlocks.{read-is, read_of}
 use Rattle.md_rows.proofs.TileReads.{end-read}
 

@@ -80,10 +80,8 @@ first-other e es all = go (passes_alone e) refl all
 
 pub none-held : (es : List Event) → prefix_len passes_alone es ≡ length es → holds_content es ≡ false
 none-held [] all = refl
-none-held (e ∷ []) all = (first-other e [] all).0
-none-held (e ∷ f ∷ es) all =
-    let one = first-other e (f ∷ es) all in
-    or_from (is_content e.name) (holds_content es) one.0 (none-held es (first-other f es one.1).1)
+none-held (e ∷ es) all =
+    let one = first-other e es all in or_from (is_content e.name) (holds_content es) one.0 (none-held es one.1)
 
 pub stay-none : (es : List Event) → prefix_len stays_alone es ≡ length es → holds_content es ≡ false
 stay-none es all =

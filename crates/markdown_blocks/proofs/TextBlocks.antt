@@ -71,7 +71,8 @@ use Rattle.md_rows.proofs.RowFacts.{AreRows}
 use Rattle.md_rows.proofs.AloneGroups.{leaves-alone}
 use Rattle.md_rows.proofs.TabledGroups.{chain}
 use Rattle.md_row_steps.proofs.TextAre.{lines_of, rows_of, text-are}
-use Rattle.markdown_blocks.proofs.ContentAre.{content-are, part-of, text-quiet}
+use Rattle.markdown_blocks.proofs.ContentAre.{content-are, part-of}
+use Rattle.markdown_blocks.proofs.FlowReads.{text-quiet}
 use Rattle.md_rows.proofs.TileCovers.{blocks-cover}
 use Rattle.md_rows.proofs.TileParts.{blocks-chunks, blocks-nested, blocks-stand}
 use Rattle.md_rows.proofs.TileReads.{blocks-empty, end-unread, text-filled}

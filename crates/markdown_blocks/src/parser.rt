@@ -13,7 +13,7 @@ ghost use Rattle.md_registry.specs.Resolving.{lines_joined};
 ghost use Rattle.md_leaves.specs.Spanned.{passes_on};
 ghost use Rattle.md_leaves.specs.Turned.{HoldNoUnderline};
 ghost use Rattle.markdown_blocks.specs.Alone.{passes_alone, stays_alone};
-ghost use Rattle.markdown_blocks.specs.ContentRead.{ReadIf, holds_content};
+ghost use Rattle.markdown_blocks.specs.ContentRead.{AreSideBySide, ReadIf, holds_content};
 ghost use Rattle.markdown_blocks.specs.FlowReads.{FlowReads};
 ghost use Rattle.md_order.specs.Alone.{MayPass};
 ghost use Rattle.md_order.specs.InOrder.{every, in_order};
@@ -248,6 +248,7 @@ fn until_changed(events: &[Event]) -> usize
 
 /// Whether a line of text is among a few events.
 fn few_hold_content(events: &[Event]) -> bool
+    requires { AreSideBySide events.now }
     ensures { result ≡ holds_content events.now }
 {
     let mut left = events;
@@ -260,9 +261,10 @@ fn few_hold_content(events: &[Event]) -> bool
     matches!(left, [event] if is_content(event))
 }
 
-/// Whether a line of text is among events. Where there is none this goes over all events of a text, so it asks every
-/// other, and eight of these before the next round.
+/// Whether a line of text is among events. Where there is none this goes over all events of a text. The begin and the end
+/// of a line of text stand side by side, so it asks every other event, and eight of these before the next round.
 fn holds_content(events: &[Event]) -> bool
+    requires { AreSideBySide events.now }
     ensures { result ≡ holds_content events.now }
 {
     let mut left = events;
@@ -286,7 +288,8 @@ fn holds_content(events: &[Event]) -> bool
 /// Whether a line of text is among events, where it is known how many are in front of the first that is of one or may not
 /// pass as it is where lines are joined.
 fn is_unread(events: &[Event], many: usize) -> bool
-    requires { many ≡ prefix_len passes_alone events.now }
+    requires many { many ≡ prefix_len passes_alone events.now }
+    requires side { AreSideBySide events.now }
     ensures { result ≡ holds_content events.now }
 {
     many < events.len() && holds_content(events)
@@ -308,7 +311,8 @@ fn nothing(alloc: Global) -> Subresult
 ///
 /// An `Err` says that memory ran out.
 fn read_content(tokenizer: &mut Tokenizer) -> Result<(Subresult, usize), Message>
-    requires { (world tokenizer.old).frames ≡ [] }
+    requires frames { (world tokenizer.old).frames ≡ [] }
+    requires side { AreSideBySide (world tokenizer.old).events }
     ensures content { IfOk result
         (λ read.
         ReadIf (holds_content (world tokenizer.old).events) (world tokenizer.old) (found_in read.0)

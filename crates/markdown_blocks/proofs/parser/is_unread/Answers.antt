@@ -12,4 +12,4 @@ returns-else-many-events c =
     let past : length es ≤ c.args.many = c.if-many-events.false in
     let none : nat_lt c.args.many (length es) ≡ false = grind (arith, nat_tests) in
     none
-    ∙ sym (none-held es (omega (arith, c.requires, past, prefix_len-le-length passes_alone es)))
+    ∙ sym (none-held es (omega (arith, c.requires.many, past, prefix_len-le-length passes_alone es)))

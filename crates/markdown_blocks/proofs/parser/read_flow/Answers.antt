@@ -7,7 +7,8 @@ use Rattle.md_engine.specs.declared.event.Point.{Point}
 use Rattle.markdown_blocks.specs.Alone.{stays_alone}
 use Rattle.markdown_blocks.specs.ContentRead.{ReadIf}
 use Rattle.markdown_blocks.proofs.ContentAre.{joined-alone}
-use Rattle.markdown_blocks.proofs.FlowReads.{FlowFlushed, flow-flushed-from, flow-reads, flushed-frames, read-frames}
+use Rattle.markdown_blocks.proofs.FlowReads.{FlowFlushed, flow-flushed-from, flow-reads, flushed-frames, flushed-side}
+use Rattle.markdown_blocks.proofs.FlowReads.{read-frames}
 use Rattle.markdown_blocks.proofs.StaysAlone.{alone-same, stay-none}
 use Rattle.markdown_blocks.proofs.parser.read_flow.Goals as goal
 
@@ -27,8 +28,13 @@ returns-then-same-len c =
     (ap (λ (es : List Event). record w { events = es })
     (sym (alone-same c.args.options.now w.setting.bytes w.events all)))
 
-pub read_content-requires : goal.read_content-requires
-read_content-requires c = flushed-frames _ _ _ _ _ _ c.in_ok-flush.ensures
+pub read_content-requires-clause-frames : goal.read_content-requires-clause-frames
+read_content-requires-clause-frames c = flushed-frames _ _ _ _ _ _ c.in_ok-flush.ensures
+
+pub read_content-requires-clause-side : goal.read_content-requires-clause-side
+read_content-requires-clause-side c =
+    flushed-side c.args.bytes.now c.args.options.now c.args.start _ _ _ _ _ _ c.in_ok-tokenizer.ensures refl
+    (omega (arith, c.requires.small)) (c.push.ensures.runs c.in_default.not-Error) c.in_ok-flush.ensures
 
 pub resolve_blocks-requires-clause-frames : goal.resolve_blocks-requires-clause-frames
 resolve_blocks-requires-clause-frames c =
