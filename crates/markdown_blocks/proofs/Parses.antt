@@ -18,7 +18,7 @@ use Rattle.md_seam.specs.Events.Tiles.{IsBlockList, plain_read}
 use Rattle.md_seam.specs.Substituted.{Substituted}
 use Rattle.md_seam.specs.TextPart.{text_readings, wants_text}
 use Rattle.md_seam.proofs.PlainTiles.{plain-only}
-use Rattle.md_rows.specs.BlockList.{block_list}
+use Rattle.md_exact.specs.Blocks.{exact}
 use Rattle.md_front_rooms.specs.Front.{body_point, front_events}
 use Rattle.md_frame.specs.ReadsPlain.{reads_plain}
 use Rattle.markdown_blocks.specs.Parsed.{IsParsed, IsRead}
@@ -41,9 +41,9 @@ use Rattle.md_rows.proofs.TileReads.{end-read}
 
 -- What is known of the list of events that the plain layer reads.
 pub record ReadsPlain (options : ParseOptions) (bytes : List ℕ) : Type 0 where
-  pub grammar : keeps_grammar plain_text (plain_read bytes (block_list options bytes)) ≡ true
-  pub pieces_are : pieces_stand bytes (pieces (plain_read bytes (block_list options bytes))) ≡ true
-  pub endings : endings_stand (plain_read bytes (block_list options bytes)) ≡ true
+  pub grammar : keeps_grammar plain_text (plain_read bytes (exact options bytes)) ≡ true
+  pub pieces_are : pieces_stand bytes (pieces (plain_read bytes (exact options bytes))) ≡ true
+  pub endings : endings_stand (plain_read bytes (exact options bytes)) ≡ true
 
 pub reads-plain : (options : ParseOptions) (bytes : List ℕ) → IsWithoutMdx options → length bytes < 2 ^ 61 →
     ReadsPlain options bytes
@@ -60,7 +60,7 @@ reads-plain options bytes built small =
     let nested : Nested events =
     front-nested p front (groups_events options bytes (groups rows)) part.stretch.nested nests.balanced nests.forward in
     let held : ItemsHeld [] events = events-held options bytes p front lines rows part are in
-    let same : listed bytes events ≡ plain_read bytes (block_list options bytes) = read-is options bytes built small in
+    let same : listed bytes events ≡ plain_read bytes (exact options bytes) = read-is options bytes built small in
     record {
       grammar =
           subst (λ (l : List Event). keeps_grammar plain_text l ≡ true) same
@@ -85,13 +85,13 @@ pub plain-parsed : (text : List ℕ) (options : ParseOptions) (events : List Eve
     IsParsed text options events state
 plain-parsed text options events state built most read =
     let small : length text < 2 ^ 61 = omega (arith, most) in
-    let list : IsBlockList text (block_list options text) =
+    let list : IsBlockList text (exact options text) =
     subst (IsBlockList text) read.blocks_are read.tiles.block_list in
-    let same : events ≡ plain_read text (block_list options text) =
-    plain-only text (block_list options text) events list
+    let same : events ≡ plain_read text (exact options text) =
+    plain-only text (exact options text) events list
     (subst
     (λ (l : List ℕ).
-    Substituted wants_text (text_readings (reads_plain l)) [] 0 (block_list options text) events)
+    Substituted wants_text (text_readings (reads_plain l)) [] 0 (exact options text) events)
     read.bytes read.events_are) in
     let plain : ReadsPlain options text = reads-plain options text built small in
     record {

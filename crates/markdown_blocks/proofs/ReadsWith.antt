@@ -32,7 +32,7 @@ use Rattle.md_seam.proofs.NestsLemmas.{tiles-nested, tiles-placed}
 use Rattle.md_seam.proofs.OnLemmas.{tree-on}
 use Rattle.md_seam.proofs.PartsLemmas.{tiles-spelled}
 use Rattle.md_seam.proofs.ReachedLemmas.{events-placed}
-use Rattle.md_rows.specs.BlockList.{block_list}
+use Rattle.md_exact.specs.Blocks.{exact}
 use Rattle.markdown_blocks.specs.FlowReads.{FlowReads}
 use Rattle.md_container_rooms.specs.Footnotes.{footnotes_listed}
 use Rattle.md_front_rooms.specs.Front.{body_point, front_events}
@@ -64,8 +64,8 @@ pub record IsAhead (state : ParseState) (start : Point) (found : Found) (new : W
 
 module _ (state : ParseState) (start : Point) (found : Found) (new : World) (mark items : List Event)
     (ahead : IsAhead state start found new mark items) where
-  -- The events are the block list of the text,
-  blocks-are : mark ++ items ≡ block_list state.options.now state.bytes.now
+  -- The events are the exact list of the text,
+  blocks-are : mark ++ items ≡ exact state.options.now state.bytes.now
   blocks-are =
       blocks-read state.options.now state.bytes.now start found new mark items ahead.built ahead.small ahead.starts
       ahead.marks ahead.flow ahead.items_are
@@ -73,12 +73,12 @@ module _ (state : ParseState) (start : Point) (found : Found) (new : World) (mar
   has : HasBlocks state.options.now state.bytes.now
   has =
       has-blocks state.options.now state.bytes.now ahead.built ahead.utf8 ahead.small
-      (events-placed state.bytes.now (block_list state.options.now state.bytes.now)
+      (events-placed state.bytes.now (exact state.options.now state.bytes.now)
       (subst (ArePlaced state.bytes.now) blocks-are
       (All-append (λ (e : Event). IsPlaced state.bytes.now e.point) mark items ahead.mark_placed ahead.items_placed)))
 
   -- and all labels are known.
-  known : AreBlocks (document_of state) (block_list state.options.now state.bytes.now)
+  known : AreBlocks (document_of state) (exact state.options.now state.bytes.now)
   known = record {
     sized = ahead.small;
     list = has.list;
@@ -104,7 +104,7 @@ module _ (state : ParseState) (start : Point) (found : Found) (new : World) (mar
       (subst (λ (l : List Event). list_all (stays wants_text) l ≡ true) (sym ahead.marks)
       (front-stays wants_text state.options.now state.bytes.now))
       (subst (EachAsked wants_text asked 0) (sym blocks-are)
-      (asked-blocks (document_of state) (block_list state.options.now state.bytes.now) known))
+      (asked-blocks (document_of state) (exact state.options.now state.bytes.now) known))
 
   -- and what it gives is known in whole.
   pub reads-with : (reads : Document → Part → List Event → Type 0) →
@@ -113,7 +113,7 @@ module _ (state : ParseState) (start : Point) (found : Found) (new : World) (mar
       IsRead reads state.bytes.now state.options.now events state
   reads-with reads frame body events substituted is =
       let bytes : List ℕ = state.bytes.now in
-      let blocks : List Event = block_list state.options.now bytes in
+      let blocks : List Event = exact state.options.now bytes in
       let all : Substituted wants_text (text_readings (reads (document_of state))) [] 0 blocks events =
       subst (λ (l : List Event). Substituted wants_text (text_readings (reads (document_of state))) [] 0 l events)
       blocks-are

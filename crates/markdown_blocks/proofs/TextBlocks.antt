@@ -34,6 +34,8 @@ use Rattle.md_outline.specs.HeadingDepths.{are_shallow}
 use Rattle.md_outline.specs.Outlined.{IsOutlined}
 use Rattle.md_seam.proofs.FilledLemmas.{spelled-filled}
 use Rattle.md_seam.proofs.OnLemmas.{tree-on}
+use Rattle.md_exact.specs.Blocks.{exact}
+use Rattle.md_exact_blocks.proofs.ExactIs.{exact-is}
 use Rattle.md_rows.specs.BlockList.{block_list, tabled_groups}
 use Rattle.md_front_rooms.specs.Front.{body_point, front_events}
 use Rattle.markdown_blocks.specs.FlowReads.{FlowReads}
@@ -178,8 +180,8 @@ read-listed options bytes built small =
     ap (listed bytes) (text-filled options bytes p (front_events options bytes) lines part.stretch.filled are).read
     ∙ sym
     (listed-plain bytes bytes (blocks_of options bytes)
-    (blocks-chunks options bytes [] held_leaf.None p (front_events options bytes) lines rows part.stretch.parts (refl, refl) are
-    (text-quiet options bytes p)))
+    (blocks-chunks options bytes [] held_leaf.None p (front_events options bytes) lines rows part.stretch.parts
+    (refl, refl) are (text-quiet options bytes p)))
 
 -- The blocks of a text, in front of the resolver of lists.
 blocks-unlisted : (options : ParseOptions) (bytes : List ℕ) → IsWithoutMdx options → length bytes < 2 ^ 61 →
@@ -211,49 +213,52 @@ blocks-unlisted options bytes built small placed =
           (text-quiet options bytes p);
     }
 
--- The block list has the lists around these items.
-block_list-is : (options : ParseOptions) (bytes : List ℕ) →
-    listed bytes (blocks_of options bytes) ≡ block_list options bytes
+-- The block list has the lists around these items, and is the exact list.
+list-is : (options : ParseOptions) (bytes : List ℕ) → listed bytes (blocks_of options bytes) ≡ block_list options bytes
 unfolding block_list
-block_list-is options bytes = refl
+list-is options bytes = refl
 
--- So what the plain layer reads of the block list has the lists around the items of what it reads of the lines.
+blocks-exact : (options : ParseOptions) (bytes : List ℕ) → IsWithoutMdx options → length bytes < 2 ^ 61 →
+    listed bytes (blocks_of options bytes) ≡ exact options bytes
+blocks-exact options bytes built small = list-is options bytes ∙ exact-is options bytes built small
+
+-- So what the plain layer reads of it has the lists around the items of what it reads of the lines.
 pub read-is : (options : ParseOptions) (bytes : List ℕ) → IsWithoutMdx options → length bytes < 2 ^ 61 →
-    listed bytes (read_of options bytes) ≡ plain_read bytes (block_list options bytes)
+    listed bytes (read_of options bytes) ≡ plain_read bytes (exact options bytes)
 read-is options bytes built small =
-    read-listed options bytes built small ∙ ap (plain_read bytes) (block_list-is options bytes)
+    read-listed options bytes built small ∙ ap (plain_read bytes) (blocks-exact options bytes built small)
 
--- The front of a text stands in front of what flow gives, which is all of the block list.
-pub front-listed : (options : ParseOptions) (bytes : List ℕ) →
+-- The front of a text stands in front of what flow gives, which is all of the exact list.
+pub front-listed : (options : ParseOptions) (bytes : List ℕ) → IsWithoutMdx options → length bytes < 2 ^ 61 →
     front_events options bytes ++ listed bytes (tabled_groups options bytes (groups (rows_of options bytes))) ≡
-    block_list options bytes
-front-listed options bytes =
+    exact options bytes
+front-listed options bytes built small =
     sym
     (listed-front bytes (front_events options bytes) (tabled_groups options bytes (groups (rows_of options bytes)))
     (roles-unlisted (front_events options bytes) (part-of options bytes).stretch.roles))
-    ∙ block_list-is options bytes
+    ∙ blocks-exact options bytes built small
 
 pub blocks-read : (options : ParseOptions) (bytes : List ℕ) (start : Point) (found : Found) (new : World)
     (mark items : List Event) → IsWithoutMdx options → length bytes < 2 ^ 61 → start ≡ body_point options bytes →
     mark ≡ front_events options bytes → FlowReads bytes options start found new → items ≡ new.events →
-    mark ++ items ≡ block_list options bytes
+    mark ++ items ≡ exact options bytes
 blocks-read options bytes start found new mark items built small starts marks flow are =
     let from : FlowReads bytes options (body_point options bytes) found new = subst
     (λ (p : Point). FlowReads bytes options p found new) starts flow in
     ap (λ (l : List Event). mark ++ l) (are ∙ resolved-are options bytes built small found new from)
     ∙ ap (λ (l : List Event). l ++ listed bytes (tabled_groups options bytes (groups (rows_of options bytes)))) marks
-    ∙ front-listed options bytes
+    ∙ front-listed options bytes built small
 
--- What is known of the block list of a text, which has these places, and of what the plain layer reads of it.
+-- What is known of the exact list of a text, which has these places, and of what the plain layer reads of it.
 pub record HasBlocks (options : ParseOptions) (bytes : List ℕ) : Type 0 where
-  pub list : IsBlockList bytes (block_list options bytes)
-  pub covers : Covers first_point (pieces (block_list options bytes)) (end_point bytes)
-  pub spells : spelled (block_list options bytes) bytes ≡ tree options bytes
-  pub outlined : IsOutlined (plain_read bytes (block_list options bytes)) bytes
-  pub empty : bytes ≡ [] → block_list options bytes ≡ []
+  pub list : IsBlockList bytes (exact options bytes)
+  pub covers : Covers first_point (pieces (exact options bytes)) (end_point bytes)
+  pub spells : spelled (exact options bytes) bytes ≡ tree options bytes
+  pub outlined : IsOutlined (plain_read bytes (exact options bytes)) bytes
+  pub empty : bytes ≡ [] → exact options bytes ≡ []
 
 pub has-blocks : (options : ParseOptions) (bytes : List ℕ) → IsWithoutMdx options → IsUtf8 bytes →
-    length bytes < 2 ^ 61 → are_placed bytes (block_list options bytes) ≡ true → HasBlocks options bytes
+    length bytes < 2 ^ 61 → are_placed bytes (exact options bytes) ≡ true → HasBlocks options bytes
 has-blocks options bytes built utf8 small placed =
     let p : Point = body_point options bytes in
     let lines : List (List ℕ) = lines_of options bytes in
@@ -273,8 +278,8 @@ has-blocks options bytes built utf8 small placed =
     let spells : spelled events bytes ≡ with_frontmatter begins.block (body_of options bytes p) =
     front-spelled bytes begins.block p front body begins.fronted (rows-outer options bytes p lines rows built are)
     ∙ ap (with_frontmatter begins.block) shows in
-    let same : listed bytes blocks ≡ block_list options bytes = block_list-is options bytes in
-    let list : IsBlockList bytes (block_list options bytes) = subst (IsBlockList bytes) same
+    let same : listed bytes blocks ≡ exact options bytes = blocks-exact options bytes built small in
+    let list : IsBlockList bytes (exact options bytes) = subst (IsBlockList bytes) same
     (listed-blocks bytes blocks
     (blocks-unlisted options bytes built small
     (sym (listed-placed bytes bytes blocks) ∙ ap (are_placed bytes) same ∙ placed))) in
@@ -285,9 +290,9 @@ has-blocks options bytes built utf8 small placed =
           (listed-covers bytes blocks (blocks-cover options bytes p front lines rows part.stretch.tiled are));
       spells =
           sym
-          (spelled-filled bytes (block_list options bytes)
-          (together (plain_lists bytes (parts (block_list options bytes)))) list.chunks
-          (plain-inline bytes (parts (block_list options bytes))))
+          (spelled-filled bytes (exact options bytes)
+          (together (plain_lists bytes (parts (exact options bytes)))) list.chunks
+          (plain-inline bytes (parts (exact options bytes))))
           ∙ ap (λ (l : List Event). spelled l bytes) (sym (read-is options bytes built small))
           ∙ listed-spelled bytes events stand ∙ ap grouped spells
           ∙ fronts-grouped begins.block (body_of options bytes p) begins.kind

@@ -23,7 +23,7 @@ use Rattle.md_outline.specs.Outlined.{IsOutlined}
 use Rattle.md_wrap.specs.Footnoted.{NestsInFootnote, footnoted}
 pub use Rattle.md_meaning.specs.Wrapped.{IsItemable, IsQuotable, IsSmall}
 pub use Rattle.md_row_steps.specs.WithoutMdx.{IsWithoutMdx}
-use Rattle.md_rows.specs.BlockList.{block_list}
+use Rattle.md_exact.specs.Blocks.{exact}
 use Rattle.md_frame.specs.ReadsPlain.{reads_plain}
 
 -- What is known of a text that was read with an inline layer, whatever it is: its events nest, stand at its points,
@@ -51,27 +51,27 @@ pub record IsRead (reads : Document → Part → List Event → Type 0) (text : 
   -- each text part
   pub events_are : Substituted wants_text
       (λ content chunks answer. reads (document_of state) (record { kind = text_kind content; chunks = chunks }) answer)
-      [] 0 (block_list options text) events
+      [] 0 (exact options text) events
   -- every byte is accounted for: what stands in the place of each chunk covers it,
   pub tiles : Tiles (reads (document_of state)) text events
-  pub blocks_are : tiles.blocks ≡ block_list options text
+  pub blocks_are : tiles.blocks ≡ exact options text
   -- and the innermost pairs of all events lie side by side
   pub covers : Covers first_point (pieces events) (end_point text)
   -- so every byte stands in a piece that says what it is, and no block holds bytes of its own
   pub held : (index : ℕ) → index < length text → Holds text (pieces tiles.blocks) index
-  -- `outline` shows that tree
-  pub outlined : IsOutlined events text
   -- the labels of its definitions, in their normal forms and in the order of the text, repeats kept, and those of its
   -- footnote definitions
   pub definitions : map string_bytes state.definitions.items ≡ (labels (spelled events text)).definitions
   pub footnotes : map string_bytes state.gfm_footnote_definitions.items ≡ (labels (spelled events text)).footnotes
+  -- what `outline` requires of the events; nothing else needs it
+  pub outlined : IsOutlined events text
 
 -- What is known of a text that was read with the plain layer.
 pub record IsParsed (text : List ℕ) (options : ParseOptions) (events : List Event) (state : ParseState) : Type 0 where
   pub read : IsRead (λ document part answer. reads_plain document.bytes part answer) text options events state
   -- one for one, the events are those of the lines of the text, with what the plain layer reads in the place of each
   -- chunk
-  pub events_are : events ≡ plain_read text (block_list options text)
+  pub events_are : events ≡ plain_read text (exact options text)
   -- each part stands where the grammar has it, with what it must hold
   pub grammar : keeps_grammar plain_text events ≡ true
   -- each piece is over what its name says, and no block is a piece
