@@ -1,8 +1,6 @@
 -- Small texts of leaf blocks, each with its exact list.
-use Rattle.std.proofs.Common.{◌≡◌, List, ◌++◌, refl}
+use Rattle.std.proofs.Common.{◌≡◌, refl}
 use Rattle.md_engine.specs.declared.configuration.TheConstants.ParseOptions as given
-use Rattle.md_engine.specs.declared.event.Event.{Event}
-use Rattle.md_engine.specs.declared.event.Name.TheVariants as n
 use Rattle.md_meaning.specs.Html.{begins_raw, begins_basic, after_value, after_assignment, after_attribute}
 use Rattle.md_meaning.specs.Html.{ends_opening, begins_complete, kind_after, html_kind, html_ends, is_raw_name}
 use Rattle.md_meaning.specs.Html.{is_basic_name, is_raw_end}
@@ -18,58 +16,14 @@ use Rattle.md_meaning.specs.Containers.{opens_footnote}
 use Rattle.md_meaning.specs.Leaves.{break_at, heading_at, code_at, code_goes_on, fence_at, fence_goes_on, html_at}
 use Rattle.md_meaning.specs.Leaves.{html_goes_on, starts, table_goes_on, underline_depth, underlined, table_at}
 use Rattle.md_meaning.specs.Step.{fresh_line, text_line, all_continued, stopped}
-use Rattle.md_seam.specs.Events.Nested.{around, pair}
 use Rattle.md_exact.specs.Blocks.{exact}
-use Rattle.md_seam.proofs.EventRowParts.{at, chunk, string_chunk}
 use Rattle.md_seam.proofs.EventRows.{empty_text, empty_events, blank_text, blank_events, mark_text, mark_events}
-use Rattle.md_seam.proofs.EventRows.{paragraph_text, break_text, break_events, heading_text, heading_events}
-use Rattle.md_seam.proofs.EventRows.{empty_heading_text, empty_heading_events, underlined_text, underlined_events}
-use Rattle.md_seam.proofs.EventRows.{fence_text, fence_events, open_fence_text, open_fence_events, code_text}
-use Rattle.md_seam.proofs.EventRows.{code_events, html_text, math_text, math_events, frontmatter_text}
-use Rattle.md_seam.proofs.EventRows.{frontmatter_events, empty_parts_text, empty_parts_events, empty_lines_text}
-use Rattle.md_seam.proofs.EventRows.{table_text, table_events}
-
--- "  a\n b \n"
-abbrev paragraph_events : List Event
-paragraph_events =
-    around n.Paragraph (at 1 1 0) (at 2 4 7)
-    (chunk (at 1 1 0) (at 2 1 4)
-    ++ chunk (at 2 1 4) (at 2 4 7))
-    ++ pair n.LineEnding (at 2 4 7) (at 3 1 8)
-
--- " <?\n\n x\n"
-abbrev html_events : List Event
-html_events =
-    around n.HtmlFlow (at 1 1 0) (at 4 1 8)
-    (pair n.HtmlFlowData (at 1 1 0) (at 1 4 3)
-    ++ pair n.LineEnding (at 1 4 3) (at 2 1 4)
-    ++ pair n.LineEnding (at 2 1 4) (at 3 1 5)
-    ++ pair n.HtmlFlowData (at 3 1 5) (at 3 3 7)
-    ++ pair n.LineEnding (at 3 3 7) (at 4 1 8))
-
--- "[\n a]: b '\n c'"
-abbrev empty_lines_events : List Event
-empty_lines_events =
-    around n.Definition (at 1 1 0) (at 3 4 14)
-    (around n.DefinitionLabel (at 1 1 0) (at 2 4 5)
-    (pair n.DefinitionLabelMarker (at 1 1 0) (at 1 2 1)
-    ++ around n.DefinitionLabelString (at 1 2 1) (at 2 3 4)
-    (string_chunk (at 1 2 1) (at 2 1 2)
-    ++ string_chunk (at 2 1 2) (at 2 3 4))
-    ++ pair n.DefinitionLabelMarker (at 2 3 4) (at 2 4 5))
-    ++ pair n.DefinitionMarker (at 2 4 5) (at 2 5 6)
-    ++ pair n.SpaceOrTab (at 2 5 6) (at 2 6 7)
-    ++ around n.DefinitionDestination (at 2 6 7) (at 2 7 8)
-    (around n.DefinitionDestinationRaw (at 2 6 7) (at 2 7 8)
-    (around n.DefinitionDestinationString (at 2 6 7) (at 2 7 8)
-    (string_chunk (at 2 6 7) (at 2 7 8))))
-    ++ pair n.SpaceOrTab (at 2 7 8) (at 2 8 9)
-    ++ around n.DefinitionTitle (at 2 8 9) (at 3 4 14)
-    (pair n.DefinitionTitleMarker (at 2 8 9) (at 2 9 10)
-    ++ around n.DefinitionTitleString (at 2 9 10) (at 3 3 13)
-    (string_chunk (at 2 9 10) (at 3 1 11)
-    ++ string_chunk (at 3 1 11) (at 3 3 13))
-    ++ pair n.DefinitionTitleMarker (at 3 3 13) (at 3 4 14)))
+use Rattle.md_seam.proofs.EventRows.{paragraph_text, paragraph_events, break_text, break_events, heading_text}
+use Rattle.md_seam.proofs.EventRows.{heading_events, empty_heading_text, empty_heading_events, underlined_text}
+use Rattle.md_seam.proofs.EventRows.{underlined_events, fence_text, fence_events, open_fence_text, open_fence_events}
+use Rattle.md_seam.proofs.EventRows.{code_text, code_events, html_text, html_events, math_text, math_events}
+use Rattle.md_seam.proofs.EventRows.{frontmatter_text, frontmatter_events, empty_parts_text, empty_parts_events}
+use Rattle.md_seam.proofs.EventRows.{empty_lines_text, empty_lines_events, table_text, table_events}
 
 record AreLeaves : Type 0 where
   empty : exact given.ALL empty_text ≡ empty_events

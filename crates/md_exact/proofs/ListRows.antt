@@ -21,17 +21,7 @@ use Rattle.md_meaning.specs.Step.{fresh_line, text_line, all_continued, stopped}
 use Rattle.md_seam.specs.Events.Nested.{around, pair}
 use Rattle.md_exact.specs.Blocks.{exact}
 use Rattle.md_seam.proofs.EventRowParts.{at, within_tab, chunk, string_chunk}
-use Rattle.md_seam.proofs.ContainerRows.{blank_code_text, blank_code_events, cut_html_text}
-
--- ">\t<a>"
-abbrev cut_html_events : List Event
-cut_html_events =
-    around n.BlockQuote (at 1 1 0) (at 1 8 5)
-    (around n.BlockQuotePrefix (at 1 1 0) (within_tab 1 3 1 1)
-    (pair n.BlockQuoteMarker (at 1 1 0) (at 1 2 1)
-    ++ pair n.SpaceOrTab (at 1 2 1) (within_tab 1 3 1 1))
-    ++ around n.HtmlFlow (within_tab 1 3 1 1) (at 1 8 5)
-    (pair n.HtmlFlowData (within_tab 1 3 1 1) (at 1 8 5)))
+use Rattle.md_seam.proofs.ContainerRows.{blank_code_text, blank_code_events, cut_html_text, cut_html_events}
 
 -- "- a\n- b\n\n+ c\n+\n\n+ d"
 abbrev two_lists_text : List ℕ

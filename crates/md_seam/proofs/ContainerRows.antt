@@ -489,8 +489,7 @@ cut_html_events =
     (pair n.BlockQuoteMarker (at 1 1 0) (at 1 2 1)
     ++ pair n.SpaceOrTab (at 1 2 1) (within_tab 1 3 1 1))
     ++ around n.HtmlFlow (within_tab 1 3 1 1) (at 1 8 5)
-    (pair n.HtmlFlowData (within_tab 1 3 1 1) (at 1 5 2)
-    ++ pair n.HtmlFlowData (at 1 5 2) (at 1 8 5)))
+    (pair n.HtmlFlowData (within_tab 1 3 1 1) (at 1 8 5)))
 
 abbrev pub cut_html_tree : t.Blocks
 cut_html_tree = t.More (t.Quote None (t.More (t.Html (line 2 (codes "<a>") ∷ [])) t.End)) t.End

@@ -63,9 +63,8 @@ paragraph_text = codes "  a" ++ 10 ∷ codes " b " ++ 10 ∷ []
 
 abbrev pub paragraph_events : List Event
 paragraph_events =
-    pair n.SpaceOrTab (at 1 1 0) (at 1 3 2)
-    ++ around n.Paragraph (at 1 3 2) (at 2 4 7)
-    (chunk (at 1 3 2) (at 2 1 4)
+    around n.Paragraph (at 1 1 0) (at 2 4 7)
+    (chunk (at 1 1 0) (at 2 1 4)
     ++ chunk (at 2 1 4) (at 2 4 7))
     ++ pair n.LineEnding (at 2 4 7) (at 3 1 8)
 
@@ -237,8 +236,7 @@ html_text = codes " <?" ++ 10 ∷ 10 ∷ codes " x" ++ 10 ∷ []
 abbrev pub html_events : List Event
 html_events =
     around n.HtmlFlow (at 1 1 0) (at 4 1 8)
-    (pair n.HtmlFlowData (at 1 1 0) (at 1 2 1)
-    ++ pair n.HtmlFlowData (at 1 2 1) (at 1 4 3)
+    (pair n.HtmlFlowData (at 1 1 0) (at 1 4 3)
     ++ pair n.LineEnding (at 1 4 3) (at 2 1 4)
     ++ pair n.LineEnding (at 2 1 4) (at 3 1 5)
     ++ pair n.HtmlFlowData (at 3 1 5) (at 3 3 7)
@@ -357,8 +355,7 @@ empty_lines_events =
     (pair n.DefinitionTitleMarker (at 2 8 9) (at 2 9 10)
     ++ around n.DefinitionTitleString (at 2 9 10) (at 3 3 13)
     (string_chunk (at 2 9 10) (at 3 1 11)
-    ++ pair n.SpaceOrTab (at 3 1 11) (at 3 2 12)
-    ++ string_chunk (at 3 2 12) (at 3 3 13))
+    ++ string_chunk (at 3 1 11) (at 3 3 13))
     ++ pair n.DefinitionTitleMarker (at 3 3 13) (at 3 4 14)))
 
 abbrev pub empty_lines_tree : t.Blocks
