@@ -1,14 +1,13 @@
 -- The lines of the exact list are aligned with the rows of a text, from any line on.
-use Rattle.std.proofs.Common.{◌≡◌, ℕ, ◌-◌, Bool, true, false, List, [], ◌∷◌, refl, ap, ap₂, sym, ◌∙◌}
+use Rattle.std.proofs.Common.{◌≡◌, ℕ, Bool, true, false, List, [], ◌∷◌, refl, ap, ap₂, sym, ◌∙◌}
 use Rattle.std.specs.Prelude.{◌&&◌, ◌||◌, not}
 use Rattle.md_engine.specs.declared.configuration.ParseOptions.{ParseOptions}
-use Rattle.md_engine.specs.declared.event.Point.{Point}
 use Rattle.md_engine.specs.declared.tokenizer.held_leaf.HeldLeaf.{HeldLeaf}
 use Rattle.md_meaning.specs.Rest.{Rest}
 use Rattle.md_meaning.specs.State.{Container, Leaf, NoLeaf, OpenCode, OpenFence, OpenHtml, OpenParagraph, OpenTable}
 use Rattle.md_meaning.specs.State.{Path, spot}
 use Rattle.md_meaning.specs.Step.{step}
-use Rattle.md_exact.specs.Blocks.{goes_on as goes_on_role, grouped}
+use Rattle.md_exact.specs.Blocks.{goes_on as goes_on_role}
 use Rattle.md_exact.specs.Places.{TextLine, whole}
 use Rattle.md_exact.specs.Rows.{rows_of}
 use Rattle.md_frame.specs.Change.{against, is_none, others_of}
@@ -19,17 +18,14 @@ use Rattle.md_literal_rooms.specs.Leaf.CodeIndented.{is_code}
 use Rattle.md_registry.specs.Registry.{leaf}
 use Rattle.md_registry.proofs.Registry.{laws}
 use Rattle.md_rows.specs.Fronted.{Prefixed, contained, prefixes_behind, prefixes_on}
-use Rattle.md_rows.specs.Rows.{groups, line_kind}
-use Rattle.md_rows.specs.Stands.{IsPlain, containers_of, still_of}
+use Rattle.md_rows.specs.Rows.{line_kind}
+use Rattle.md_rows.specs.Stands.{containers_of, still_of}
 use Rattle.md_rows.proofs.FurtherSpan.{met-none}
 use Rattle.md_rows.proofs.KindLemmas.{kind-starts}
-use Rattle.md_rows.proofs.RowFacts.{AreRows}
 use Rattle.md_exact_roles.proofs.ExactRoles.{AreMet, EndsTo, IsMet, first-role, meets-leaf}
 use Rattle.md_exact_roles.proofs.GroupRuns.{goes-role, goes_by, is_open_code}
-use Rattle.md_exact_roles.proofs.GroupsMatch.{AreAligned, FirstBelow, Fits, GroupsMatch, IsBelow, Pairs, goes_kind}
-use Rattle.md_exact_roles.proofs.GroupsMatch.{groups-match}
+use Rattle.md_exact_roles.proofs.GroupsMatch.{AreAligned, FirstBelow, Fits, IsBelow, Pairs, goes_kind}
 use Rattle.md_exact_roles.proofs.RowRoles.{MeetsLeaf, in_code}
-use Rattle.md_exact_roles.proofs.RowsMet.{HaveBytes, KnowsStep, rows-met}
 use Rattle.md_exact_roles.proofs.TextRuns.{text-goes}
 
 -- What a line meets where no text is open is no text.
@@ -128,12 +124,3 @@ aligned options bytes Fit p (line ∷ lines) (row ∷ rows) are pairs =
       first-below options bytes after row lines rows is.behind are.1 are.2,
       aligned options bytes Fit after lines rows are.2 pairs.1,
     )
-
--- The lines of a text are put together as its rows are grouped.
-pub rows-match : (options : ParseOptions) (bytes : List ℕ) (Fit : Fits) (p : Path) (q : Point) (lines : List TextLine)
-    (owns : List (List ℕ)) (rows : List Row) → KnowsStep options → IsPlain p → HaveBytes (q.column - 1) lines owns →
-    AreRows options bytes (containers_of p) (still_of p) q owns rows → Pairs Fit (rows_of options p lines) rows →
-    GroupsMatch Fit (groups rows) (grouped (rows_of options p lines))
-rows-match options bytes Fit p q lines owns rows knows plain have are pairs =
-    groups-match options bytes Fit (rows_of options p lines) rows
-    (aligned options bytes Fit p lines rows (rows-met options bytes p q lines owns rows knows plain have are) pairs)

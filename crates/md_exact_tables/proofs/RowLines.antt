@@ -9,22 +9,17 @@ use Rattle.md_engine.specs.declared.event.Event.{Event}
 use Rattle.md_engine.specs.declared.event.Name.{Name}
 use Rattle.md_engine.specs.declared.event.Name.TheVariants as n
 use Rattle.md_engine.specs.declared.event.Point.{Point}
-use Rattle.md_engine.specs.declared.tokenizer.Scratch.{Scratch}
 use Rattle.md_meaning.specs.Bytes.{begins, is_end}
 use Rattle.md_meaning.specs.Rest.{Rest, behind_indent, is_blank, run_len, trim_start}
 use Rattle.md_seam.specs.Events.Nested.{around}
 use Rattle.md_seam.specs.Events.Places.{past_text}
 use Rattle.md_seam.proofs.InlineLemmas.{past_text-append}
 use Rattle.md_tables.specs.DelimiterCells.{delimiter_events, delimiter_runs, value_part}
-use Rattle.md_tables.specs.DelimiterRule.{Apart, Front, fits}
+use Rattle.md_tables.specs.DelimiterRule.{Apart, fits}
 use Rattle.md_tables.specs.RowCells as cells
 use Rattle.md_tables.specs.RowCells.{Cells, Divides, Ends, Shut, line_cells, row_by, row_events, unread_text}
 use Rattle.md_tables.specs.RowCells.{white_front}
-use Rattle.md_tables.specs.TableLines as table
-use Rattle.md_tables.specs.TableLines.{row_celled}
-use Rattle.md_tables.specs.declared.cells.RowKind.TheVariants as kind
 use Rattle.md_tables.proofs.RowBytes.{front-whole}
-use Rattle.md_tables.proofs.TableRows.{delimiter_row-celled, text-celled}
 use Rattle.md_frame.specs.LineColumns.{part_over}
 use Rattle.md_table_rooms.proofs.GfmTable.DelimiterRowCells.{Aligned, AreDelimiters, IsValue, aligned, values-fit}
 use Rattle.md_exact_tables.proofs.DelimiterPieces.{colons, marker, value-runs, value_events}
@@ -224,15 +219,3 @@ pub delimiter-row : (line : TextLine) (r : Rest) (p : Point) → BeginsAt line r
 delimiter-row line r p at dark are =
     row-cells n.GfmTableDelimiterRow n.GfmTableDelimiterCell cell_dashes value_part IsValue dashes-inner line r p at
     dark (values-fit (rest_bytes r) are)
-
--- So they are what the walk that puts cells into the runs of a line gives for it.
-pub text_row-walked : (line : TextLine) (r : Rest) (p : Point) → BeginsAt line r p →
-    is_blank (rest_bytes r) ≡ false → exact.text_row line r ≡ row_celled kind.Text (table.text_row (rest_bytes r) p)
-text_row-walked line r p at dark = text-row line r p at dark ∙ sym (text-celled (rest_bytes r) p dark)
-
-pub delimiter_row-walked : (line : TextLine) (r : Rest) (p : Point) (s : Scratch) → BeginsAt line r p →
-    is_blank (rest_bytes r) ≡ false → AreDelimiters (rest_bytes r) →
-    fits Front s (trim_start (rest_bytes r)) ≡ true →
-    exact.delimiter_row line r ≡ row_celled kind.Delimiter (table.delimiter_row (rest_bytes r) p)
-delimiter_row-walked line r p s at dark are fit =
-    delimiter-row line r p at dark are ∙ sym (delimiter_row-celled (rest_bytes r) p s fit)
