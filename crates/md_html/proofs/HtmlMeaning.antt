@@ -61,38 +61,14 @@ html_steps B feed its.BlankLineBefore w has s c at = line.blank_line_before_mean
 -- what holds at each state is a part of what its attempts need
 holds-at : (state : HtmlState) (x : Position) (K : After) → html_ready (n.HtmlFlow state) x K →
     HtmlInvariant (n.HtmlFlow state) x
-holds-at its.Start x K at = at.0
-holds-at its.Indent x K at = at.0
-holds-at its.Before x K at = at.0
-holds-at its.Open x K at = at.0
-holds-at its.DeclarationOpen x K at = at.0
-holds-at its.CommentOpenInside x K at = at.0
 holds-at its.CdataOpenInside x K at = (at.0, at.1.0)
-holds-at its.TagCloseStart x K at = at.0
 holds-at its.TagName x K at = (at.0, at.1, at.2, at.3.0)
-holds-at its.BasicSelfClosing x K at = at.0
-holds-at its.CompleteClosingTagAfter x K at = at.0
-holds-at its.CompleteAttributeNameBefore x K at = at.0
-holds-at its.CompleteAttributeName x K at = at.0
-holds-at its.CompleteAttributeNameAfter x K at = at.0
-holds-at its.CompleteAttributeValueBefore x K at = at.0
-holds-at its.CompleteAttributeValueQuoted x K at = at.0
-holds-at its.CompleteAttributeValueUnquoted x K at = at.0
-holds-at its.CompleteAttributeValueQuotedAfter x K at = at.0
-holds-at its.CompleteEnd x K at = at.0
-holds-at its.CompleteAfter x K at = at.0
-holds-at its.Continuation x K at = at.0
-holds-at its.ContinuationStart x K at = at.0
-holds-at its.ContinuationStartNonLazy x K at = at.0
-holds-at its.ContinuationBefore x K at = at.0
 holds-at its.ContinuationCommentInside x K at = (at.0, at.1.0)
 holds-at its.ContinuationRawTagOpen x K at = (at.0, at.1.0)
 holds-at its.ContinuationRawEndTag x K at = (at.0, at.1.0, at.1.1.0)
 holds-at its.ContinuationCdataInside x K at = (at.0, at.1.0)
 holds-at its.ContinuationDeclarationInside x K at = (at.0, at.1.0)
-holds-at its.ContinuationClose x K at = at.0
-holds-at its.ContinuationAfter x K at = at.0
-holds-at its.BlankLineBefore x K at = at.0
+holds-at _ x K at = at.0
 
 pub html_means : (B : Behaviour) (feed : Feed) (state : HtmlState) (w : World) (K : After) →
     HasHtml B w.setting.bytes w.setting.options → Sees feed w → w.current ≡ looks w →

@@ -190,13 +190,8 @@ opens-some kind line cells h is e =
   where
     by : (kind : HtmlKind) → interrupts kind ≡ true →
         opens_by (allowed h.flags.leaf (Some kind)) line cells h ≡ closes (left kind line) cells h
-    by Raw is = refl
-    by Comment is = refl
-    by Instruction is = refl
-    by Declaration is = refl
-    by Cdata is = refl
-    by Basic is = refl
     by Complete is = cc
+    by _ is = refl
 
 -- a complete tag, or none
 pub opens-complete : (x : Bool) (line : List ℕ) (cells : List Cell) (h : Here) →

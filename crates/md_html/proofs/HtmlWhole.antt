@@ -90,13 +90,9 @@ html-took options kind cells h is some =
 pub ends-kind : (kind : HtmlKind) (line : List ℕ) → ends_at_blank kind ≡ false →
     ends_by (stop_byte kind) line ≡ html_ends kind line
 unfolding ends_by html_ends
-ends-kind Raw line e = refl
-ends-kind Comment line e = refl
-ends-kind Instruction line e = refl
-ends-kind Declaration line e = refl
-ends-kind Cdata line e = refl
 ends-kind Basic line e = cc
 ends-kind Complete line e = cc
+ends-kind _ line e = refl
 
 -- and no line holds the end of one that ends in front of a blank line
 pub ends-never : (kind : HtmlKind) (line : List ℕ) → ends_at_blank kind ≡ true → html_ends kind line ≡ false
@@ -109,12 +105,7 @@ ends-never _ line e = cc
 pub ends-empty : (kind : HtmlKind) → html_ends kind [] ≡ false
 unfolding html_ends
 ends-empty Raw = refl
-ends-empty Comment = refl
-ends-empty Instruction = refl
-ends-empty Declaration = refl
-ends-empty Cdata = refl
-ends-empty Basic = refl
-ends-empty Complete = refl
+ends-empty _ = refl
 
 -- so what is open behind a line stays open where no end stands on it, as in one of the last two kinds, or an empty one
 keeps-front : (leaf : HeldLeaf) (line : List ℕ) → is_html leaf ≡ true → ends_in_front leaf ≡ true →
