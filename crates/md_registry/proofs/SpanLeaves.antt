@@ -19,7 +19,7 @@ use Rattle.md_frame.specs.HeldLeaf.{kind_of_leaf, left_by, takes_lazy}
 use Rattle.md_frame.specs.LineLeaf.{LineLeaf}
 use Rattle.md_literal_rooms.specs.Leaf.CodeIndented.{code_further, code_leaf, is_code}
 use Rattle.md_literal_rooms.specs.Leaf.Fence.{fence_leaf, opening_at}
-use Rattle.md_literal_rooms.specs.Leaf.FenceFurther.{fence_further, opening_of}
+use Rattle.md_literal_rooms.specs.Leaf.FenceFurther.{fence_further}
 use Rattle.md_table_rooms.specs.Leaf.GfmTable.{may_be_table}
 use Rattle.md_leaf_rooms.specs.Leaf.HeadingAtx.{heading_leaf}
 use Rattle.md_frame.specs.LeafName.{CodeFurther, CodeIndented, Fence, FenceFurther, HeadingAtx, HeadingSetext, GfmTable}
@@ -38,7 +38,6 @@ use Rattle.md_literal_rooms.proofs.HtmlSpan.Laws.{html-span}
 use Rattle.md_meaning.specs.Html.{HtmlKind, html_ends}
 use Rattle.md_html.specs.Html.{ends_in_front, is_html}
 use Rattle.md_html.specs.HtmlLine as rule
-use Rattle.md_html.specs.HtmlRule.{left}
 use Rattle.md_literal_rooms.specs.Leaf.HtmlFlow.{begins_as, html_further, html_leaf, kind_begun}
 use Rattle.md_leaf_rooms.proofs.HeadingAtx.Found.{heading-shallow}
 use Rattle.md_leaf_rooms.proofs.HeadingSetext.Span.{setext-begins, setext-span}
@@ -114,57 +113,18 @@ leaf-begun ThematicBreak options on r h begins =
     record { holds = refl; built = tt; shallow = λ bs shallow. shallow-then bs Break shallow refl }
 leaf-begun GfmTable options on r h begins = absurd (table-begins options on r h begins)
 
--- after a line of a fence no other leaf of several lines is open,
-fence-left : (t : HeldLeaf → Bool) (options : ParseOptions) (on : HeldLeaf) (r : Rest) → t held_leaf.None ≡ false →
-    (is_fence on ≡ true → t on ≡ false) → t (fence_further.holds options on r) ≡ true → ⊥
-fence-left t options on r none other e = go (is_fence on) (closes options (opening_of on) r) refl e
-  where
-    go : (x y : Bool) → is_fence on ≡ x → t (cond x (cond y held_leaf.None on) held_leaf.None) ≡ true → ⊥
-    go false y f e = let bad : true ≡ false = sym e ∙ none in cc
-    go true true f e = let bad : true ≡ false = sym e ∙ none in cc
-    go true false f e = let bad : true ≡ false = sym e ∙ other f in cc
+-- after a line of fenced code or of HTML no other leaf of several lines is open,
+none-left : (t : HeldLeaf → Bool) (x y : Bool) (on : HeldLeaf) → t held_leaf.None ≡ false → t on ≡ false →
+    t (cond x (cond y held_leaf.None on) held_leaf.None) ≡ true → ⊥
+none-left t true false on none other e = let bad : true ≡ false = sym e ∙ other in cc
+none-left t true true on none other e = let bad : true ≡ false = sym e ∙ none in cc
+none-left t false y on none other e = let bad : true ≡ false = sym e ∙ none in cc
 
-fence-not_code : (on : HeldLeaf) → is_fence on ≡ true → is_code on ≡ false
-fence-not_code held_leaf.Code f = cc
-fence-not_code _ f = refl
-
-fence-not_html : (on : HeldLeaf) → is_fence on ≡ true → is_html on ≡ false
-fence-not_html (held_leaf.Html kind) f = cc
-fence-not_html _ f = refl
-
--- nor is one after a line of HTML
-abbrev NotHtml : (HeldLeaf → Bool) → Type 0
-NotHtml t = (t held_leaf.None ≡ false) × ((kind : HtmlKind) → t (held_leaf.Html kind) ≡ false)
-
-kind-left : (t : HeldLeaf → Bool) (kind : HtmlKind) (line : List ℕ) → NotHtml t → t (left kind line) ≡ true → ⊥
-kind-left t kind line not_html e = go (html_ends kind line) e
-  where
-    go : (x : Bool) → t (cond x held_leaf.None (held_leaf.Html kind)) ≡ true → ⊥
-    go true e = let bad : true ≡ false = sym e ∙ not_html.0 in cc
-    go false e = let bad : true ≡ false = sym e ∙ not_html.1 kind in cc
-
-html-left : (t : HeldLeaf → Bool) (kind : Option HtmlKind) (line : List ℕ) → NotHtml t →
-    t (rule.left_by kind line) ≡ true → ⊥
-html-left t None line not_html e = let bad : true ≡ false = sym e ∙ not_html.0 in cc
-html-left t (Some kind) line not_html e = kind-left t kind line not_html e
-
-further-left : (t : HeldLeaf → Bool) (on : HeldLeaf) (line : List ℕ) → NotHtml t → t (rule.left_of on line) ≡ true → ⊥
-further-left t (held_leaf.Html kind) line not_html e = kind-left t kind line not_html e
-further-left t _ line not_html e = let bad : true ≡ false = sym e ∙ not_html.0 in cc
-
-code-not_html : NotHtml is_code
-code-not_html = (refl, λ kind. refl)
-
-fence-none_html : NotHtml is_fence
-fence-none_html = (refl, λ kind. refl)
-
-table-not_html : NotHtml may_be_table
-table-not_html = (refl, λ kind. refl)
-
-fence-not_table : (on : HeldLeaf) → is_fence on ≡ true → may_be_table on ≡ false
-fence-not_table (held_leaf.Text at) f = cc
-fence-not_table held_leaf.Table f = cc
-fence-not_table _ f = refl
+html-left : (t : HeldLeaf → Bool) (kind : Option HtmlKind) (line : List ℕ) → t held_leaf.None ≡ false →
+    ((kind : HtmlKind) → t (held_leaf.Html kind) ≡ false) → t (rule.left_by kind line) ≡ true → ⊥
+html-left t None line none other e = let bad : true ≡ false = sym e ∙ none in cc
+html-left t (Some kind) line none other e =
+    none-left t true (html_ends kind line) (held_leaf.Html kind) none (other kind) e
 
 -- and no line of a leaf leaves text open, for a line might continue that lazily
 text-lazy : (on : HeldLeaf) → is_text on ≡ true → takes_lazy on ≡ true
@@ -174,18 +134,24 @@ text-lazy _ e = cc
 -- a line that continues what a leaf has left open is one of the leaf that takes its further lines,
 pub further-is : (l m : LeafName) (options : ParseOptions) (on : HeldLeaf) (r : Rest) →
     (leaf m).further ((leaf l).holds options on r) ≡ true → m ≡ further_of l
-further-is FenceFurther CodeFurther options on r e = absurd (fence-left is_code options on r refl (fence-not_code on) e)
+further-is FenceFurther CodeFurther options (held_leaf.Fence m size indent) r e =
+    absurd (none-left is_code _ _ (held_leaf.Fence m size indent) refl refl e)
+further-is FenceFurther HtmlFurther options (held_leaf.Fence m size indent) r e =
+    absurd (none-left is_html _ _ (held_leaf.Fence m size indent) refl refl e)
+further-is FenceFurther GfmTable options (held_leaf.Fence m size indent) r e =
+    absurd (none-left may_be_table _ _ (held_leaf.Fence m size indent) refl refl e)
 further-is HtmlFlow CodeFurther options on r e =
-    absurd (html-left is_code (kind_begun r) r.bytes code-not_html e)
-further-is HtmlFurther CodeFurther options on r e = absurd (further-left is_code on r.bytes code-not_html e)
+    absurd (html-left is_code (kind_begun r) r.bytes refl (λ kind. refl) e)
 further-is HtmlFlow FenceFurther options on r e =
-    absurd (html-left is_fence (kind_begun r) r.bytes fence-none_html e)
-further-is HtmlFurther FenceFurther options on r e = absurd (further-left is_fence on r.bytes fence-none_html e)
-further-is FenceFurther HtmlFurther options on r e = absurd (fence-left is_html options on r refl (fence-not_html on) e)
-further-is FenceFurther GfmTable options on r e =
-    absurd (fence-left may_be_table options on r refl (fence-not_table on) e)
-further-is HtmlFlow GfmTable options on r e = absurd (html-left may_be_table (kind_begun r) r.bytes table-not_html e)
-further-is HtmlFurther GfmTable options on r e = absurd (further-left may_be_table on r.bytes table-not_html e)
+    absurd (html-left is_fence (kind_begun r) r.bytes refl (λ kind. refl) e)
+further-is HtmlFlow GfmTable options on r e =
+    absurd (html-left may_be_table (kind_begun r) r.bytes refl (λ kind. refl) e)
+further-is HtmlFurther CodeFurther options (held_leaf.Html kind) r e =
+    absurd (none-left is_code true (html_ends kind r.bytes) (held_leaf.Html kind) refl refl e)
+further-is HtmlFurther FenceFurther options (held_leaf.Html kind) r e =
+    absurd (none-left is_fence true (html_ends kind r.bytes) (held_leaf.Html kind) refl refl e)
+further-is HtmlFurther GfmTable options (held_leaf.Html kind) r e =
+    absurd (none-left may_be_table true (html_ends kind r.bytes) (held_leaf.Html kind) refl refl e)
 further-is l HeadingSetext options on r e =
     let lazy = text-lazy ((leaf l).holds options on r) e in let none = ((laws l).not_lazy options on).1 r in cc
 further-is _ _ options on r e = cc
