@@ -24,8 +24,7 @@ use Rattle.md_registry.specs.LineFlags.{went_on}
 use Rattle.md_frame.specs.LeafName.{LeafName}
 use Rattle.md_frame.proofs.FromEnding.{from_ending-again, from_ending-shrinks}
 use Rattle.md_frame.proofs.LeafLaws.{Shrinks, cond-shrinks}
-use Rattle.md_registry.proofs.Registry.{laws}
-use Rattle.md_registry.proofs.RegistryContainers.{begins-shortens, continues-shortens}
+use Rattle.md_registry.proofs.Registry.{container-laws, laws}
 use Rattle.md_containers.proofs.Shorter.{Shortens}
 
 -- Blank lines and content: a line is taken or refused.
@@ -128,7 +127,7 @@ opens_of-same : (options : ParseOptions) (f g a b : Rule) (ks : List ContainerKi
 opens_of-same options f g a b [] cells h agree same = same h
 opens_of-same options f g a b (k ∷ ks) cells h agree same =
     tried-shorter (length cells) f g agree (begins_at options k cells (asking_here (container_of k) h)) _ _
-    (begins-shortens options k cells (asking_here (container_of k) h))
+    ((container-laws k).begins_shorter options cells (asking_here (container_of k) h))
     (λ s t. opens_of-same options f g a b ks cells (record h { scratch = s; flags = t }) agree same)
 
 new_from-same : (options : ParseOptions) (f g : Rule) (n : ℕ) (cells : List Cell) (h : Here) →
@@ -182,7 +181,7 @@ existing_by-same options f g further other None cells h ends agree more = go (ba
     go false = new_of-same options f g cells h agree
 existing_by-same options f g further other (Some c) cells h ends agree more =
     tried-shorter (length cells) _ _ (λ rest k lt. more rest (record k { flags = went_on k.flags }) lt)
-    (continues_at options c.kind cells (asking_here c h)) _ _ (continues-shortens options c.kind cells (asking_here c h) ends)
+    (continues_at options c.kind cells (asking_here c h)) _ _ ((container-laws c.kind).continues_shorter options cells (asking_here c h) ends)
     (λ s t. new_of-same options f g cells (record h { scratch = s; flags = t }) agree)
 
 -- whether the line ends here or not

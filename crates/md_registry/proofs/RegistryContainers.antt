@@ -1,6 +1,6 @@
 -- The containers that flow reads, by their laws.
-use Rattle.std.proofs.Common.{◌≡◌, ℕ, ◌<◌, ◌≤◌, Bool, true, false, cond, List, [], ◌∷◌, ◌++◌, length, Option, Some, None}
-use Rattle.std.proofs.Common.{refl, sym, ap, ◌∙◌, subst}
+use Rattle.std.proofs.Common.{◌≡◌, ℕ, ◌<◌, ◌≤◌, Bool, true, false, cond, List, [], ◌∷◌, ◌++◌, length, Option, Some}
+use Rattle.std.proofs.Common.{None, refl, sym, ap, ◌∙◌, subst}
 use Rattle.std.specs.Option.{option_or}
 use Rattle.md_engine.specs.declared.configuration.ParseOptions.{ParseOptions}
 use Rattle.md_engine.specs.declared.event.Point.{Point}
@@ -8,9 +8,6 @@ use Rattle.md_engine.specs.declared.tokenizer.container.Container.{Container as 
 use Rattle.md_engine.specs.declared.tokenizer.container.name.ContainerKind.{ContainerKind}
 use Rattle.md_engine.specs.ContainerName.{name_of}
 use Rattle.md_engine.specs.Meaning.{Cell, Here}
-use Rattle.md_engine.specs.World.{container_of}
-use Rattle.md_containers.specs.Interrupts.{interrupts}
-use Rattle.md_containers.proofs.Shorter.{Shortens}
 use Rattle.md_seam.specs.Look.{first_seen}
 use Rattle.md_seam.specs.Spaces.{IsRest, ends_line}
 use Rattle.md_meaning.specs.Containers.{Taken, continues, opens}
@@ -22,25 +19,14 @@ use Rattle.md_outline.specs.HeadingDepths.{are_shallow, is_shallow}
 use Rattle.md_seam.proofs.RestCells.{past_rest, rest_cells}
 use Rattle.md_frame.specs.Passed.{Passed, passed_by, passed_over}
 use Rattle.md_frame.specs.ContainerNames.{IsOf, container_name, container_kind}
-use Rattle.md_registry.specs.Registry.{MatchesContainer, begins_at, container_rules}
-use Rattle.md_registry.specs.Registry.{continues_at, goes_at, goes_by, goes_over, openers, opens_at, opens_by}
+use Rattle.md_registry.specs.Registry.{MatchesContainer, container_rules, continues_at, goes_at, goes_by, goes_over}
+use Rattle.md_registry.specs.Registry.{openers, opens_at, opens_by}
 use Rattle.md_frame.proofs.ContainerLaws.{ByRest, IsPassed}
 use Rattle.md_frame.proofs.ContainerNames.{container-facts}
 use Rattle.md_frame.proofs.PassedFacts.{Agree, HasFurther, HasOpening}
 use Rattle.md_frame.proofs.PrefixNames.{AreFront}
 use Rattle.md_registry.proofs.Registry.{container-laws, found_by, opens-found}
 use Rattle.md_frame.proofs.RegistryRead.{HasKind, IsRead, IsReadTaken, of-read}
-
--- At the states of flow.
-
--- each takes a cell at least
-pub begins-shortens : (options : ParseOptions) (k : ContainerKind) (cells : List Cell) (h : Here) →
-    Shortens (length cells) (begins_at options k cells h)
-begins-shortens options k cells h = (container-laws k).begins_shorter options cells h
-
-pub continues-shortens : (options : ParseOptions) (k : ContainerKind) (cells : List Cell) (h : Here) →
-    ends_line (first_seen cells) ≡ false → Shortens (length cells) (continues_at options k cells h)
-continues-shortens options k cells h ends = (container-laws k).continues_shorter options cells h ends
 
 -- By the cells of a line.
 
@@ -103,14 +89,6 @@ pub goes-front : (options : ParseOptions) (c : Container) (cells : List Cell) (p
     goes_at options c cells p ≡ Some t → AreFront t.events
 goes-front options c cells p t e = (goes-passes options c cells p t e).1.front
 
--- the same of one that is tried
-pub opening-is : (options : ParseOptions) (k : ContainerKind) (interrupting : Bool) (cells : List Cell) (h : Here) →
-    IsRest h.scratch → h.flags.asked ≡ container_of k → h.flags.asked_column ≡ h.point.column →
-    interrupting ≡ interrupts h.flags →
-    begins_at options k cells h ≡ passed_by ((container_rules k).opens options interrupting cells h.point) h
-opening-is options k interrupting cells h is asked column by_flags =
-    (container-laws k).begins_is options interrupting cells h is asked column by_flags
-
 -- one that opens is of one of the kinds that are tried
 record IsOpening (cells : List Cell) (t : Passed) : Type 0 where
   kind : ContainerKind
@@ -169,20 +147,25 @@ opens-front options interrupting cells p t e = (opens-of options interrupting ce
 
 -- By the cells of a line and by its bytes.
 
+-- one that flow reads is of a kind
+read-kind : (c : Container) → IsRead c → (k : ContainerKind) × (container_kind c ≡ Some k)
+read-kind c read = go (container_kind c) refl read
+  where
+    go : (o : Option ContainerKind) → container_kind c ≡ o → HasKind o → (k : ContainerKind) × (container_kind c ≡ Some k)
+    go None e read = absurd read
+    go (Some k) e read = (k, e)
+
 -- an open container goes on by the cells where it does by the bytes
 pub goes-agrees : (options : ParseOptions) (c : Container) → IsRead c → ByRest (λ line text past r stop p.
     let cells = rest_cells line r p ++ stop in
     Agree (HasFurther line text past p (past_rest r p) stop cells) (goes_at options c cells p) (continues options c r))
-goes-agrees options c read line text past r stop p is h k short = go (container_kind c) refl read
-  where
-    cells : List Cell
-    cells = rest_cells line r p ++ stop
-
-    go : (o : Option ContainerKind) → container_kind c ≡ o → HasKind o →
-        Agree (HasFurther line text past p (past_rest r p) stop cells) (goes_by options c cells p o)
-        (continues options c r)
-    go None e read = absurd read
-    go (Some j) e read = (container-laws j).goes_agrees options c e line text past r stop p is h k short
+goes-agrees options c read line text past r stop p is h k short =
+    let cells : List Cell = rest_cells line r p ++ stop in
+    let j = read-kind c read in
+    subst
+    (λ (o : Option ContainerKind).
+    Agree (HasFurther line text past p (past_rest r p) stop cells) (goes_by options c cells p o) (continues options c r))
+    (sym j.1) ((container-laws j.0).goes_agrees options c j.1 line text past r stop p is h k short)
 
 -- a container opens by the cells where it does by the bytes
 pub opens-agrees : (options : ParseOptions) (interrupting : Bool) → ByRest (λ line text past r stop p.
@@ -237,22 +220,12 @@ opens-read options interrupting r =
 pub over-empty : (options : ParseOptions) (c : Container) (column : ℕ) → IsRead c →
     (x : Bool)
     × (continues options c (rest_at column []) ≡ cond x (Some (record { container = c; rest = rest_at column [] })) None)
-over-empty options c column h = go (container_kind c) refl h
-  where
-    go : (o : Option ContainerKind) → container_kind c ≡ o → HasKind o →
-        (x : Bool)
-        × (continues options c (rest_at column []) ≡
-        cond x (Some (record { container = c; rest = rest_at column [] })) None)
-    go None e h = absurd h
-    go (Some k) e h =
-        let held = (container-laws k).may_hold c e in
-        ((container_rules k).over_empty held.0, (container-laws k).over_empty options held.0 c column e held.1)
+over-empty options c column h =
+    let k = read-kind c h in
+    let held = (container-laws k.0).may_hold c k.1 in
+    ((container_rules k.0).over_empty held.0, (container-laws k.0).over_empty options held.0 c column k.1 held.1)
 
 -- an outline can show the block of one with such blocks in it
 pub read-shallow : (c : Container) (bs : Blocks) → IsRead c → are_shallow bs ≡ true →
     is_shallow (container_block c bs) ≡ true
-read-shallow c bs h shallow = go (container_kind c) refl h
-  where
-    go : (o : Option ContainerKind) → container_kind c ≡ o → HasKind o → is_shallow (container_block c bs) ≡ true
-    go None e h = absurd h
-    go (Some k) e h = (container-laws k).shallow c bs e shallow
+read-shallow c bs h shallow = let k = read-kind c h in (container-laws k.0).shallow c bs k.1 shallow

@@ -23,8 +23,7 @@ use Rattle.md_frame.specs.LeafName.{LeafName}
 use Rattle.md_registry.proofs.FlowLemmas.{blank_at-shrinks, chunk_at-shrinks}
 use Rattle.md_frame.proofs.FromEnding.{stops-same}
 use Rattle.md_frame.proofs.LeafLaws.{Shrinks}
-use Rattle.md_registry.proofs.Registry.{laws}
-use Rattle.md_registry.proofs.RegistryContainers.{continues-shortens, begins-shortens}
+use Rattle.md_registry.proofs.Registry.{container-laws, laws}
 use Rattle.md_containers.proofs.Shorter.{Shortens}
 
 -- all is taken
@@ -132,7 +131,7 @@ opens-finish : (options : ParseOptions) (onward otherwise : Rule) (ks : List Con
 opens-finish options onward otherwise [] cells h ends last = last h
 opens-finish options onward otherwise (k ∷ ks) cells h ends last =
     tried-shorter (length cells) onward _ (begins_at options k cells (asking_here (container_of k) h))
-    (begins-shortens options k cells (asking_here (container_of k) h)) ends
+    ((container-laws k).begins_shorter options cells (asking_here (container_of k) h)) ends
     (λ s g. opens-finish options onward otherwise ks cells (record h { scratch = s; flags = g }) ends last)
 
 new-finishes : (options : ParseOptions) (next : Rule) (n : ℕ) (cells : List Cell) (h : Here) →
@@ -162,7 +161,7 @@ asked-finishes options next further None cells h e ends more = go (bars_containe
     go false = opened-finishes options next cells h ends
 asked-finishes options next further (Some c) cells h e ends more =
     tried-shorter (length cells) _ _ (continues_at options c.kind cells (asking_here c h))
-    (continues-shortens options c.kind cells (asking_here c h) e)
+    ((container-laws c.kind).continues_shorter options cells (asking_here c h) e)
     (λ rest k lt. more rest (record k { flags = went_on k.flags }) lt)
     (λ s g. opened-finishes options next cells (record h { scratch = s; flags = g }) ends)
 

@@ -21,7 +21,8 @@ use Rattle.md_frame.specs.Passed.{Passed, passed_by, passed_here}
 use Rattle.md_registry.specs.Registry.{container_rules, openers, opens_at, opens_by}
 use Rattle.md_rows.specs.Rows.{Front, in_front, opened_prefixes, no_front}
 use Rattle.md_rows.specs.Stands.{AreOpen}
-use Rattle.md_registry.proofs.RegistryContainers.{opening-is, opens-same, opens-shorter}
+use Rattle.md_registry.proofs.Registry.{container-laws}
+use Rattle.md_registry.proofs.RegistryContainers.{opens-same, opens-shorter}
 use Rattle.md_rows.proofs.FlowHeld.{closed-none, open-all, open-append}
 use Rattle.md_rows.proofs.FlowContinues.{asked_at}
 
@@ -70,7 +71,7 @@ first-tried : (options : ParseOptions) (next onward : Rule) (interrupting : Bool
     tries_from options next onward ks cells h (passed_by o (asking_here (container_of k) h))
 first-tried options next onward interrupting k ks cells h o is by e =
     ap (tries_from options next onward ks cells h)
-    (opening-is options k interrupting cells (asking_here (container_of k) h) is refl refl by
+    ((container-laws k).begins_is options interrupting cells (asking_here (container_of k) h) is refl refl by
     ∙ ap (λ (x : Option Passed). passed_by x (asking_here (container_of k) h)) e)
 
 none-tried : (options : ParseOptions) (next onward : Rule) (interrupting : Bool) (ks : List ContainerKind)
