@@ -139,10 +139,7 @@ opening-shown : (depth : ℕ) (shape : Shape) (here : Blocks) →
     block_entries depth (block_around shape here)
     ≡ opening depth shape (list_word shape here) ++ outline (depth + 1) here
 opening-shown depth (QuoteShape kind) here = refl
-opening-shown depth OrderedShape here = refl
-opening-shown depth UnorderedShape here = refl
-opening-shown depth (ItemShape m d) here = refl
-opening-shown depth (FootnoteShape label) here = refl
+opening-shown depth _ here = refl
 
 -- those in front of the innermost blocks
 abbrev pub fronts : List OpenContainer → Blocks → List Entry

@@ -34,15 +34,9 @@ no-bracket b h = go (nat_lt b 65) (nat_lt b 91) refl refl
 
 has-bracket : (k : AlertKind) (bytes : List ℕ) → begins_with left_bracket bytes ≡ false → has_marker k bytes ≡ false
 has-bracket kind.Note [] h = refl
-has-bracket kind.Tip [] h = refl
-has-bracket kind.Important [] h = refl
-has-bracket kind.Warning [] h = refl
-has-bracket kind.Caution [] h = refl
 has-bracket kind.Note (b ∷ bytes) h = rw (no-bracket b h) refl
-has-bracket kind.Tip (b ∷ bytes) h = rw (no-bracket b h) refl
-has-bracket kind.Important (b ∷ bytes) h = rw (no-bracket b h) refl
-has-bracket kind.Warning (b ∷ bytes) h = rw (no-bracket b h) refl
-has-bracket kind.Caution (b ∷ bytes) h = rw (no-bracket b h) refl
+has-bracket _ [] h = refl
+has-bracket _ (b ∷ bytes) h = rw (no-bracket b h) refl
 
 none-first : (test : AlertKind → Bool) → ((k : AlertKind) → test k ≡ false) → (ks : List AlertKind) →
     first_kind test ks ≡ None
