@@ -1,2 +1,4 @@
 pub mod FenceLines
 pub mod LineEnds
+pub mod NoLabel
+pub mod TakenBack

@@ -1,5 +1,5 @@
 -- What functions that take several states in one call know of the states in front of them and behind them.
-use Rattle.std.specs.Prelude.{◌≡◌, Bool, false, List, ◌∷◌}
+use Rattle.std.specs.Prelude.{◌≡◌, ℕ, ◌+◌, ◌<◌, ◌⊎◌, ◌==◌, Bool, true, false, List, ◌∷◌, Some, slice_index}
 use Rattle.md_engine.specs.declared.state.Name.{Name as StateName}
 use Rattle.md_engine.specs.declared.state.Name.TheVariants as n
 use Rattle.md_engine.specs.declared.state.State.{State}
@@ -8,6 +8,8 @@ use Rattle.md_engine.specs.declared.tokenizer.Frame.{Frame}
 use Rattle.md_engine.specs.Going.{SeesOn}
 use Rattle.md_engine.specs.Run.{RunsHere}
 use Rattle.md_engine.specs.World.{World, looks}
+use Rattle.md_meaning.specs.Ascii.{caret, left_bracket}
+use Rattle.md_registry.specs.AtOnce.{opens_none}
 use Rattle.md_registry.specs.Flow.{leaf_end}
 use Rattle.md_registry.specs.States.{FlowStep}
 
@@ -26,3 +28,13 @@ Goes name w to new = RunsHere FlowStep name w to new × SeesOn to w new
 -- each run that comes to an answer goes on to another
 abbrev pub GoesOn : State → World → State → World → Type 0
 GoesOn s w to new = (first : StateName) (old : World) → old.current ≡ looks old → Goes first old s w → Goes first old to new
+
+-- A bracket stands here, and something else than a caret behind it: no footnote definition opens.
+pub record IsNoLabel (w : World) : Type 0 where
+  pub bracket : w.current ≡ Some left_bracket
+  pub inside : w.point.index + 1 < w.setting.limit
+  pub other : (slice_index w.setting.bytes (w.point.index + 1) == caret) ≡ false
+
+-- no container opens, by what stands here or by the byte behind it
+abbrev pub OpensNone : World → Type 0
+OpensNone w = (opens_none w.current ≡ true) ⊎ IsNoLabel w

@@ -15,7 +15,7 @@ ghost use Rattle.md_engine.specs.declared.state.Name.{Name as StateName};
 ghost use Rattle.md_engine.specs.declared.state.State.{State};
 ghost use Rattle.md_engine.specs.declared.state.content.State.{State as ContentState};
 ghost use Rattle.md_engine.specs.declared.state.document.State.{State as DocumentState};
-ghost use Rattle.md_flow.specs.AtOnce.{GoesOn, IsTried};
+ghost use Rattle.md_flow.specs.AtOnce.{GoesOn, IsNoLabel, IsTried, OpensNone};
 ghost use Rattle.md_registry.specs.AtOnce.{GoesAtOnce, asking_next, openers_passed};
 ghost use Rattle.md_containers.specs.PlainBullet.{IsPlainBullet};
 ghost use Rattle.md_registry.specs.Registry.{opener_front, openers};
@@ -226,6 +226,23 @@ fn rest_begins(tokenizer: &mut Tokenizer) -> State
     state
 }
 
+/// Whether a bracket stands here, and something else than a caret behind it.
+#[inline(always)]
+fn is_no_label(tokenizer: &Tokenizer) -> bool
+    ensures { result ≡ true → IsNoLabel (world tokenizer.now) }
+{
+    let next = tokenizer.point.index + 1;
+    tokenizer.current == Some(b'[') && next < tokenizer.limit && tokenizer.bytes[next] != b'^'
+}
+
+/// Whether no container opens, by what stands here or by the byte behind it.
+#[inline(always)]
+fn opens_none(tokenizer: &Tokenizer) -> bool
+    ensures { result ≡ true → OpensNone (world tokenizer.now) }
+{
+    choices::opens_none(tokenizer.current) || is_no_label(tokenizer)
+}
+
 /// Before the first container that may open: where none may by what stands here, the leaf of the line is next; and one
 /// opens at once whose prefix can be taken so.
 #[inline(always)]
@@ -236,7 +253,7 @@ fn containers_new(tokenizer: &mut Tokenizer) -> State
         (StateName.Document (opener_front openers)) (world tokenizer.old) result (world tokenizer.new) }
     ensures sees { result ≢ State.Error → SeesOn result (world tokenizer.old) (world tokenizer.new) }
 {
-    if choices::opens_none(tokenizer.current) {
+    if opens_none(tokenizer) {
         pass_openers(tokenizer);
         if choices::goes_inside(tokenizer.flags.leaf) {
             fences::inside(tokenizer)

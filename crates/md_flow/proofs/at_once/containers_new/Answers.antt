@@ -14,14 +14,16 @@ use Rattle.md_engine.specs.declared.tokenizer.container.name.ContainerKind.{Cont
 use Rattle.md_engine.proofs.Loops.{CameHere, CameTo, came-first}
 use Rattle.md_engine.proofs.StayLemmas.{within-world}
 use Rattle.md_seam.specs.Transition.{Transition}
-use Rattle.md_registry.specs.AtOnce.{opens_none, openers_passed}
+use Rattle.md_registry.specs.AtOnce.{openers_passed}
 use Rattle.md_registry.specs.Registry.{asked_first, opener_at, opener_front, openers}
 use Rattle.md_registry.specs.States.{FlowStep}
-use Rattle.md_registry.proofs.LinesAtOnce.{ends-with, passes-front, tried-opener-leaves, passes-openers, runs-on}
+use Rattle.md_registry.proofs.LinesAtOnce.{ends-with, tried-opener-leaves, runs-on}
+use Rattle.md_flow.specs.AtOnce.{OpensNone}
+use Rattle.md_flow.proofs.NoLabel.{passes-to-front}
 use Rattle.md_flow.proofs.at_once.containers_new.Goals as goal
 
 -- where the leaf that is open is asked first
-inside : (w u : World) → u ≡ openers_passed w → opens_none w.current ≡ true → w.current ≡ looks w → Within w →
+inside : (w u : World) → u ≡ openers_passed w → OpensNone w → w.current ≡ looks w → Within w →
     (to : State) (new : World) → is_some (asked_first u.flags.leaf) ≡ true →
     RunsHere FlowStep (n.Document document.FlowInside) u to new → SeesOn to u new →
     RunsHere FlowStep (n.Document (opener_front openers)) w to new × SeesOn to w new
@@ -31,7 +33,7 @@ inside w u passed none seen within to new asked runs sees =
     subst (λ (x : Bool). CameTo FlowStep is_end s v (leaf_front x) u) asked
     (subst
     (λ (x : World). CameTo FlowStep is_end s v (leaf_front (is_some (asked_first x.flags.leaf))) x) (sym passed)
-    (passes-front is_end s v w none seen within
+    (passes-to-front is_end s v w none seen within
     (came-first FlowStep first w is_end s v named sees may))) in
     runs-on first (n.Document document.FlowInside) w u to new came runs sees
     (subst (λ (x : World). x.current ≡ looks x) (sym passed) seen) (inl (ap (λ (x : World). x.point) passed))
@@ -39,7 +41,7 @@ inside w u passed none seen within to new asked runs sees =
 pub returns-then-goes_inside-clause-runs : goal.returns-then-goes_inside-clause-runs
 returns-then-goes_inside-clause-runs c = λ fine.
     let w = world c.args.tokenizer.now in
-    let none : opens_none w.current ≡ true = sym c.opens_none.ensures ∙ c.if-opens_none.true in
+    let none : OpensNone w = c.opens_none.ensures c.if-opens_none.true in
     (inside w (world c.pass_openers.new.tokenizer) c.pass_openers.ensures none c.requires.current
     (within-world c.args.tokenizer.now) c.inside.result (world c.inside.new.tokenizer)
     (sym c.goes_inside.ensures ∙ c.if-goes_inside.true) (c.inside.ensures.runs fine) (c.inside.ensures.sees fine)).0
@@ -47,7 +49,7 @@ returns-then-goes_inside-clause-runs c = λ fine.
 pub returns-then-goes_inside-clause-sees : goal.returns-then-goes_inside-clause-sees
 returns-then-goes_inside-clause-sees c = λ fine.
     let w = world c.args.tokenizer.now in
-    let none : opens_none w.current ≡ true = sym c.opens_none.ensures ∙ c.if-opens_none.true in
+    let none : OpensNone w = c.opens_none.ensures c.if-opens_none.true in
     (inside w (world c.pass_openers.new.tokenizer) c.pass_openers.ensures none c.requires.current
     (within-world c.args.tokenizer.now) c.inside.result (world c.inside.new.tokenizer)
     (sym c.goes_inside.ensures ∙ c.if-goes_inside.true) (c.inside.ensures.runs fine) (c.inside.ensures.sees fine)).1
@@ -57,15 +59,16 @@ returns-else-goes_inside-clause-runs c = λ fine.
     let first = n.Document (opener_front openers) in
     let w = world c.args.tokenizer.now in
     let u = world c.pass_openers.new.tokenizer in
-    let none : opens_none w.current ≡ true = sym c.opens_none.ensures ∙ c.if-opens_none.true in
+    let none : OpensNone w = c.opens_none.ensures c.if-opens_none.true in
     let passed : u ≡ openers_passed w = c.pass_openers.ensures in
     let outside : is_some (asked_first (openers_passed w).flags.leaf) ≡ false =
     ap (λ (x : World). is_some (asked_first x.flags.leaf)) (sym passed)
     ∙ sym c.goes_inside.ensures ∙ c.if-goes_inside.false in
     let came : CameHere FlowStep first w (n.Flow flow.Start) u = λ is_end s v named sees may.
     subst (λ (x : World). CameTo FlowStep is_end s v (n.Flow flow.Start) x) (sym passed)
-    (passes-openers is_end s v w outside none c.requires.current (within-world c.args.tokenizer.now)
-    (came-first FlowStep first w is_end s v named sees may)) in
+    (subst (λ (x : Bool). CameTo FlowStep is_end s v (leaf_front x) (openers_passed w)) outside
+    (passes-to-front is_end s v w none c.requires.current (within-world c.args.tokenizer.now)
+    (came-first FlowStep first w is_end s v named sees may))) in
     (runs-on first (n.Flow flow.Start) w u c.rest_begins.result (world c.rest_begins.new.tokenizer) came
     (c.rest_begins.ensures.runs fine) (c.rest_begins.ensures.sees fine)
     (subst (λ (x : World). x.current ≡ looks x) (sym passed) c.requires.current)
