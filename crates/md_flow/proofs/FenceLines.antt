@@ -4,7 +4,6 @@ use Rattle.std.proofs.Common.{◌≡◌, ◌≢◌, ◌∙◌, ◌&&◌, Bool, t
 use Rattle.md_code.specs.Fence.{at_non_lazy_break_code, before_chunk_code, chunk_code, content_start_code}
 use Rattle.md_code.specs.Fence.{fence_transition, held_indent, may_close}
 use Rattle.md_content.proofs.StaysLemmas.{not-ending}
-use Rattle.md_engine.specs.declared.state.raw_flow.State.{State as RawState}
 use Rattle.md_engine.specs.declared.state.raw_flow.State.TheVariants as its
 use Rattle.md_engine.specs.declared.state.Name.{Name as StateName}
 use Rattle.md_engine.specs.declared.state.Name.TheVariants as n

@@ -1,4 +1,6 @@
 pub mod FenceLines
 pub mod LineEnds
+pub mod NoClose
 pub mod NoLabel
 pub mod TakenBack
+pub mod WhiteEnds

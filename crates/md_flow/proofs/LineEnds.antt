@@ -1,10 +1,13 @@
 -- Lines that are taken and end in one call.
-use Rattle.std.proofs.Common.{◌≡◌, ◌≢◌, ◌-◌, ◌<◌, ◌≤◌, ◌∙◌, ◌⊎◌, ℕ, suc, Bool, true, false, List, [], ◌∷◌, ◌++◌, length}
-use Rattle.std.proofs.Common.{Option, Some, None, IfSome, reverse, slice_get, ap, arith, cond, inl, inr, nat_eq}
-use Rattle.std.proofs.Common.{refl, subst, sym}
+use Rattle.std.proofs.Common.{◌≡◌, ◌-◌, ◌<◌, ◌≤◌, ◌∙◌, ◌⊎◌, ℕ, suc, Bool, true, false, List, [], ◌∷◌, ◌++◌, length}
+use Rattle.std.proofs.Common.{Option, Some, None, IfSome, reverse, slice_get, ap, arith, cond, inl, inr, is_ok, nat_eq}
+use Rattle.std.proofs.Common.{subst, sym}
+use Rattle.std.specs.Prelude.{OnOk}
+use Rattle.std.specs.declared.result.Result.{Result}
+use Rattle.std.specs.declared.result.Result.TheVariants as result
 use Rattle.std.proofs.lemmas.List.{reverse-append}
 use Rattle.md_engine.specs.Going.{SeesOn}
-use Rattle.md_engine.specs.Run.{Leaves, Runs, RunsHere, left, plain, reading}
+use Rattle.md_engine.specs.Run.{Leaves, Runs, RunsHere, plain, reading}
 use Rattle.md_engine.specs.Run.Runs.{Stays, ThenLeaves}
 use Rattle.md_engine.specs.Staying.{SeesAll}
 use Rattle.md_engine.specs.World.{World, closed, looks, world}
@@ -12,7 +15,7 @@ use Rattle.md_engine.specs.declared.state.Name.{Name as StateName}
 use Rattle.md_engine.specs.declared.state.Name.TheVariants as n
 use Rattle.md_engine.specs.declared.state.document.State.TheVariants as document
 use Rattle.md_engine.specs.declared.state.State.{State}
-use Rattle.md_engine.specs.declared.state.State.TheVariants.{Error, Next, Nok, Ok, Retry}
+use Rattle.md_engine.specs.declared.state.State.TheVariants.{Next, Nok, Ok}
 use Rattle.md_engine.specs.declared.stay.Stay.TheVariants.{Line}
 use Rattle.md_engine.specs.declared.tokenizer.Frame.{Frame}
 use Rattle.md_engine.specs.declared.tokenizer.Tokenizer.{Tokenizer}
@@ -33,6 +36,11 @@ use Rattle.md_flow.specs.AtOnce.{GoesOn, IsTried}
 pub ahead : {P : Type 0} → (false ≡ true) ⊎ P → P
 ahead (inl e) = cc
 ahead (inr h) = h
+
+-- what holds where a call has not failed
+pub on-ok : {T E : Type 0} → (x : Result T E) (P : Type 0) → is_ok x ≡ true → OnOk x P → P
+on-ok (result.Ok v) P e h = h
+on-ok (result.Err v) P e h = cc
 
 -- Behind a leaf.
 

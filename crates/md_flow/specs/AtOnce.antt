@@ -8,7 +8,11 @@ use Rattle.md_engine.specs.declared.tokenizer.Frame.{Frame}
 use Rattle.md_engine.specs.Going.{SeesOn}
 use Rattle.md_engine.specs.Run.{RunsHere}
 use Rattle.md_engine.specs.World.{World, looks}
+use Rattle.md_code.specs.Fence.{cleared, held_marker, line_entered}
 use Rattle.md_meaning.specs.Ascii.{caret, left_bracket}
+use Rattle.md_meaning.specs.Rest.{is_white}
+use Rattle.md_seam.specs.Look.{looks_behind}
+use Rattle.md_seam.specs.Spaces.{calmed, sees_white}
 use Rattle.md_registry.specs.AtOnce.{opens_none}
 use Rattle.md_registry.specs.Flow.{leaf_end}
 use Rattle.md_registry.specs.States.{FlowStep}
@@ -38,3 +42,16 @@ pub record IsNoLabel (w : World) : Type 0 where
 -- no container opens, by what stands here or by the byte behind it
 abbrev pub OpensNone : World → Type 0
 OpensNone w = (opens_none w.current ≡ true) ⊎ IsNoLabel w
+
+-- Whitespace stands here where fenced code or math may go on, and something else than its marker first behind it: no
+-- fence closes it.
+pub record IsNoClose (w : World) : Type 0 where
+  pub white : sees_white w.current ≡ true
+  pub byte : ℕ
+  pub behind : looks_behind w ≡ Some byte
+  pub other : (byte == held_marker w.flags.leaf) ≡ false
+  pub dark : is_white (held_marker w.flags.leaf) ≡ false
+
+-- a further line has begun that closes nothing, as where a closing fence was tried
+abbrev pub unclosed : World → World
+unclosed w = record (line_entered w) { scratch = calmed (cleared w.scratch) }

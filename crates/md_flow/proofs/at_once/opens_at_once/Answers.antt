@@ -1,7 +1,4 @@
 use Rattle.std.proofs.Common.{◌≡◌, ◌<◌, ◌∙◌, true, ap, inr, is_ok, refl, subst, sym}
-use Rattle.std.specs.Prelude.{OnOk}
-use Rattle.std.specs.declared.result.Result.{Result}
-use Rattle.std.specs.declared.result.Result.TheVariants as result
 use Rattle.md_engine.specs.declared.state.document.State.TheVariants as document
 use Rattle.md_engine.specs.declared.state.Name.TheVariants as n
 use Rattle.md_engine.specs.declared.tokenizer.container.Container.{Container}
@@ -17,11 +14,8 @@ use Rattle.md_registry.specs.Registry.{opener_front, openers}
 use Rattle.md_registry.specs.States.{FlowStep}
 use Rattle.md_registry.proofs.LinesAtOnce.{ends-behind}
 use Rattle.md_registry.proofs.OpensAtOnce.{bullet-opens}
+use Rattle.md_flow.proofs.LineEnds.{on-ok}
 use Rattle.md_flow.proofs.at_once.opens_at_once.Goals as goal
-
-on-ok : {T E : Type 0} → (x : Result T E) (P : Type 0) → is_ok x ≡ true → OnOk x P → P
-on-ok (result.Ok v) P e h = h
-on-ok (result.Err v) P e h = cc
 
 pub returns-2-clause-runs : goal.returns-2-clause-runs
 returns-2-clause-runs c = λ fine.

@@ -6,7 +6,7 @@ use Rattle.md_engine.specs.declared.state.State.TheVariants.{Error}
 use Rattle.md_engine.proofs.StayLemmas.{within-world}
 use Rattle.md_registry.proofs.LinesAtOnce.{Goes, goes-through}
 use Rattle.md_flow.proofs.FenceLines.{breaks, still-seen}
-use Rattle.md_flow.proofs.fences.further.Goals as goal
+use Rattle.md_flow.proofs.fences.tried.Goals as goal
 
 pub line-requires : goal.line-requires
 line-requires c =
