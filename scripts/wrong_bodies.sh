@@ -100,10 +100,11 @@ use std::alloc::Global;
 use std::{env, io};
 
 // each kind of block, prefixes of one and of two columns, a cut tab, an item that started blank, the endings behind open
-// fences, an alert, a table with a cell of two words, and references in texts and in a string
+// fences, an alert, a table with a cell of two words and a row that begins with a marker, and references in texts and in
+// a string
 const TEXT: &str = "\\u{feff}> a\\n\\tb\\n>\\n# c #\\n\\t\\n***\\n\\n1. d\\n\\n   >  > e\\n2. f\\n\\n-\\n\\tg\\n\\n\\th\\n\\n\
   ~~~ i m\\n   j\\n  ~~~\\n> ```\\n>\\nk\\n- ```\\n\\nl\\n\\n> [!Tip] \\n>m\\n\\n\
-  |n o|\\n|-|\\n|p|\\n\\n[q]: r\\n\\n[Q] \\\\[q] [s]\\n~~~ [q]";
+  |n o|\\n|-|\\n|p|\\n*p|\\n\\n[q]: r\\n\\n[Q] \\\\[q] [s]\\n~~~ [q]";
 
 /// Tries a body on rows, on their texts with each construct off, and on long labels.
 fn try_bench<B: Body>(alloc: Global, rows: &str, report: &mut Report) -> Result<(), CaseError> {
