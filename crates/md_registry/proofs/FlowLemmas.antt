@@ -181,7 +181,8 @@ existing_by-same options f g further other None cells h ends agree more = go (ba
     go false = new_of-same options f g cells h agree
 existing_by-same options f g further other (Some c) cells h ends agree more =
     tried-shorter (length cells) _ _ (λ rest k lt. more rest (record k { flags = went_on k.flags }) lt)
-    (continues_at options c.kind cells (asking_here c h)) _ _ ((container-laws c.kind).continues_shorter options cells (asking_here c h) ends)
+    (continues_at options c.kind cells (asking_here c h)) _ _
+    ((container-laws c.kind).continues_shorter options cells (asking_here c h) ends)
     (λ s t. new_of-same options f g cells (record h { scratch = s; flags = t }) agree)
 
 -- whether the line ends here or not

@@ -55,8 +55,10 @@ fits-before k =
     let P : Scheme → Type 1 = λ S. Fits flow_table_scheme S (n.Document (container_rules k).before) in
     subst P (at-opener k).owned (fits flow_owner (n.Document (container_rules k).before))
 
--- one that tries a container in front of these has more ranks than the first of them has tries, which has more than ranks
-pub front-fits : (from : StateName) (ks : List ContainerKind) → Fits flow_table_scheme flow_scheme from → NextOpener ks →
+-- one that tries a container in front of these has more ranks than the first of them has tries, which has more than
+-- ranks
+pub front-fits : (from : StateName) (ks : List ContainerKind) → Fits flow_table_scheme flow_scheme from → NextOpener
+    ks →
     11 + 2 * length trials + 2 * length ks < (flow_rank from).number →
     TrialFits flow_table_scheme from (n.Document (opener_front ks))
 front-fits from [] here is lt = record {

@@ -151,7 +151,8 @@ opens-front options interrupting cells p t e = (opens-of options interrupting ce
 read-kind : (c : Container) → IsRead c → (k : ContainerKind) × (container_kind c ≡ Some k)
 read-kind c read = go (container_kind c) refl read
   where
-    go : (o : Option ContainerKind) → container_kind c ≡ o → HasKind o → (k : ContainerKind) × (container_kind c ≡ Some k)
+    go : (o : Option ContainerKind) → container_kind c ≡ o → HasKind o → (k : ContainerKind)
+        × (container_kind c ≡ Some k)
     go None e read = absurd read
     go (Some k) e read = (k, e)
 
@@ -164,7 +165,8 @@ goes-agrees options c read line text past r stop p is h k short =
     let j = read-kind c read in
     subst
     (λ (o : Option ContainerKind).
-    Agree (HasFurther line text past p (past_rest r p) stop cells) (goes_by options c cells p o) (continues options c r))
+    Agree (HasFurther line text past p (past_rest r p) stop cells) (goes_by options c cells p o)
+    (continues options c r))
     (sym j.1) ((container-laws j.0).goes_agrees options c j.1 line text past r stop p is h k short)
 
 -- a container opens by the cells where it does by the bytes

@@ -1,5 +1,6 @@
 -- Each state of flow keeps what its table needs.
-use Rattle.std.proofs.Common.{◌≡◌, ◌<◌, ◌||◌, ℕ, Bool, true, false, nat_eq, List, [], ◌∷◌, length, Option, Some, None, refl}
+use Rattle.std.proofs.Common.{◌≡◌, ◌<◌, ◌||◌, ℕ, Bool, true, false, nat_eq, List, [], ◌∷◌, length, Option, Some, None}
+use Rattle.std.proofs.Common.{refl}
 use Rattle.std.proofs.Common.{ap, sym, subst, arith}
 use Rattle.std.specs.Option.{is_some}
 use Rattle.md_engine.specs.declared.event.Event.{Event}
@@ -30,13 +31,16 @@ use Rattle.md_seam.proofs.SpacesTermination.{Does, seen-some, white_terminates}
 use Rattle.md_frame.specs.LeafName.{LeafName}
 use Rattle.md_registry.specs.Document.{document_own_transition}
 use Rattle.md_registry.specs.Flow.{before_content_transition, before_transition, behind_all, blank_line_code}
-use Rattle.md_registry.specs.Flow.{containers_after_transition, existing_before_code, flow_end_code, flow_own_transition}
-use Rattle.md_registry.specs.Flow.{flow_rank, flow_ready, flow_scheme, inside_code, leaf_end, leaf_front, leaf_transition}
+use Rattle.md_registry.specs.Flow.{containers_after_transition, existing_before_code, flow_end_code}
+use Rattle.md_registry.specs.Flow.{flow_own_transition}
+use Rattle.md_registry.specs.Flow.{flow_rank, flow_ready, flow_scheme, inside_code, leaf_end, leaf_front}
+use Rattle.md_registry.specs.Flow.{leaf_transition}
 use Rattle.md_registry.specs.Flow.{new_before_transition, opener_transition, row_transition, start_by, start_code}
 use Rattle.md_registry.specs.Flow.{trial_code}
 use Rattle.md_registry.specs.LineFlags.{asking, begun_line, blank_here, blanked, ended_on, kept_containers}
 use Rattle.md_registry.specs.LineFlags.{nothing_stands, shut_leaf, went_on, with_container}
-use Rattle.md_registry.specs.Registry.{asked_first, bars_containers, behind, container_rules, front_of, goes_on_with, leaf}
+use Rattle.md_registry.specs.Registry.{asked_first, bars_containers, behind, container_rules, front_of, goes_on_with}
+use Rattle.md_registry.specs.Registry.{leaf}
 use Rattle.md_registry.specs.Registry.{may_go_on, may_open, next_opener, opener_at, opener_front, openers, opens_with}
 use Rattle.md_registry.specs.Registry.{row, trials, tried_at}
 use Rattle.md_registry.specs.States.{flow_owner, flow_table_scheme, flow_transition, leaf_owner, opener_owner}
@@ -85,7 +89,8 @@ existing_before w false (Some c) r is =
     (n.Document document.ContainerExistingAfter) (n.Document (opener_front openers)) w (asking c w).flags
     (may_with (may_go_on c.kind) (looks_behind w))
     (opening.front-fits (n.Document document.ContainerExistingBefore) openers
-    (fits flow_owner (n.Document document.ContainerExistingBefore)) refl (omega arith)) (container-states c.kind).goes_on is
+    (fits flow_owner (n.Document document.ContainerExistingBefore)) refl (omega arith))
+    (container-states c.kind).goes_on is
     (fits flow_owner (n.Document document.ContainerExistingAfter)) r
 
 new_before : (k : ContainerKind) (w : World) → flow_ready (position w) (after_all flow_table_scheme w.frames) →
@@ -112,7 +117,8 @@ containers_after w r = go (is_some (asked_first (begun_line w.flags).leaf))
 
 inside : (w : World) (o : Option LeafName) → flow_ready (position w) (after_all flow_table_scheme w.frames) →
     Does flow_table_scheme (n.Document document.FlowInside) w (inside_code w o)
-inside w None r = goes_on (n.Document document.FlowInside) (n.Flow flow.Start) w w.events w.flags refl refl r (omega arith)
+inside w None r = goes_on (n.Document document.FlowInside) (n.Flow flow.Start) w w.events w.flags refl refl r
+    (omega arith)
 inside w (Some l) r =
     inside-tried flow_table_scheme (n.Document document.FlowInside) (leaf l).start (n.Flow flow.After)
     (n.Flow flow.Start) w (blank_here (nothing_stands w.current w.point) w.flags) true
@@ -126,7 +132,8 @@ inside w (Some l) r =
 
 flow_end : (w : World) (o : Option ℕ) → flow_ready (position w) (after_all flow_table_scheme w.frames) →
     seen (position w) ≡ o →
-    Does flow_table_scheme (n.Document document.FlowEnd) w (flow_end_code (closed w (kept_containers w.flags) w.flags.line_end) o)
+    Does flow_table_scheme (n.Document document.FlowEnd) w
+    (flow_end_code (closed w (kept_containers w.flags) w.flags.line_end) o)
 flow_end w None r e = (
   accepts flow_table_scheme (n.Document document.FlowEnd) w IsRest IsRest
       (flow_end_code (closed w (kept_containers w.flags) w.flags.line_end) None).world.events w.scratch r.0.1 r.0.0,
@@ -198,11 +205,13 @@ ends-low false low = low
 
 -- a leaf is tried in front of these
 leaf_tried : (from : StateName) (l : LeafName) (ls : List LeafName) (w : World) (may : Bool) →
-    TrialFits flow_table_scheme from (n.Flow (front_of ls)) → flow_ready (position w) (after_all flow_table_scheme w.frames) →
+    TrialFits flow_table_scheme from (n.Flow (front_of ls)) → flow_ready (position w)
+    (after_all flow_table_scheme w.frames) →
     Does flow_table_scheme from w
     (trial_code (leaf l).start (n.Flow (leaf_end (leaf l).ends)) (n.Flow (front_of ls)) w may)
 leaf_tried from l ls w may fit r =
-    inside-tried flow_table_scheme from (leaf l).start (n.Flow (leaf_end (leaf l).ends)) (n.Flow (front_of ls)) w w.flags
+    inside-tried flow_table_scheme from (leaf l).start (n.Flow (leaf_end (leaf l).ends)) (n.Flow (front_of ls)) w
+    w.flags
     may fit (inside_fits l) (ends-fit (leaf l).ends) (ends-low (leaf l).ends fit.behind_low) r
 
 -- at the state before it,
@@ -291,7 +300,8 @@ leaves_do flow.BlankLineAfter w at =
     goes_on (n.Flow flow.BlankLineAfter) (n.Document document.FlowEnd) w w.events (blanked w.flags) refl refl at
     (omega arith)
 leaves_do flow.LeafAfter w at =
-    goes_on (n.Flow flow.LeafAfter) (n.Document document.FlowEnd) w w.events (shut_leaf w.flags) refl refl at (omega arith)
+    goes_on (n.Flow flow.LeafAfter) (n.Document document.FlowEnd) w w.events (shut_leaf w.flags) refl refl at
+    (omega arith)
 leaves_do flow.After w at =
     goes_on (n.Flow flow.After) (n.Document document.FlowEnd) w w.events w.flags refl refl at (omega arith)
 leaves_do state w at = leaf_terminates state (tried_at state) refl w at

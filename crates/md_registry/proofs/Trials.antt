@@ -38,7 +38,8 @@ pub left-list : (options : ParseOptions) (next : Rule) (ls : List LeafName) (cel
     leaves_behave options next (front_of ls) cells h ≡ leaves_of options next ls cells h
 left-list options next [] cells h is = refl
 left-list options next (m ∷ ms) cells h is =
-    (at-trial m is.0).left options next cells h ∙ ap (λ (ks : List LeafName). leaves_of options next (m ∷ ks) cells h) is.1
+    (at-trial m is.0).left options next cells h ∙ ap (λ (ks : List LeafName). leaves_of options next (m ∷ ks) cells h)
+    is.1
 
 -- Its place in the table.
 

@@ -54,7 +54,8 @@ EachEnded [] = Unit {0}
 EachEnded (group ∷ gs) = EndsBeforeGroups (final_row group) gs × EachEnded gs
 
 -- a line goes in front of groups
-onto-ended : (row : Row) (gs all : List Group) → Onto row gs all → EndsBeforeGroups row gs → EachEnded gs → EachEnded all
+onto-ended : (row : Row) (gs all : List Group) → Onto row gs all → EndsBeforeGroups row gs → EachEnded gs → EachEnded
+    all
 onto-ended row _ _ (AsSingle gs) h k = (h, k)
 onto-ended row _ _ (AsText gs) h k = (h, k)
 onto-ended row _ _ (AsSpan gs) h k = (h, k)

@@ -174,7 +174,8 @@ tail-unwanted wants kind row =
 single-quiet : (options : ParseOptions) (bytes : List ℕ) (wants : Content → Bool) (row : Row) →
     IsSingle options bytes row → WantsContent wants → NoContent wants (row_events row)
 single-quiet options bytes wants row is w =
-    events-no_content wants row row.kind refl is.other (has_front-no_content wants w bytes row is.front) (is.quiet wants w)
+    events-no_content wants row row.kind refl is.other (has_front-no_content wants w bytes row is.front)
+    (is.quiet wants w)
 
 span-quiet : (options : ParseOptions) (bytes : List ℕ) (wants : Content → Bool) (row : Row) →
     IsSpanLine options bytes row → HasNoContent row → WantsContent wants → NoContent wants (row_events row)

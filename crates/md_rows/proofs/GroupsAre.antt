@@ -32,7 +32,8 @@ use Rattle.md_rows.proofs.RowLeaf.{EndsOnLine}
 use Rattle.md_frame.proofs.SpanLaws.{IsLineOf}
 use Rattle.md_rows.proofs.TextProgress.{IsFresh, IsShut, setext-may, turn-left}
 use Rattle.md_registry.proofs.UnderNames.{further-text}
-use Rattle.md_rows.proofs.GroupLines.{first-text, AreGroups, AreLines, AreSpan, EndsBeforeGroups, FirstIs, IsHead, IsSingle}
+use Rattle.md_rows.proofs.GroupLines.{first-text, AreGroups, AreLines, AreSpan, EndsBeforeGroups, FirstIs, IsHead}
+use Rattle.md_rows.proofs.GroupLines.{IsSingle}
 use Rattle.md_rows.proofs.GroupLines.{IsSpanLine, IsUnder, Leaves, line-as, line-further}
 use Rattle.md_rows.proofs.LineBehind.{FirstBegins, IsBehind, begins-behind, behind-fresh, behind-on, blank-ends}
 use Rattle.md_rows.proofs.LineBehind.{first-begins, first-behind, leaf-fresh, leaf-other, leaf-row-ends, leaves-left}

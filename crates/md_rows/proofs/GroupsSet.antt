@@ -53,7 +53,8 @@ single-set options bytes row es is kind e =
     leaf : (kind : RowKind) → row.kind ≡ kind → (es : List Event) →
         resolved (leaf_events kind row ++ es) ≡ leaf_unread bytes kind row ++ resolved es
     leaf BlankRow e es =
-        outside-passes row.inside es (subst AreOutside (sym (is.is.blank e)) (blank-holds AreOutside outside-rows is.line row.first))
+        outside-passes row.inside es (subst AreOutside (sym (is.is.blank e))
+        (blank-holds AreOutside outside-rows is.line row.first))
     leaf (LeafRow l) e es =
         ap (λ (added : List Event). resolved (added ++ es))
         (is.is.leaf_is l e ∙ ap (λ (line : List ℕ). (line_leaf l).added options row.on line row.first) is.is.line_is)
@@ -84,7 +85,8 @@ text-outside : (options : ParseOptions) (bytes : List ℕ) (row : Row) (rows : L
 text-outside options bytes =
     text-holds AreOutside outside-rows (of-each IsOutside outside-of) options bytes
     (λ row rows are. around-outside text_leaf.name row.first (last_row row rows).end (unread_lines row rows) refl
-    (each-linked IsOutside (λ p link. refl) (λ q. refl) (λ es h. front-outside es (prefixes-front es h)) text_link row rows
+    (each-linked IsOutside (λ p link. refl) (λ q. refl) (λ es h. front-outside es (prefixes-front es h)) text_link row
+    rows
     (lines-prefixed options bytes row rows are)))
 
 -- nor is that of an underline

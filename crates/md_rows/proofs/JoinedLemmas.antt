@@ -554,7 +554,8 @@ text-rows bytes row below rows q after fronts ends h none heads kind e same = go
             let bad : true ≡ false = sym head ∙ subst HeadsNone is (groups-unheaded below rows e heads) in cc
 
 -- a line that is not text, and what follows it
-single-rows : (bytes : List ℕ) (row : Row) (rows : List Row) → HasFront bytes row → HasNoContent row → (kind : RowKind) →
+single-rows : (bytes : List ℕ) (row : Row) (rows : List Row) → HasFront bytes row → HasNoContent row →
+    (kind : RowKind) →
     row.kind ≡ kind → kind ≢ TextRow → joined (rows_events rows) ≡ joined_groups bytes (groups rows) →
     joined (row_events row ++ rows_events rows) ≡ joined_groups bytes (onto_groups row kind (groups rows))
 single-rows bytes row rows front quiet kind e apart same = passes ∙ by kind apart

@@ -3,7 +3,8 @@ use Rattle.md_engine.specs.declared.tokenizer.held_leaf.HeldLeaf.TheVariants as 
 use Rattle.md_engine.specs.declared.tokenizer.held_leaf.HeldLeaf.{HeldLeaf}
 use Rattle.md_frame.specs.LeafName.{LeafName}
 use Rattle.md_registry.specs.Registry.{leaf}
-use Rattle.md_rows.proofs.GroupLines.{first-text, AreSpan, Begins, FirstIs, IsHead, IsSpanLine, IsUnder, Leaves, AreLines}
+use Rattle.md_rows.proofs.GroupLines.{first-text, AreSpan, Begins, FirstIs, IsHead, IsSpanLine, IsUnder, Leaves}
+use Rattle.md_rows.proofs.GroupLines.{AreLines}
 use Rattle.md_rows.proofs.LineBehind.{FirstBegins, IsBehind, behind-fresh, behind-on, leaf-fresh, leaves-left}
 use Rattle.md_rows.proofs.LineBehind.{leaves-longer, unjoined-fresh, begins-behind, blank-ends, first-begins}
 use Rattle.md_rows.proofs.LineBehind.{first-behind, leaf-other, leaf-row-ends, shut-behind, turned-alone}
@@ -192,8 +193,10 @@ module _ (options : ParseOptions) (bytes line : List ℕ) (P : List Name → Poi
   -- lines of a leaf of several
   span-holds : (rows : List Row) (gs : List Group) → Begun options bytes P names p (LeafLines row rows ∷ gs) →
       Both_of (LeafLines row rows ∷ gs)
-  span-holds rows gs spanned =
-      (λ begins. known-holds (LeafLines row rows) gs _ spanned (span-group options bytes row rows spanned.are begins), spanned)
+  span-holds rows gs spanned = (
+    λ begins. known-holds (LeafLines row rows) gs _ spanned (span-group options bytes row rows spanned.are begins),
+    spanned,
+  )
 
   -- where no leaf is open after the line, the next line begins one, so it holds of the groups below
   fresh-holds : (gs : List Group) → EndsOnLine row.kind → row.kind ≢ TextRow → FirstIs (IsBehind bytes q row) gs →
@@ -391,7 +394,8 @@ module _ (options : ParseOptions) (bytes line : List ℕ) (P : List Name → Poi
           let opens : next.change.opens ≡ [] = none-nil next.change.opens parts.1 in
           text-holds (next ∷ rows) gs
           (longer (AreLines options bytes row (next ∷ rows)) _
-          (text-longer e next rows gs ended opens below.front below.are) next (last_row next rows) gs leaves opens below)
+          (text-longer e next rows gs ended opens below.front below.are) next (last_row next rows) gs leaves opens
+          below)
   text_row-holds e gs ended first below h = alone-holds e gs (h tt)
 
   -- a line of a leaf, by whether the leaf always ends on it

@@ -302,7 +302,8 @@ lines-read options bytes x k row (next ∷ rows) behind h r ends =
     let line = (first-text options bytes next rows h.7).1 in
     let on : Leads x bytes k row next rows = leads options bytes x k row next rows h r in
     let feed = on.feed in
-    let read = line-read options bytes h.0 x row h.1 r.small r.bytes_are (let within = on.within in omega (arith, within)) in
+    let read = line-read options bytes h.0 x row h.1 r.small r.bytes_are
+    (let within = on.within in omega (arith, within)) in
     let more = lines-read options bytes x (k + 1) next rows behind h.7 on.below ends in
     let apart = are-apart options bytes row next rows h in
     let last = (last_row next rows).end in

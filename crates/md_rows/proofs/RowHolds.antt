@@ -16,7 +16,8 @@ use Rattle.md_frame.specs.Change.{ends_of}
 use Rattle.md_frame.specs.EndingName.{ending_name}
 use Rattle.md_frame.specs.LeafName.{LeafName}
 use Rattle.md_frame.specs.RestLine.{rest_line}
-use Rattle.md_frame.specs.Row.{BlankRow, LeafRow, Row, RowKind, TextRow, blank_line, ending_events, is_blank_by, last_row}
+use Rattle.md_frame.specs.Row.{BlankRow, LeafRow, Row, RowKind, TextRow, blank_line, ending_events, is_blank_by}
+use Rattle.md_frame.specs.Row.{last_row}
 use Rattle.md_frame.specs.Row.{span_by}
 use Rattle.md_frame.specs.UnreadText.{linked_lines}
 use Rattle.md_registry.specs.Registry.{leaf}
@@ -134,10 +135,12 @@ each-linked P begin end prefix link row (next ∷ rows) h = (
 -- one from which definitions are cut
 pub text-holds : (L : List Event → Type 0) → OfRows L → OfDefinitions L → (options : ParseOptions) (bytes : List ℕ) →
     ((row : Row) (rows : List Row) → AreLines options bytes row rows → L (lines_unread row rows)) → (row : Row)
-    (rows : List Row) → AreLines options bytes row rows → HasFront bytes row → L (unread_group options bytes (Lines row rows))
+    (rows : List Row) → AreLines options bytes row rows → HasFront bytes row → L
+    (unread_group options bytes (Lines row rows))
 text-holds L of defined options bytes lines row rows are front =
     around-holds L of bytes row (last_row row rows) false (text_unread options bytes row rows) front
-    (cut-of L defined options bytes lines row rows (text_unread options bytes row rows) (text_done options bytes row rows)
+    (cut-of L defined options bytes lines row rows (text_unread options bytes row rows)
+    (text_done options bytes row rows)
     (cut-is options bytes row rows are))
 
 -- with the line that turns it
@@ -147,7 +150,8 @@ pub turned-holds : (L : List Event → Type 0) → OfRows L → (options : Parse
     L under.inside → L (unread_group options bytes (Turned row rows under))
 turned-holds L of options bytes row rows under is text inside =
     of.append (unread_group options bytes (Lines row rows)) (row_events under) text
-    (of.append (under.front ++ leaf_events under.kind under) (tail_events (ending_name (is_blank_by under.kind under)) under)
+    (of.append (under.front ++ leaf_events under.kind under)
+    (tail_events (ending_name (is_blank_by under.kind under)) under)
     (of.append under.front (leaf_events under.kind under)
     (of.fronts under.front
     (prefixes-front under.front (under-prefixed options bytes (last_row row rows) under is)))

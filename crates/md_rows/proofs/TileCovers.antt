@@ -104,7 +104,8 @@ groups-reach options bytes open_before still p (line ∷ []) (row ∷ []) are =
     let is : IsLine options bytes open_before still p line row = are.0 in
     let at_end : same_place row.end (end_point bytes) ≡
     true = and_from _ _ (eq-eqb row.end.index (length bytes) are.3) (eq-eqb row.end.vs 0 is.is.end_whole) in
-    ap (λ (q : Point). same_place q (end_point bytes)) (onto-behind p row [] _ (onto row row.kind []) ∙ behind-none row are.2) ∙ at_end
+    ap (λ (q : Point). same_place q (end_point bytes))
+    (onto-behind p row [] _ (onto row row.kind []) ∙ behind-none row are.2) ∙ at_end
 groups-reach options bytes open_before still p (line ∷ next ∷ lines) (row ∷ below ∷ rows) are =
     ap (λ (q : Point). same_place q (end_point bytes))
     (onto-behind p row (groups (below ∷ rows)) _ (onto row row.kind (groups (below ∷ rows)))

@@ -75,7 +75,8 @@ pub underlined-unspanned : (options : ParseOptions) (bytes : List ℕ) (row : Ro
     AreUnspanned (unread_group options bytes (Turned row rows under))
 underlined-unspanned options bytes row rows under are is front =
     turned-holds AreUnspanned unspanned-rows options bytes row rows under is
-    (text-unspanned options bytes row rows are front) (under-holds AreUnspanned underline-unspanned options bytes row rows under are is)
+    (text-unspanned options bytes row rows are front)
+    (under-holds AreUnspanned underline-unspanned options bytes row rows under are is)
 
 -- the lines that an underline turns, with it
 heading-unspanned : (options : ParseOptions) (bytes : List ℕ) (row : Row) (rows : List Row) (under : Row) →

@@ -109,13 +109,15 @@ module _ (options : ParseOptions) (bytes : List ℕ)
       (subst₂
       (R row (own ++ next ∷ below)
       ((defined_unread d row own ++ between end.end q next.front) ++ cut_before k next below))
-      (gap (defined_unread d row own) (cut_unread k next below)) (gap (defined_done bytes d row own) (cut_done k next below))
+      (gap (defined_unread d row own) (cut_unread k next below))
+      (gap (defined_done bytes d row own) (cut_done k next below))
       (of.follows d row own next below q (cut_before k next below) (cut_unread k next below) (cut_done k next below)
       (lines-front options bytes row own (next ∷ below) are) is two.4 two.5 two.6
       (more next below (omega arith) two.7 (rest two.7))))
 
   pub cuts : length bytes < 2 ^ 61 → (k : ℕ) (row : Row) (rows : List Row) (are : AreLines options bytes row rows) →
-      C row rows are → length rows < k → R row rows (cut_before k row rows) (cut_unread k row rows) (cut_done k row rows)
+      C row rows are → length rows < k → R row rows (cut_before k row rows) (cut_unread k row rows)
+      (cut_done k row rows)
   cuts small zero row rows are holds lt = absurd (omega (arith, lt))
   cuts small (suc k) row rows are holds lt =
       go options.constructs.definition refl (definition_parts (lines_cells options bytes row rows)) refl
@@ -137,11 +139,15 @@ module _ (options : ParseOptions) (bytes : List ℕ)
           let all : take few rows ++ drop few rows ≡ rows = take-append-drop few rows in
           subst
           (λ (l : List Row).
-          R row l (defined_unread d row (take few rows) ++ behind_cut (cut_before k) (last_row row (take few rows)) (drop few rows))
-          (defined_unread d row (take few rows) ++ behind_cut (cut_unread k) (last_row row (take few rows)) (drop few rows))
-          (defined_done bytes d row (take few rows) ++ behind_cut (cut_done k) (last_row row (take few rows)) (drop few rows)))
+          R row l (defined_unread d row (take few rows) ++ behind_cut (cut_before k) (last_row row (take few rows))
+          (drop few rows))
+          (defined_unread d row (take few rows) ++ behind_cut (cut_unread k) (last_row row (take few rows))
+          (drop few rows))
+          (defined_done bytes d row (take few rows) ++ behind_cut (cut_done k) (last_row row (take few rows))
+          (drop few rows)))
           all
-          (behind-cut k row (take few rows) (drop few rows) d (subst (AreLines options bytes row) (sym all) are) cut.defined
+          (behind-cut k row (take few rows) (drop few rows) d (subst (AreLines options bytes row) (sym all) are)
+          cut.defined
           (of.rest row rows are holds d on e (take few rows) (drop few rows) all cut.rest)
           (λ next below shorter.
           further next below (let size = length-drop few rows in omega (arith, size, lt, shorter))))

@@ -67,7 +67,8 @@ turns-at options bytes last same under e turns = record {
 abbrev AreTurned : (options : ParseOptions) (bytes : List ℕ) (under : Row) → Rest → (row : Row) (rows : List Row) →
     AreLines options bytes row rows → Type 0
 AreTurned options bytes under rest row rows are =
-    (turns : Turns options bytes (last_row row rows) under) × (turns.is.rest ≡ rest) × Remains options bytes row rows are
+    (turns : Turns options bytes (last_row row rows) under) × (turns.is.rest ≡ rest) × Remains options bytes row rows
+    are
 
 abbrev last_turned : Rest → Blocks → List (List ℕ) → Blocks
 last_turned rest bs lines = then_block bs (turn_leaf.block lines rest)
