@@ -1,6 +1,7 @@
 pub mod HeadStep
 pub mod Items
 pub mod Names
+pub mod Nests
 pub mod Passed
 pub mod SetextLook
 pub mod SetextStep

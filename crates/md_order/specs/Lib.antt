@@ -1,3 +1,4 @@
 pub mod Alone
 pub mod InOrder
 pub mod Left
+pub mod TurnsNest

@@ -1,0 +1,2 @@
+-- Events that nest still do behind the resolvers.
+pub mod Turns
