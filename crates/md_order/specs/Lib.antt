@@ -1,4 +1,5 @@
 pub mod Alone
 pub mod InOrder
 pub mod Left
+pub mod Nests
 pub mod TurnsNest

@@ -1,3 +1,4 @@
+pub mod Nested
 pub mod NoUnderline
 pub mod PassLaws
 pub mod Same

@@ -1,10 +1,12 @@
 // The resolver of list items.
 
-ghost use Rattle.std.specs.Prelude.{◌≡◌, [], IfOk, None};
+ghost use Rattle.std.specs.Prelude.{◌≡◌, [], IfOk, None, OnOk};
 ghost use Rattle.std.specs.Option.{option_map};
 ghost use Rattle.md_engine.specs.Found.{found_in};
 ghost use Rattle.md_engine.specs.World.{world};
 ghost use Rattle.md_containers.specs.Listed.{listed};
+ghost use Rattle.md_order.specs.Nests.{ListsNest};
+ghost use Rattle.md_seam.specs.Events.Nested.{Nested};
 
 use crate::pass::pass;
 use md_engine::message::Message;
@@ -23,6 +25,10 @@ pub fn resolve(tokenizer: &mut Tokenizer) -> Result<Option<Subresult>, Message>
         record (world tokenizer.old) {
           events = listed (world tokenizer.old).setting.bytes (world tokenizer.old).events;
         }) }
+    ensures nested { OnOk result
+        (ListsNest (world tokenizer.old).events →
+        Nested (world tokenizer.old).events →
+        Nested (world tokenizer.new).events) }
     ensures found { IfOk result (λ found. option_map found_in found ≡ None) }
 {
     pass(tokenizer, &[Name::ListItem])
