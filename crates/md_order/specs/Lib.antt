@@ -1,4 +1,5 @@
 pub mod Alone
+pub mod HeadingsNest
 pub mod InOrder
 pub mod Left
 pub mod Nests
