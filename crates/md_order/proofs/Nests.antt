@@ -1,4 +1,6 @@
 -- Events that nest still do behind the resolvers.
+pub mod Cells
 pub mod Headings
 pub mod Leads
+pub mod Tables
 pub mod Turns

@@ -7,17 +7,17 @@ use Rattle.md_engine.specs.declared.event.Kind.TheVariants.{Enter, Exit}
 use Rattle.md_engine.specs.declared.event.Name.{Name}
 use Rattle.md_engine.specs.declared.event.Name.TheVariants as n
 use Rattle.md_engine.specs.declared.event.Point.{Point}
-use Rattle.md_leaves.specs.HeadingText.{begins, ends, headings_resolved, is_heading, is_run, is_sequence, Opened}
-use Rattle.md_leaves.specs.HeadingText.{Outside, Place, resolved, text_between, Within}
+use Rattle.md_leaves.specs.HeadingText.{Opened, Outside, Place, Within, begins, ends, headings_resolved, is_heading}
+use Rattle.md_leaves.specs.HeadingText.{is_run, is_sequence, resolved, text_between}
 use Rattle.md_leaves.specs.HeadingText as text
-use Rattle.md_seam.specs.Events.Nested.{around, Fits, is_enter, is_exit, Nested, open_behind, pair}
+use Rattle.md_seam.specs.Events.Nested.{Fits, Nested, around, is_enter, is_exit, open_behind, pair}
 use Rattle.md_seam.specs.Events.Places.{first_point}
 use Rattle.md_seam.specs.Events.Tiles.{is_data}
 use Rattle.md_seam.proofs.NestedLemmas.{at_or_before-refl, at_or_before-trans}
-use Rattle.md_order.specs.HeadingsNest.{HeadingsNest, RunsStand, StandsAlone}
-use Rattle.md_order.proofs.Nests.Leads.{Before, behind-under, Leads, leads-append, leads-event, leads-from, leads-none}
-use Rattle.md_order.proofs.Nests.Leads.{leads-order, leads-under, nested-under, Under, under-event, under-from}
-use Rattle.md_order.proofs.Nests.Leads.{under-leads, under-nested, under-rest}
+use Rattle.md_order.specs.HeadingsNest.{HeadingsNest, RunsStand}
+use Rattle.md_order.proofs.Nests.Leads.{Before, Leads, Under, alone-begun, alone-ended, behind-under, fits-inside}
+use Rattle.md_order.proofs.Nests.Leads.{leads-append, leads-event, leads-from, leads-none, leads-order, leads-under}
+use Rattle.md_order.proofs.Nests.Leads.{nested-under, under-event, under-from, under-leads, under-nested, under-rest}
 
 -- Names.
 
@@ -71,13 +71,11 @@ sequence-ended e h = go e.kind e.name h
 -- In a heading each event but its end fits what is open in it.
 inside-fits : (names outer : List Name) (e : Event) → ends is_heading e ≡ false →
     Fits (names ++ n.HeadingAtx ∷ outer) e.kind e.name → Fits names e.kind e.name
-inside-fits names outer e inside fits = go names e.kind inside fits
+inside-fits names outer e inside = fits-inside names n.HeadingAtx outer e (never e.kind inside)
   where
-    go : (names : List Name) (kind : Kind) → (is_exit kind && is_heading e.name) ≡ false →
-        Fits (names ++ n.HeadingAtx ∷ outer) kind e.name → Fits names kind e.name
-    go names Enter h k = tt
-    go [] Exit h k = absurd (let no : true ≡ false = ap is_heading k ∙ h in cc)
-    go (name ∷ names) Exit h k = k
+    never : (kind : Kind) → (is_exit kind && is_heading e.name) ≡ false → kind ≡ Exit → n.HeadingAtx ≡ e.name → ⊥
+    never Exit h k named = absurd (let no : true ≡ false = ap is_heading named ∙ h in cc)
+    never Enter h k named = absurd (let no : Enter ≡ Exit = k in cc)
 
 -- What is held within a text.
 
@@ -189,18 +187,6 @@ behind-inside : (names outer : List Name) (p : Point) (e : Event) (es : List Eve
 behind-inside names outer p e es inside h =
     subst (λ (l : List Name). Under l e.point es)
     (behind-under names (n.HeadingAtx ∷ outer) e (inside-fits names outer e inside h.matches.0)) (under-rest e es h)
-
--- a run begins where nothing is open
-alone-begun : (names : List Name) (e : Event) → e.kind ≡ Enter → StandsAlone names e.kind e.name → names ≡ []
-alone-begun names e enters h = subst (λ (k : Kind). StandsAlone names k e.name) enters h
-
-alone-ended : (names : List Name) (e : Event) → e.kind ≡ Exit → StandsAlone names e.kind e.name →
-    open_behind names e.kind e.name ≡ []
-alone-ended names e exits h = go e.kind exits h
-  where
-    go : (kind : Kind) → kind ≡ Exit → StandsAlone names kind e.name → open_behind names kind e.name ≡ []
-    go Exit k h = h
-    go Enter k h = absurd (let no : Enter ≡ Exit = k in cc)
 
 -- What is shown of a walk over some events, wherever it stands.
 abbrev Goes : List Event → List Name → Point → Place → List Name → Point → Type 0

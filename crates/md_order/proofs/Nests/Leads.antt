@@ -2,13 +2,16 @@
 use Rattle.std.proofs.Common.{◌≡◌, List, [], ◌∷◌, ◌++◌, refl, ap, sym, ◌∙◌, subst}
 use Rattle.std.specs.Prelude.{IsTrue}
 use Rattle.md_engine.specs.declared.event.Event.{Event}
+use Rattle.md_engine.specs.declared.event.Kind.{Kind}
+use Rattle.md_engine.specs.declared.event.Kind.TheVariants.{Enter, Exit}
 use Rattle.md_engine.specs.declared.event.Name.{Name}
 use Rattle.md_engine.specs.declared.event.Point.{Point}
-use Rattle.md_seam.specs.Events.Nested.{Fits, Forward, last_point, Matches, Nested, open_after, open_behind}
+use Rattle.md_seam.specs.Events.Nested.{Fits, Forward, Matches, Nested, last_point, open_after, open_behind}
 use Rattle.md_seam.specs.Events.Places.{at_or_before, first_point}
 use Rattle.md_seam.proofs.NestedLemmas.{at_or_before-refl, at_or_before-trans, forward-append, forward-from}
 use Rattle.md_seam.proofs.NestedLemmas.{forward-last, last_point-append, matches-append, matches-under}
 use Rattle.md_seam.proofs.NestedLemmas.{open_after-append, open_after-under}
+use Rattle.md_order.specs.HeadingsNest.{StandsAlone}
 
 -- one point does not stand behind another
 abbrev pub Before : Point → Point → Type 0
@@ -129,3 +132,27 @@ under-nested es h = record {
 pub behind-under : (names outer : List Name) (e : Event) → Fits names e.kind e.name →
     open_behind (names ++ outer) e.kind e.name ≡ open_behind names e.kind e.name ++ outer
 behind-under names outer e fits = open_after-under names outer (e ∷ []) (fits, tt)
+
+-- In a part, an event that does not end it fits what is open there.
+pub fits-inside : (names : List Name) (name : Name) (outer : List Name) (e : Event) →
+    (e.kind ≡ Exit → name ≡ e.name → ⊥) → Fits (names ++ name ∷ outer) e.kind e.name → Fits names e.kind e.name
+fits-inside names name outer e inside fits = go names e.kind inside fits
+  where
+    go : (names : List Name) (kind : Kind) → (kind ≡ Exit → name ≡ e.name → ⊥) →
+        Fits (names ++ name ∷ outer) kind e.name → Fits names kind e.name
+    go names Enter h k = tt
+    go [] Exit h k = absurd (h refl k)
+    go (innermost ∷ names) Exit h k = k
+
+-- A part that stands by itself: nothing is open where it begins, nor behind its end.
+
+pub alone-begun : (names : List Name) (e : Event) → e.kind ≡ Enter → StandsAlone names e.kind e.name → names ≡ []
+alone-begun names e enters h = subst (λ (k : Kind). StandsAlone names k e.name) enters h
+
+pub alone-ended : (names : List Name) (e : Event) → e.kind ≡ Exit → StandsAlone names e.kind e.name →
+    open_behind names e.kind e.name ≡ []
+alone-ended names e exits h = go e.kind exits h
+  where
+    go : (kind : Kind) → kind ≡ Exit → StandsAlone names kind e.name → open_behind names kind e.name ≡ []
+    go Exit k h = h
+    go Enter k h = absurd (let no : Enter ≡ Exit = k in cc)
