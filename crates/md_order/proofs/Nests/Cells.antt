@@ -1,7 +1,7 @@
 -- Where cells are put into a row, its events nest as before: one event of a row.
-use Rattle.std.proofs.Common.{◌≡◌, ◌⊎◌, inl, inr, ℕ, zero, suc, Bool, true, false, cond, ◌&&◌, ◌||◌, List, [], ◌∷◌}
+use Rattle.std.proofs.Common.{◌≡◌, ◌⊎◌, inl, inr, ℕ, zero, suc, Bool, true, false, cond, ◌&&◌, List, [], ◌∷◌}
 use Rattle.std.proofs.Common.{◌++◌, refl, ap, sym, ◌∙◌, subst}
-use Rattle.std.proofs.lemmas.Bool.{and_parts, and_right}
+use Rattle.std.proofs.lemmas.Bool.{and_parts, and_right, or_left, or_right}
 use Rattle.md_engine.specs.declared.event.Event.{Event}
 use Rattle.md_engine.specs.declared.event.Kind.{Kind}
 use Rattle.md_engine.specs.declared.event.Kind.TheVariants.{Enter, Exit}
@@ -97,33 +97,25 @@ left : (kind : Kind) → is_exit kind ≡ true → kind ≡ Exit
 left Exit h = refl
 left Enter h = absurd (let no : false ≡ true = h in cc)
 
-or-left : (x y : Bool) → x ≡ true → (x || y) ≡ true
-or-left true y h = refl
-or-left false y h = absurd (let no : false ≡ true = h in cc)
-
-or-right : (x y : Bool) → y ≡ true → (x || y) ≡ true
-or-right true y h = refl
-or-right false y h = h
-
 divider-begun : (k : RowKind) (e : Event) → begins_divider e ≡ true → Begun k e
 divider-begun k e h =
     let parts = and_parts (is_enter e.kind) (is_divider e.name) h in
-    record { enters = entered e.kind parts.0; part = or-left (is_divider e.name) (is_inner k e.name) parts.1 }
+    record { enters = entered e.kind parts.0; part = or_left (is_divider e.name) (is_inner k e.name) parts.1 }
 
 divider-ended : (k : RowKind) (e : Event) → ends_divider e ≡ true → Ended k e
 divider-ended k e h =
     let parts = and_parts (is_exit e.kind) (is_divider e.name) h in
-    record { exits = left e.kind parts.0; part = or-left (is_divider e.name) (is_inner k e.name) parts.1 }
+    record { exits = left e.kind parts.0; part = or_left (is_divider e.name) (is_inner k e.name) parts.1 }
 
 inner-begun : (k : RowKind) (e : Event) → begins_inner k e ≡ true → Begun k e
 inner-begun k e h =
     let parts = and_parts (is_enter e.kind) (is_inner k e.name) h in
-    record { enters = entered e.kind parts.0; part = or-right (is_divider e.name) (is_inner k e.name) parts.1 }
+    record { enters = entered e.kind parts.0; part = or_right (is_divider e.name) (is_inner k e.name) parts.1 }
 
 inner-ended : (k : RowKind) (e : Event) → ends_inner k e ≡ true → Ended k e
 inner-ended k e h =
     let parts = and_parts (is_exit e.kind) (is_inner k e.name) h in
-    record { exits = left e.kind parts.0; part = or-right (is_divider e.name) (is_inner k e.name) parts.1 }
+    record { exits = left e.kind parts.0; part = or_right (is_divider e.name) (is_inner k e.name) parts.1 }
 
 -- a word
 word-name : (name : Name) → is_inner Text name ≡ true → name ≡ n.Data
