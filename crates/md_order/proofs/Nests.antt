@@ -1,4 +1,5 @@
 -- Events that nest still do behind the resolvers.
+pub mod All
 pub mod Cells
 pub mod Headings
 pub mod Leads

@@ -20,6 +20,8 @@ ghost use Rattle.md_leaves.specs.Turned as setext;
 ghost use Rattle.md_order.specs.Alone.{MayPass, is_set};
 ghost use Rattle.md_order.specs.InOrder.{every, in_order, wanted_of};
 ghost use Rattle.md_order.specs.Left.{MayStay, is_passed, is_same};
+ghost use Rattle.md_order.specs.Nests.{MayNest};
+ghost use Rattle.md_seam.specs.Events.Nested.{Nested};
 ghost use Rattle.md_seam.specs.Events.Spelled.{role};
 ghost use Rattle.md_seam.specs.Parts.{ArePlaced};
 ghost use Rattle.md_tables.specs.Tabled.{begins_table, bound_of, tabled};
@@ -441,8 +443,8 @@ pub fn is_same(wanted: Wanted, event: &Event) -> bool
 /// Runs the resolvers of these names in one pass: those of items, of ATX headings, of setext headings and of tables, as if
 /// they ran one behind the other, in this order. Other names change nothing. Where nothing is to be set nothing is moved.
 ///
-/// Of more than one name it asks that leaf blocks hold no block. After an `Err`, which says that memory ran out, the parse
-/// has failed, and the tokenizer is only dropped.
+/// Of more than one name it asks that leaf blocks hold no block. Events that nest still do, if what each resolver gets
+/// fits it. After an `Err`, which says that memory ran out, the parse has failed, and the tokenizer is only dropped.
 pub fn pass(tokenizer: &mut Tokenizer, names: &[ResolveName]) -> Result<Option<Subresult>, Message>
     requires frames { (world tokenizer.old).frames ≡ [] }
     requires may { MayPass (wanted_of names.now) (world tokenizer.old).events }
@@ -452,6 +454,10 @@ pub fn pass(tokenizer: &mut Tokenizer, names: &[ResolveName]) -> Result<Option<S
         record (world tokenizer.old) {
           events = in_order (wanted_of names.now) (world tokenizer.old).setting.bytes (world tokenizer.old).events;
         }) }
+    ensures nested { OnOk result
+        (MayNest (wanted_of names.now) (world tokenizer.old).setting.bytes (world tokenizer.old).events →
+        Nested (world tokenizer.old).events →
+        Nested (world tokenizer.new).events) }
     ensures found { IfOk result (λ found. option_map found_in found ≡ None) }
 {
     let wanted = wanted_of(names);
