@@ -113,17 +113,11 @@ tail_of k = drop 1 (name_of (letter_of k)) ++ 93 ∷ []
 
 pub marker-parts : (k : AlertKind) → str_to_ascii_lowercase (marker_of k) ≡ 91 ∷ 33 ∷ letter_of k ∷ tail_of k
 marker-parts its.Note = refl
-marker-parts its.Tip = refl
-marker-parts its.Important = refl
-marker-parts its.Warning = refl
-marker-parts its.Caution = refl
+marker-parts _ = refl
 
 pub marker-length : (k : AlertKind) → length (marker_of k) ≡ suc (suc (suc (length (tail_of k))))
 marker-length its.Note = refl
-marker-length its.Tip = refl
-marker-length its.Important = refl
-marker-length its.Warning = refl
-marker-length its.Caution = refl
+marker-length _ = refl
 
 -- in bytes, the letter is the third
 abbrev third : List ℕ → ℕ
@@ -170,10 +164,7 @@ kind-quote bytes = first-none (λ j. has_marker j (62 ∷ bytes)) none
   where
     none : (j : AlertKind) → has_marker j (62 ∷ bytes) ≡ false
     none its.Note = refl
-    none its.Tip = refl
-    none its.Important = refl
-    none its.Warning = refl
-    none its.Caution = refl
+    none _ = refl
 
 -- A marker on the cells of bytes.
 
@@ -183,10 +174,7 @@ is_plain m = nat_lt 32 (to_ascii_lowercase m)
 
 marker-plain : (k : AlertKind) → list_all is_plain (marker_of k) ≡ true
 marker-plain its.Note = refl
-marker-plain its.Tip = refl
-marker-plain its.Important = refl
-marker-plain its.Warning = refl
-marker-plain its.Caution = refl
+marker-plain _ = refl
 
 plain-other : (b n : ℕ) → b ≤ 32 → nat_lt 32 n ≡ true → (b == n) ≡ false
 plain-other b n le e = grind (arith, nat_tests)

@@ -55,12 +55,8 @@ name-letter b = go (b == 110) (b == 116) (b == 105) (b == 119) (b == 99)
         (cond x (Some its.Note)
         (cond y (Some its.Tip)
         (cond z (Some its.Important) (cond u (Some its.Warning) (cond v (Some its.Caution) None)))))
-    go true y z u v = refl
-    go false true z u v = refl
-    go false false true u v = refl
-    go false false false true v = refl
     go false false false false true = refl
-    go false false false false false = refl
+    go _ _ _ _ _ = refl
 
 letter-back : (b : ℕ) (k : AlertKind) → of_letter b ≡ Some k → b ≡ letter_of k
 letter-back b k = go (b == 110) refl (b == 116) refl (b == 105) refl (b == 119) refl (b == 99) refl
@@ -84,10 +80,7 @@ letter-back b k = go (b == 110) refl (b == 116) refl (b == 105) refl (b == 119) 
 
 tail-length : (k : AlertKind) → length (tail_of k) ≡ suc (length (drop 1 (name_of (letter_of k))))
 tail-length its.Note = refl
-tail-length its.Tip = refl
-tail-length its.Important = refl
-tail-length its.Warning = refl
-tail-length its.Caution = refl
+tail-length _ = refl
 
 -- The name.
 
@@ -230,10 +223,7 @@ letter-step c cs k o e =
         letter_by o c cs k
     by None = refl
     by (Some its.Note) = refl
-    by (Some its.Tip) = refl
-    by (Some its.Important) = refl
-    by (Some its.Warning) = refl
-    by (Some its.Caution) = refl
+    by (Some _) = refl
 
 -- the rest of the name of a kind, whose letter was taken
 name-marked : (j : AlertKind) (a b c : Cell) (cs : List Cell) (h : Here) → takes j (a ∷ b ∷ c ∷ cs) ≡

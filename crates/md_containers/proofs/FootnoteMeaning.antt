@@ -353,14 +353,8 @@ footnote_steps B feed its.WhitespaceAfter w has s at = whitespace_after_means B 
 -- what a state that is ready has, its rule needs
 ready-holds : (state : FootnoteState) (x : Position) (K : After) →
     footnote_ready (n.GfmFootnoteDefinition state) x K → FootnoteInvariant (n.GfmFootnoteDefinition state) x
-ready-holds its.Start x K at = tt
-ready-holds its.LabelBefore x K at = tt
-ready-holds its.LabelAtMarker x K at = tt
 ready-holds its.LabelInside x K at = at.0.size
-ready-holds its.LabelEscape x K at = tt
-ready-holds its.LabelAfter x K at = tt
-ready-holds its.MarkerAfter x K at = tt
-ready-holds its.WhitespaceAfter x K at = tt
+ready-holds _ x K at = tt
 
 -- and so where its attempts end as they have to
 pub footnote_means : (B : Behaviour) (feed : Feed) (state : FootnoteState) (w : World) (K : After) →

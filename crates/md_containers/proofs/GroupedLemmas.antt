@@ -64,9 +64,8 @@ one-list : (m : ℕ) (d : List ℕ) (x : Blocks) (k : ℕ) (e : List ℕ) (y : B
     (cond u (More (ListOf j (More (Item k e y) items)) End)
     (More (ListOf k (More (Item k e y) End)) (More (ListOf j items) End)))
 one-list m d x k e y j items true true h i = rw (h, i) refl
-one-list m d x k e y j items true false h i = rw (h, i) refl
 one-list m d x k e y j items false true h i = rw (h, i) refl
-one-list m d x k e y j items false false h i = rw (h, i) refl
+one-list m d x k e y j items _ _ h i = rw (h, i) refl
 
 -- an item in front of a list with blocks behind it
 more-lists : (m : ℕ) (d : List ℕ) (x : Blocks) (k : ℕ) (e : List ℕ) (y : Blocks) (j : ℕ) (items : Blocks) (b : Block)

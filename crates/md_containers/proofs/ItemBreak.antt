@@ -18,9 +18,8 @@ use Rattle.md_seam.proofs.RestLines.{spread-line}
 
 either-white : (x y : Bool) → (x || true) ≡ (y || true)
 either-white true true = refl
-either-white true false = refl
 either-white false true = refl
-either-white false false = refl
+either-white _ _ = refl
 
 bullet-space : (b : ℕ) → is_bullet b ≡ true → (32 == b) ≡ false
 bullet-space b e = grind (arith, nat_tests)

@@ -221,21 +221,10 @@ item_steps B feed its.ContFilled w has s at = cont_filled_means B _ feed w _ has
 -- what a state that is ready has, its rule needs
 ready-holds : (state : ItemState) (x : Position) (K : After) → item_ready (n.ListItem state) x K →
     ItemInvariant (n.ListItem state) x
-ready-holds its.Start x K at = tt
 ready-holds its.Before x K at = at.0
-ready-holds its.BeforeUnordered x K at = tt
-ready-holds its.BeforeOrdered x K at = tt
-ready-holds its.Value x K at = tt
-ready-holds its.Marker x K at = tt
-ready-holds its.MarkerAfter x K at = tt
 ready-holds its.MarkerAfterFilled x K at = at.0
-ready-holds its.Whitespace x K at = tt
-ready-holds its.WhitespaceAfter x K at = tt
-ready-holds its.PrefixOther x K at = tt
-ready-holds its.After x K at = tt
 ready-holds its.ContStart x K at = at.0.0
-ready-holds its.ContBlank x K at = tt
-ready-holds its.ContFilled x K at = tt
+ready-holds _ x K at = tt
 
 -- and so where its attempts end as they have to
 pub item_means : (B : Behaviour) (feed : Feed) (state : ItemState) (w : World) (K : After) →

@@ -301,9 +301,8 @@ no-break w plain =
 
     none : (x y : Bool) → y && not (x || true) ≡ false
     none true true = refl
-    none true false = refl
     none false true = refl
-    none false false = refl
+    none _ _ = refl
 
 -- The states up to the marker of a bullet take it.
 marker-run : (T : Step) (is_end : Bool) (s : State) (v : World) (next : StateName) (nok : State) (w : World) →
