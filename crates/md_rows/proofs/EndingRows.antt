@@ -1,6 +1,6 @@
 -- The endings of blank lines are told from others, before the text of a document is read and once it is.
 use Rattle.md_engine.specs.declared.tokenizer.held_leaf.HeldLeaf.TheVariants as held_leaf
-use Rattle.std.proofs.Common.{◌≡◌, ℕ, Bool, true, false, ◌&&◌, List, [], ◌∷◌, ◌++◌, refl, ap, sym, ◌∙◌, append_assoc}
+use Rattle.std.proofs.Common.{◌≡◌, ℕ, Bool, true, false, List, [], ◌∷◌, ◌++◌, refl, ap, sym, ◌∙◌, append_assoc}
 use Rattle.std.proofs.Common.{subst, ◌≤◌, length, append-nil}
 use Rattle.md_rows.proofs.GroupLines.{AreSpan, AreGroups, EndsBeforeGroups, IsSingle}
 use Rattle.md_registry.specs.Registry.{leaf}

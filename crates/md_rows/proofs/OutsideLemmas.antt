@@ -1,8 +1,7 @@
 -- What stands around the leaves of a text is outside of what resolvers rewrite.
-use Rattle.std.proofs.Common.{◌≡◌, List, [], ◌∷◌, ◌++◌, refl, ap, sym, ◌∙◌, append_assoc}
+use Rattle.std.proofs.Common.{◌≡◌, List, ◌++◌, refl, ap, sym, ◌∙◌, append_assoc}
 use Rattle.std.proofs.lemmas.Bool.{and_right}
 use Rattle.md_engine.specs.declared.event.Event.{Event}
-use Rattle.md_engine.specs.declared.event.Name.TheVariants as n
 use Rattle.md_seam.specs.Events.Nested.{is_enter}
 use Rattle.md_frame.proofs.EachEvent.{each-as}
 use Rattle.md_registry.specs.Resolving.{resolved}

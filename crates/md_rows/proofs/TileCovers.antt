@@ -2,7 +2,7 @@
 -- read.
 use Rattle.md_engine.specs.declared.tokenizer.held_leaf.HeldLeaf.TheVariants as held_leaf
 use Rattle.md_engine.specs.declared.tokenizer.held_leaf.HeldLeaf.{HeldLeaf}
-use Rattle.std.proofs.Common.{◌≡◌, ℕ, true, ◌&&◌, List, [], ◌∷◌, ◌++◌, length, refl, subst, append-nil, ap, ◌∙◌}
+use Rattle.std.proofs.Common.{◌≡◌, ℕ, true, List, [], ◌∷◌, ◌++◌, length, refl, subst, append-nil, ap, ◌∙◌}
 use Rattle.md_rows.proofs.EachRow.{AsSingle, Onto, onto}
 use Rattle.md_rows.proofs.NestedRows.{ByGroups, rows-hold}
 use Rattle.std.specs.Prelude.{Option, Some, None}
@@ -18,7 +18,6 @@ use Rattle.md_meaning.specs.State.{Container}
 use Rattle.md_seam.specs.Events.Tiles.{end_point}
 use Rattle.md_seam.proofs.InlineLemmas.{same-refl}
 use Rattle.md_frame.specs.ContainerNames.{container_name}
-use Rattle.md_registry.specs.Registry.{leaf}
 use Rattle.md_frame.specs.Change.{ends_of}
 use Rattle.md_rows.specs.Rows.{final_row, first_row, group_ending, Group, groups, tail_events}
 use Rattle.md_frame.specs.Row.{Row, behind_row, ending_events}

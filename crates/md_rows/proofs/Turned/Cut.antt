@@ -1,10 +1,9 @@
 -- What stands in the place of the lines of a text and the line that turns it: definitions one after the other, as they
 -- are cut from the front of the text, and then what that line turns the lines that remain into. Some lines remain.
-use Rattle.std.proofs.Common.{◌≡◌, ℕ, suc, ◌^◌, ◌<◌, true, false, List, [], ◌∷◌, ◌++◌, length, Some, ap, sym, ◌∙◌}
+use Rattle.std.proofs.Common.{◌≡◌, ℕ, suc, true, false, List, [], ◌∷◌, ◌++◌, length, Some, ap, sym, ◌∙◌}
 use Rattle.std.proofs.Common.{subst, arith}
 use Rattle.md_engine.specs.declared.configuration.ParseOptions.{ParseOptions}
 use Rattle.md_engine.specs.declared.event.Event.{Event}
-use Rattle.md_engine.specs.declared.event.Name.TheVariants as n
 use Rattle.md_engine.specs.declared.event.Point.{Point}
 use Rattle.md_meaning.proofs.DefinitionLemmas.{cut_definitions-some}
 use Rattle.md_meaning.specs.Definition.{Defined, cut_definitions}

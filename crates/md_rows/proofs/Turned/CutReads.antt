@@ -1,6 +1,6 @@
 -- What stands in the place of the lines of a text and the line that turns it is read as what the line definition comes
 -- to there: the definitions that are cut from the front of the text, and the block of the lines that remain.
-use Rattle.std.proofs.Common.{◌≡◌, ℕ, zero, suc, ◌<◌, ◌≤◌, true, false, List, [], ◌∷◌, ◌++◌, length, drop, refl, ap}
+use Rattle.std.proofs.Common.{◌≡◌, ℕ, zero, suc, true, false, List, [], ◌∷◌, length, drop, refl, ap}
 use Rattle.std.proofs.Common.{sym, ◌∙◌, subst, arith}
 use Rattle.std.specs.Prelude.{Some, None}
 use Rattle.md_meaning.proofs.DefinitionLemmas.{cut_definitions-some}
@@ -9,7 +9,6 @@ use Rattle.md_meaning.specs.Rest.{Rest}
 use Rattle.md_meaning.specs.State.{cut, texts, then_block, then_definitions}
 use Rattle.md_meaning.specs.Tree.{Blocks}
 use Rattle.md_engine.specs.declared.configuration.ParseOptions.{ParseOptions}
-use Rattle.md_engine.specs.declared.event.Name.TheVariants as n
 use Rattle.md_link_definitions.specs.DefinitionRule.{DefinitionParts, definition_parts, definition_rest}
 use Rattle.md_link_definitions.specs.Progress.{is_none_left}
 use Rattle.md_link_definitions.proofs.DefinitionLines.{cut_of}
