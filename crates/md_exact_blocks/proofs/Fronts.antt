@@ -17,10 +17,6 @@ use Rattle.md_rows.proofs.RowFacts.{IsRow}
 abbrev pub row_with : List Event → Row → Row
 row_with front r = record r { front = front }
 
-chunks-with : (front : List Event) (r : Row) (rs : List Row) → chunks_of (row_with front r) rs ≡ chunks_of r rs
-chunks-with front r [] = refl
-chunks-with front r (next ∷ rs) = refl
-
 breaks-with : (front : List Event) (r : Row) (rs : List Row) → breaks_of (row_with front r) rs ≡ breaks_of r rs
 breaks-with front r [] = refl
 breaks-with front r (next ∷ rs) = refl

@@ -132,18 +132,6 @@ inside-append bytes kind cs ds xs ys h k = record {
   stand = λ zs. ap (chunks_stand 1) (append_assoc xs ys zs) ∙ h.stand (ys ++ zs) ∙ k.stand zs;
 }
 
--- the lines of a text
-pub inside-chunk : (bytes : List ℕ) (p q : Point) →
-    Inside bytes part_kinds.Text ((record { first = p; after = q }) ∷ []) (enter_link n.Data p text_link ∷ exit n.Data q ∷ [])
-inside-chunk bytes p q = record {
-  outside = (refl, (refl, tt));
-  ends = refl;
-  white = refl;
-  has = refl;
-  kinds = refl;
-  stand = λ ys. refl;
-}
-
 -- Their text parts are whole, each of its chunks a line, and no chunk stands elsewhere.
 pub record PartsWhole (bytes : List ℕ) (xs : List Event) : Type 0 where
   pub parts : (ys : List Event) → parts_stand bytes (xs ++ ys) ≡ parts_stand bytes ys

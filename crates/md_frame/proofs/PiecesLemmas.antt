@@ -182,14 +182,6 @@ tiled-around name p q (e ∷ es) h = record {
   covers = subst (λ (l : List Piece). Covers p l q) (sym (pieces-around name p q e es h.begins h.ends)) h.covers;
 }
 
--- a part that is left out if it is empty
-pub tiled-unless_empty : (name : Name) (p q : Point) → Covered p q (pair_unless_empty name p q)
-tiled-unless_empty name p q = go (same_place p q) refl
-  where
-    go : (none : Bool) → same_place p q ≡ none → Covered p q (cond none [] (pair name p q))
-    go true e = tiled-none p q e
-    go false e = tiled-pair name p q
-
 -- an enter in front of events that begin with one
 pub tiled-within : (e f : Event) (q : Point) (es : List Event) → e.kind ≡ Enter → Covered e.point q (f ∷ es) →
     Covered e.point q (e ∷ f ∷ es)

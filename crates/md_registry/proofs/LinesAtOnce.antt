@@ -185,17 +185,7 @@ passes-front is_end s v w e seen within came =
     line-front is_end s v (all_asked openers w) seen within
     (openers-refuse is_end s v openers [] w refl (opens-none w e) seen within came)
 
--- and to the rest of the line,
-pub passes-openers : (is_end : Bool) (s : State) (v w : World) →
-    is_some (asked_first (openers_passed w).flags.leaf) ≡ false →
-    opens_none w.current ≡ true → w.current ≡ looks w → Within w →
-    CameTo FlowStep is_end s v (n.Document (opener_front openers)) w →
-    CameTo FlowStep is_end s v (n.Flow flow.Start) (openers_passed w)
-passes-openers is_end s v w none e seen within came =
-    subst (λ (x : Bool). CameTo FlowStep is_end s v (leaf_front x) (openers_passed w)) none
-    (passes-front is_end s v w e seen within came)
-
--- which is content where its row has the table alone, and a look refuses that.
+-- The rest of the line is content where its row has the table alone, and a look refuses that.
 
 -- a state refuses, and the attempt around it is left
 then-fails : (T : Step) (is_end : Bool) (s : State) (v : World) (name next : StateName) (w u : World) (f : Frame)
