@@ -1,7 +1,8 @@
-// The bench. The first argument says what is tried: `blocks` the parser, `plain` the plain program, `levels` the parser on deep
-// nesting, `agree` both against each other on short texts, `nasty` the same where constructs meet; without one it is all of these.
-// Behind the first two is a task of `test_runner::task`, behind `levels` how many containers are in one another, behind `agree` the
-// most letters of a text, behind `nasty` a task of `test_runner::nasty`. It prints what disagreed, and then how much was tried.
+// The bench. The first argument says what is tried: `blocks` the parser, `plain` the plain program, `levels` the parser
+// on deep nesting, `agree` both against each other on short texts, `nasty` the same where constructs meet; without one
+// it is all of these. Behind the first two is a task of `test_runner::task`, behind `levels` how many containers are in
+// one another, behind `agree` the most letters of a text, behind `nasty` a task of `test_runner::nasty`. It prints what
+// disagreed, and then how much was tried.
 #![tactic(auto)]
 
 use blocks_body::Blocks;
@@ -79,7 +80,8 @@ fn main(rt: HostRuntime) -> io::Result<()> {
     let asked = Bench::asked_for(args.as_slice());
     if asked.is_none() && !args.is_empty() {
         return println!(rt;
-            "blocks or plain, and rows, short LENGTH, or random SEED COUNT; levels COUNT; agree LENGTH; or nasty, and letters MOST, fragments MOST, random SEED COUNT, or alerts SEED COUNT"
+            "blocks or plain, and rows, short LENGTH, or random SEED COUNT; levels COUNT; agree LENGTH; \
+             or nasty, and letters MOST, fragments MOST, random SEED COUNT, or alerts SEED COUNT"
         );
     }
     for bench in Bench::ALL {

@@ -1,4 +1,5 @@
-// Tests of constructs and their resolvers by themselves. A crate with tests is proved twice, so they are here and not beside what they test.
+// Tests of constructs and their resolvers by themselves. A crate with tests is proved twice, so they are here and not
+// beside what they test.
 #![tactic(auto)]
 
 #[cfg(test)]

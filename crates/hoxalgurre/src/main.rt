@@ -1,7 +1,7 @@
 // The program `hoxalgurre`: what a Markdown text has, told of files or of the standard input.
 //
-// `command` says which arguments there are, `input` reads a text, `tasks` prints the reports of all files, and the crate
-// `hoxalgurre_body` makes them. `trouble` has what may go wrong, and the statuses.
+// `command` says which arguments there are, `input` reads a text, `tasks` prints the reports of all files, and the
+// crate `hoxalgurre_body` makes them. `trouble` has what may go wrong, and the statuses.
 #![tactic(auto)]
 
 mod command;

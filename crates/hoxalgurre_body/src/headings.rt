@@ -126,8 +126,8 @@ impl Walk {
     }
 }
 
-/// Sets the ends of all sections, from the last to the first. `ends` has for each depth where the next section begins that
-/// is not deeper.
+/// Sets the ends of all sections, from the last to the first. `ends` has for each depth where the next section begins
+/// that is not deeper.
 fn end_sections(found: &mut [Heading], len: usize) {
     let mut ends = [len; 7];
     for heading in found.iter_mut().rev() {

@@ -3,12 +3,12 @@
 //     reference ::= label | label '[' ']' | '[' text ']' label
 //     label     ::= '[' 1*( '\' byte | byte but '[', ']' and '\' ) ']'
 //
-// The label of the last form, or else the first one, is looked up. What is in a code span or between the `<` and `>` of a
-// tag or an autolink is no reference, and neither is the text of an inline link, as `[a](/b)`. At the start of an item
-// `[ ]` and `[x]` are the box of a task, and at the start of a quote `[!NOTE]` is an alert.
+// The label of the last form, or else the first one, is looked up. What is in a code span or between the `<` and `>` of
+// a tag or an autolink is no reference, and neither is the text of an inline link, as `[a](/b)`. At the start of an
+// item `[ ]` and `[x]` are the box of a task, and at the start of a quote `[!NOTE]` is an alert.
 //
-// A walk over the bytes, each once: `behind` is the byte from which on they are looked at. Brackets that are open are on
-// a stack. A label is read again when it is looked up, and has at most 999 bytes.
+// A walk over the bytes, each once: `behind` is the byte from which on they are looked at. Brackets that are open are
+// on a stack. A label is read again when it is looked up, and has at most 999 bytes.
 
 use crate::position::{Place, Position};
 use crate::references::{Bracket, Part, Reference};
@@ -264,8 +264,8 @@ fn white_len(text: &[u8]) -> usize {
         .count()
 }
 
-/// How many bytes the destination has that begins here: between `<` and `>`, or up to a space, with parentheses in pairs.
-/// One with `](` in it is not taken, so that bytes which may begin many links are not read for each of them.
+/// How many bytes the destination has that begins here: between `<` and `>`, or up to a space, with parentheses in
+/// pairs. One with `](` in it is not taken, so that bytes which may begin many links are not read for each of them.
 fn destination_len(text: &[u8]) -> Option<usize> {
     let is_pointed = text.first() == Some(&b'<');
     let mut depth: usize = 0;

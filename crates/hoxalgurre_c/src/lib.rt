@@ -46,8 +46,8 @@ fn refused(status: u32, count: usize) -> HoxalgurreAnswer {
     HoxalgurreAnswer { status, count }
 }
 
-/// The events of a text, by a set of constructs: 0 is CommonMark, 1 is GFM, 2 is all but alerts, 3 is all. Those that have
-/// room in `out` are written, from its start.
+/// The events of a text, by a set of constructs: 0 is CommonMark, 1 is GFM, 2 is all but alerts, 3 is all. Those that
+/// have room in `out` are written, from its start.
 #[unsafe(no_mangle)]
 pub extern "C" fn hoxalgurre_events(
     alloc: Global,

@@ -48,8 +48,8 @@ struct Page<'a> {
 
 /// The blocks of a text as HTML. An `Err` says that memory ran out.
 ///
-/// A paragraph directly in an item of a tight list has no `<p>` around it. Footnote definitions are shown where the text
-/// has them, definitions and frontmatter not at all.
+/// A paragraph directly in an item of a tight list has no `<p>` around it. Footnote definitions are shown where the
+/// text has them, definitions and frontmatter not at all.
 pub fn render(alloc: Global, events: &[Event], state: &ParseState) -> Result<String, Message> {
     let Ok(loose) = loose_lists(alloc, events) else {
         return Err(Message);

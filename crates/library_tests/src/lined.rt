@@ -296,29 +296,29 @@ fn shows_tables(rt: HostRuntime) {
     for (text, list, want) in [
         (
             "a | b\n-|-\nc",
-            ".Ta .Ha .Ra .Ca .Xa .xb Wb wc .cc .Cc .Dc .dd Wd we .Xe .xf .cf .rf Lf lg .Eg .Fg .Vg .Lg .lh .vh .fh .Fh .Dh \
-             .di .Vi .Li .lj .vj .fj .ej .hj Lj lk .Bk .Rk .Ck .Xk .xl .cl .rl .bl .tl",
+            ".Ta .Ha .Ra .Ca .Xa .xb Wb wc .cc .Cc .Dc .dd Wd we .Xe .xf .cf .rf Lf lg .Eg .Fg .Vg .Lg .lh .vh .fh .Fh \
+             .Dh .di .Vi .Li .lj .vj .fj .ej .hj Lj lk .Bk .Rk .Ck .Xk .xl .cl .rl .bl .tl",
             "table++rc|a|c|b|-|-|-|rc|c|",
         ),
         // One column, and no body; the text has no outer spaces
         (
             "a\n :-: \n\nb",
-            ".Ta .Ha .Ra .Ca .Xa .xb .cb .rb Lb lc .Ec Wc wd .Fd .Vd .Md .me .Le .lf .Mf .mg .vg Wg wh .fh .eh .hh .th Lh li Bi \
-             bj Pj pk",
+            ".Ta .Ha .Ra .Ca .Xa .xb .cb .rb Lb lc .Ec Wc wd .Fd .Vd .Md .me .Le .lf .Mf .mg .vg Wg wh .fh .eh .hh .th Lh \
+             li Bi bj Pj pk",
             "table+rc|a|-|:-:|p|b|",
         ),
         // A row of an empty cell
         (
             "a | b\n-|-\n|",
-            ".Ta .Ha .Ra .Ca .Xa .xb Wb wc .cc .Cc .Dc .dd Wd we .Xe .xf .cf .rf Lf lg .Eg .ej .hj Lj lk .Bk .Rk .Ck .Dk .dl \
-             .cl .rl .bl .tl",
+            ".Ta .Ha .Ra .Ca .Xa .xb Wb wc .cc .Cc .Dc .dd Wd we .Xe .xf .cf .rf Lf lg .Eg .ej .hj Lj lk .Bk .Rk .Ck \
+             .Dk .dl .cl .rl .bl .tl",
             "table++rc|a|c|b|-|-|-|rc||",
         ),
         // The prefixes of a quote between its rows
         (
             "> a\n> -\n> b\n> c",
-            "Qa Oa oc .Tc .Hc .Rc .Cc .Xc .xd .cd .rd Ld le Oe og .Eg .eh .hh Lh li Oi ok .Bk .Rk .Ck .Xk .xl .cl .rl Ll lm \
-             Om oo .Ro .Co .Xo .xp .cp .rp .bp .tp qp",
+            "Qa Oa oc .Tc .Hc .Rc .Cc .Xc .xd .cd .rd Ld le Oe og .Eg .eh .hh Lh li Oi ok .Bk .Rk .Ck .Xk .xl .cl .rl \
+             Ll lm Om oo .Ro .Co .Xo .xp .cp .rp .bp .tp qp",
             "qtable+rc|a|-|-|rc|b|rc|c|",
         ),
     ] {

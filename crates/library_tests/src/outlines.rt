@@ -9,7 +9,8 @@ use md_meaning::outline::Word;
 use std::alloc::{AllocError, Global};
 use std::process::Abort;
 
-// Prints an outline: a heading as its markers, a quote as `q`, a paragraph as `p`, a break as `b`, and each line of text between bars.
+// Prints an outline: a heading as its markers, a quote as `q`, a paragraph as `p`, a break as `b`, and each line of
+// text between bars.
 fn printed(alloc: Global, text: &str, is_on: bool) -> Result<String, Message>
     requires { IsSmall text.now }
 {

@@ -66,7 +66,8 @@ good-white T state w rest has r e =
       refl,
     )
 
-inside_blank_ends : (T : Scheme) (w : World) (x y : Bool) → CodeFits T → rest_ready (position w) (after_all T w.frames) →
+inside_blank_ends : (T : Scheme) (w : World) (x y : Bool) → CodeFits T →
+    rest_ready (position w) (after_all T w.frames) →
     sees_white (seen (position w)) ≡ y → Does T (n.CodeIndented its.InsideBlank) w (inside_blank_code w x y)
 inside_blank_ends T w true y has r e = (refuses T _ w _ _ w.events w.scratch r.1 r.0, refl)
 inside_blank_ends T w false true has r e = good-white T its.InsideBlank w (λ x is. is) has r e
@@ -98,7 +99,8 @@ after_ends T w r = (accepts T _ w _ _ (exited w CodeIndented).events w.scratch r
 further_start_ends : (T : Scheme) (w : World) → CodeFits T → rest_ready (position w) (after_all T w.frames) →
     Does T (n.CodeIndented its.FurtherStart) w (code_transition its.FurtherStart w)
 further_start_ends T w has r = (
-  begins_try T code_scheme code_scheme (n.CodeIndented its.FurtherStart) (n.CodeIndented its.FurtherLine) w IsRest IsRest
+  begins_try T code_scheme code_scheme (n.CodeIndented its.FurtherStart) (n.CodeIndented its.FurtherLine) w
+      IsRest IsRest
       w.events w.scratch
       (record {
         ok = Ok;
@@ -137,7 +139,8 @@ further_begin_ends T w false has r = (
 )
 
 further_after_ends : (T : Scheme) (w : World) (x y : Bool) → CodeFits T →
-    rest_ready (position w) (after_all T w.frames) → Does T (n.CodeIndented its.FurtherAfter) w (further_after_code w x y)
+    rest_ready (position w) (after_all T w.frames) →
+    Does T (n.CodeIndented its.FurtherAfter) w (further_after_code w x y)
 further_after_ends T w true y has r = (accepts T _ w _ _ w.events w.scratch r.1 r.0, refl)
 further_after_ends T w false true has r = (
   turns T code_scheme _ (n.CodeIndented its.AtBreak) w w.events (chunk_noted w.scratch) (has.each its.FurtherAfter)
@@ -150,7 +153,8 @@ further_after_ends T w false true has r = (
 )
 further_after_ends T w false false has r = (refuses T _ w _ _ w.events w.scratch r.1 r.0, refl)
 
-further_inside_ends : (T : Scheme) (w : World) (x y : Bool) → CodeFits T → rest_ready (position w) (after_all T w.frames) →
+further_inside_ends : (T : Scheme) (w : World) (x y : Bool) → CodeFits T →
+    rest_ready (position w) (after_all T w.frames) →
     sees_white (seen (position w)) ≡ y → Does T (n.CodeIndented its.FurtherInside) w (further_inside_code w x y)
 further_inside_ends T w true y has r e =
     (accepts T _ w _ _ (exited w CodeFlowChunk).events w.scratch r.1 r.0, refl)

@@ -1,6 +1,7 @@
 -- Each state of fenced code and math takes one step of its rule.
-use Rattle.std.proofs.Common.{◌≡◌, ℕ, suc, ◌+◌, ◌-◌, ◌≤◌, Bool, true, false, cond, ◌&&◌, ◌||◌, nat_eq, nat_lt, List, [], ◌∷◌}
-use Rattle.std.proofs.Common.{◌++◌, length, Option, Some, None, refl, sym, ◌∙◌, ap, arith, append-nil, append_assoc}
+use Rattle.std.proofs.Common.{◌≡◌, ℕ, suc, ◌+◌, ◌-◌, ◌≤◌, Bool, true, false, cond, ◌&&◌, ◌||◌, nat_eq, nat_lt, List, []}
+use Rattle.std.proofs.Common.{◌∷◌, ◌++◌, length, Option, Some, None, refl, sym, ◌∙◌}
+use Rattle.std.proofs.Common.{ap, arith, append-nil, append_assoc}
 use Rattle.std.specs.Prelude.{not, ◌==◌}
 use Rattle.std.proofs.lemmas.Bool.{and_parts}
 use Rattle.std.proofs.lemmas.Bool.Decides.{nat_tests}
@@ -24,8 +25,8 @@ use Rattle.md_engine.specs.Sees.{Sees, ahead, cell_here}
 use Rattle.md_engine.proofs.StepOf.{begins, moves, passes, steps-as}
 use Rattle.md_meaning.specs.Leaves.{is_fence_marker, least_size}
 use Rattle.md_meaning.specs.Rest.{is_white}
-use Rattle.md_code.specs.Fence.{FenceInvariant, after_transition, at_non_lazy_break_code, before_chunk_code, before_close_code}
-use Rattle.md_code.specs.Fence.{before_open, before_open_code, behind_part, block_name, chunk_code}
+use Rattle.md_code.specs.Fence.{FenceInvariant, after_transition, at_non_lazy_break_code, before_chunk_code}
+use Rattle.md_code.specs.Fence.{before_close_code, before_open, before_open_code, behind_part, block_name, chunk_code}
 use Rattle.md_code.specs.Fence.{chunk_name, cleared, close_after_code, close_start_code, content_start_code, ends_word}
 use Rattle.md_code.specs.Fence.{fence_name, fence_ready, fence_transition, held_indent, held_marker, held_size}
 use Rattle.md_code.specs.Fence.{info_before_code, info_code, is_on, is_refused, line_entered, may_close}
@@ -217,7 +218,8 @@ unfolding before_sequence
 before-no options c cs h e = rw e refl
 
 before_open_means : (B : Behaviour) (feed : Feed) (w : World) → HasFence B w.setting.options → Sees feed w →
-    Steps B feed (Next (n.RawFlow its.BeforeSequenceOpen)) w (before_open w w.current).to (before_open w w.current).world
+    Steps B feed (Next (n.RawFlow its.BeforeSequenceOpen)) w (before_open w w.current).to
+    (before_open w w.current).world
 before_open_means B feed w has s = go w.current s.next
   where
     go : (o : Option ℕ) → feed w.point ≡ ahead feed w o →
@@ -260,8 +262,10 @@ sequence-few : (cells : List Cell) (h : Here) → is_current h.scratch.marker (f
     nat_lt h.scratch.size (least_size h.scratch.marker) ≡ true → in_sequence cells h ≡ refuses h
 unfolding in_sequence
 sequence-few cells h e few =
-    let none = run-none (λ b. b == h.scratch.marker) cells h.point (marker-first h.scratch.marker (first_seen cells) e) in
-    let sum : h.scratch.size + run_size (λ b. b == h.scratch.marker) cells ≡ h.scratch.size = omega (arith, none.size) in
+    let none =
+    run-none (λ b. b == h.scratch.marker) cells h.point (marker-first h.scratch.marker (first_seen cells) e) in
+    let sum : h.scratch.size + run_size (λ b. b == h.scratch.marker) cells ≡ h.scratch.size =
+    omega (arith, none.size) in
     rw (sum, few) refl
 
 sequence-done : (cells : List Cell) (h : Here) → is_current h.scratch.marker (first_seen cells) ≡ false →
@@ -271,14 +275,17 @@ sequence-done : (cells : List Cell) (h : Here) → is_current h.scratch.marker (
     (with_event h (exit (sequence_name h.scratch.marker) h.point))
 unfolding in_sequence
 sequence-done cells h e few =
-    let none = run-none (λ b. b == h.scratch.marker) cells h.point (marker-first h.scratch.marker (first_seen cells) e) in
-    let sum : h.scratch.size + run_size (λ b. b == h.scratch.marker) cells ≡ h.scratch.size = omega (arith, none.size) in
+    let none =
+    run-none (λ b. b == h.scratch.marker) cells h.point (marker-first h.scratch.marker (first_seen cells) e) in
+    let sum : h.scratch.size + run_size (λ b. b == h.scratch.marker) cells ≡ h.scratch.size =
+    omega (arith, none.size) in
     rw (sum, few, none.end, none.rest) refl
 
 sequence_means : (B : Behaviour) (feed : Feed) (w : World) (x y z : Bool) → HasFence B w.setting.options →
     Sees feed w → is_current w.scratch.marker w.current ≡ x →
     nat_lt w.scratch.size (least_size w.scratch.marker) ≡ y → sees_white w.current ≡ z →
-    Steps B feed (Next (n.RawFlow its.SequenceOpen)) w (sequence_open_code w x y z).to (sequence_open_code w x y z).world
+    Steps B feed (Next (n.RawFlow its.SequenceOpen)) w (sequence_open_code w x y z).to
+    (sequence_open_code w x y z).world
 sequence_means B feed w true y z has s e f g =
     let saw = sees-one feed w (is_current w.scratch.marker) refl s e in
     passes B feed _ _ w (sequence_open_code w true y z).world refl refl
@@ -383,8 +390,8 @@ meta_before_means B feed w false false has s e f =
     ∙ meta-begins (feed w.point) (here w) (ap ends_line (first-seen feed w s) ∙ e) (begins-seen feed w s ∙ f)
     ∙ sym (has.each its.Meta _ _))
 
-info-more : (c : Cell) (cs : List Cell) (h : Here) → is_word c.byte ≡ true → is_refused h.scratch.marker c.byte ≡ false →
-    in_info (c ∷ cs) h ≡ in_info cs (record h { point = c.after })
+info-more : (c : Cell) (cs : List Cell) (h : Here) → is_word c.byte ≡ true →
+    is_refused h.scratch.marker c.byte ≡ false → in_info (c ∷ cs) h ≡ in_info cs (record h { point = c.after })
 unfolding in_info
 info-more c cs h e f = rw (e, f) refl
 
@@ -422,8 +429,8 @@ info_means B feed w false y false has s e f g =
     ∙ info-more (cell_here feed w saw.0) (feed (after w.setting w.point)) (here w) saw.2 saw.3
     ∙ sym (has.each its.Info _ _))
 
-meta-more : (c : Cell) (cs : List Cell) (h : Here) → is_line c.byte ≡ true → is_refused h.scratch.marker c.byte ≡ false →
-    in_meta (c ∷ cs) h ≡ in_meta cs (record h { point = c.after })
+meta-more : (c : Cell) (cs : List Cell) (h : Here) → is_line c.byte ≡ true →
+    is_refused h.scratch.marker c.byte ≡ false → in_meta (c ∷ cs) h ≡ in_meta cs (record h { point = c.after })
 unfolding in_meta
 meta-more c cs h e f = rw (e, f) refl
 
@@ -608,8 +615,10 @@ close-few : (cells : List Cell) (h : Here) → is_current h.scratch.marker (firs
     nat_lt h.scratch.size (held_size h.flags.leaf) ≡ true → in_close cells h ≡ refuses h
 unfolding in_close
 close-few cells h e few =
-    let none = run-none (λ b. b == h.scratch.marker) cells h.point (marker-first h.scratch.marker (first_seen cells) e) in
-    let sum : h.scratch.size + run_size (λ b. b == h.scratch.marker) cells ≡ h.scratch.size = omega (arith, none.size) in
+    let none =
+    run-none (λ b. b == h.scratch.marker) cells h.point (marker-first h.scratch.marker (first_seen cells) e) in
+    let sum : h.scratch.size + run_size (λ b. b == h.scratch.marker) cells ≡ h.scratch.size =
+    omega (arith, none.size) in
     rw (sum, few) refl
 
 close-done : (cells : List Cell) (h : Here) → is_current h.scratch.marker (first_seen cells) ≡ false →
@@ -619,8 +628,10 @@ close-done : (cells : List Cell) (h : Here) → is_current h.scratch.marker (fir
     (record (with_event h (exit (sequence_name h.scratch.marker) h.point)) { scratch = cleared h.scratch })
 unfolding in_close
 close-done cells h e few =
-    let none = run-none (λ b. b == h.scratch.marker) cells h.point (marker-first h.scratch.marker (first_seen cells) e) in
-    let sum : h.scratch.size + run_size (λ b. b == h.scratch.marker) cells ≡ h.scratch.size = omega (arith, none.size) in
+    let none =
+    run-none (λ b. b == h.scratch.marker) cells h.point (marker-first h.scratch.marker (first_seen cells) e) in
+    let sum : h.scratch.size + run_size (λ b. b == h.scratch.marker) cells ≡ h.scratch.size =
+    omega (arith, none.size) in
     rw (sum, few, none.end, none.rest) refl
 
 close_means : (B : Behaviour) (feed : Feed) (w : World) (x y z : Bool) → HasFence B w.setting.options →
@@ -665,8 +676,8 @@ close_after_means B feed w false has s e =
     (has.each its.SequenceCloseAfter _ _
     ∙ close-end (feed w.point) (here w) false (ap ends_line (first-seen feed w s) ∙ e))
 
-content-white : (cells : List Cell) (h : Here) → nat_lt 0 (held_indent h.flags.leaf) ≡ true → begins_white cells ≡ true →
-    content_at cells h ≡ behind_white_of (held_indent h.flags.leaf) before_chunk cells h
+content-white : (cells : List Cell) (h : Here) → nat_lt 0 (held_indent h.flags.leaf) ≡ true →
+    begins_white cells ≡ true → content_at cells h ≡ behind_white_of (held_indent h.flags.leaf) before_chunk cells h
 unfolding content_at
 content-white cells h e f = rw (e, f) refl
 

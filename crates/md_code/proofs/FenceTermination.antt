@@ -21,9 +21,10 @@ use Rattle.md_code.specs.Fence.{at_non_lazy_break_code, before_chunk_code, befor
 use Rattle.md_code.specs.Fence.{before_open, before_open_code, behind_part, block_entered, block_name}
 use Rattle.md_code.specs.Fence.{chunk_code, cleared, close_after_code, close_start_code, content_start_code}
 use Rattle.md_code.specs.Fence.{ends_word, fence_rank, fence_ready, fence_scheme, fence_transition}
-use Rattle.md_code.specs.Fence.{fence_level, fence_tries, held_indent, held_marker, in_fence, info_before_code, info_code}
-use Rattle.md_code.specs.Fence.{line_entered, marked, meta_before_code, meta_code, meta_name, opened, part_entered}
-use Rattle.md_code.specs.Fence.{part_exited, sequence_close_code, sequence_name, sequence_open_code, start_code}
+use Rattle.md_code.specs.Fence.{fence_level, fence_tries, held_indent, held_marker, in_fence, info_before_code}
+use Rattle.md_code.specs.Fence.{info_code, line_entered, marked, meta_before_code, meta_code, meta_name, opened}
+use Rattle.md_code.specs.Fence.{part_entered, part_exited, sequence_close_code}
+use Rattle.md_code.specs.Fence.{sequence_name, sequence_open_code, start_code}
 use Rattle.md_seam.specs.Spaces.{IsRest, any_size, calmed, ends_line, is_current, rest_ready, sees_white, small_indent}
 use Rattle.md_seam.specs.Transition.{exited}
 use Rattle.md_seam.proofs.SpacesTermination.{Does, WhiteFits, rest-calm, rest-none, rest-size, seen-in, white_try}
@@ -134,7 +135,8 @@ follows-close T w r = record {
       (ap calmed r.0.rest, later_at IsRest IsRest (position w) (after_all T w.frames) q t _ up way r.1);
   at_once = (
     r.0.rest,
-    later IsRest IsRest (position w) (after_all T w.frames) w.point (cleared w.scratch) (stays w.setting.limit w.point) r.1,
+    later IsRest IsRest (position w) (after_all T w.frames) w.point (cleared w.scratch)
+        (stays w.setting.limit w.point) r.1,
   );
   level = refl;
   low = λ x. omega arith;
@@ -143,8 +145,8 @@ follows-close T w r = record {
 
 -- The opening line.
 
-fence_start_ends : (T : Scheme) (w : World) (x y : Bool) → FenceFits T → rest_ready (position w) (after_all T w.frames) →
-    Does T (n.RawFlow its.Start) w (start_code w x y)
+fence_start_ends : (T : Scheme) (w : World) (x y : Bool) → FenceFits T →
+    rest_ready (position w) (after_all T w.frames) → Does T (n.RawFlow its.Start) w (start_code w x y)
 fence_start_ends T w false y has r = (refuses T _ w _ _ w.events w.scratch r.1 r.0, refl)
 fence_start_ends T w true true has r =
     white_try T fence_scheme _ (n.RawFlow its.BeforeSequenceOpen) w w.events
@@ -337,8 +339,8 @@ before_close_ends T w true has r = (
 )
 before_close_ends T w false has r = (refuses T _ w _ _ w.events (cleared w.scratch) r.1 r.0.rest, refl)
 
-fence_close_ends : (T : Scheme) (w : World) (x y z : Bool) → FenceFits T → in_fence (position w) (after_all T w.frames) →
-    is_current w.scratch.marker (seen (position w)) ≡ x →
+fence_close_ends : (T : Scheme) (w : World) (x y z : Bool) → FenceFits T →
+    in_fence (position w) (after_all T w.frames) → is_current w.scratch.marker (seen (position w)) ≡ x →
     Does T (n.RawFlow its.SequenceClose) w (sequence_close_code w x y z)
 fence_close_ends T w true y z has r e =
     let inside = seen-in (position w) (is_current w.scratch.marker) refl e in (
@@ -359,8 +361,8 @@ close_after_ends : (T : Scheme) (w : World) (x : Bool) → rest_ready (position 
 close_after_ends T w true r = (accepts T _ w _ _ (close_after_code w true).world.events w.scratch r.1 r.0, refl)
 close_after_ends T w false r = (refuses T _ w _ _ w.events w.scratch r.1 r.0, refl)
 
-content_start_ends : (T : Scheme) (w : World) (x : Bool) → FenceFits T → rest_ready (position w) (after_all T w.frames) →
-    Does T (n.RawFlow its.ContentStart) w (content_start_code w x)
+content_start_ends : (T : Scheme) (w : World) (x : Bool) → FenceFits T →
+    rest_ready (position w) (after_all T w.frames) → Does T (n.RawFlow its.ContentStart) w (content_start_code w x)
 content_start_ends T w true has r =
     white_try T fence_scheme _ (n.RawFlow its.BeforeContentChunk) w w.events w.scratch 0 (held_indent w.flags.leaf)
     IsRest IsRest has.white (has.each its.ContentStart) (has.each its.BeforeContentChunk) (rest-none w.scratch r.0)
@@ -403,15 +405,18 @@ pub fence_terminates : (T : Scheme) (state : RawState) (w : World) → FenceFits
     Does T (n.RawFlow state) w (fence_transition state w)
 fence_terminates T its.Start w has c r = fence_start_ends T w _ _ has r
 fence_terminates T its.BeforeSequenceOpen w has c r = before_open_ends T w w.current has r
-fence_terminates T its.SequenceOpen w has c r = fence_open_ends T w _ _ _ has r (ap (is_current w.scratch.marker) (sym c))
-fence_terminates T its.InfoBefore w has c r = info_before_ends T w _ _ has r (ap ends_line (sym c)) (ap sees_white (sym c))
+fence_terminates T its.SequenceOpen w has c r =
+    fence_open_ends T w _ _ _ has r (ap (is_current w.scratch.marker) (sym c))
+fence_terminates T its.InfoBefore w has c r =
+    info_before_ends T w _ _ has r (ap ends_line (sym c)) (ap sees_white (sym c))
 fence_terminates T its.Info w has c r = info_ends T w _ _ _ has r (ap ends_word (sym c))
 fence_terminates T its.MetaBefore w has c r = meta_before_ends T w _ _ has r (ap ends_line (sym c))
 fence_terminates T its.Meta w has c r = meta_ends T w _ _ has r (ap ends_line (sym c))
 fence_terminates T its.AtNonLazyBreak w has c r = further_ends T w _ has r
 fence_terminates T its.CloseStart w has c r = close_start_ends T w _ has r
 fence_terminates T its.BeforeSequenceClose w has c r = before_close_ends T w _ has r
-fence_terminates T its.SequenceClose w has c r = fence_close_ends T w _ _ _ has r (ap (is_current w.scratch.marker) (sym c))
+fence_terminates T its.SequenceClose w has c r =
+    fence_close_ends T w _ _ _ has r (ap (is_current w.scratch.marker) (sym c))
 fence_terminates T its.SequenceCloseAfter w has c r = close_after_ends T w _ r
 fence_terminates T its.ContentBefore w has c r = (
   turns T fence_scheme _ (n.RawFlow its.ContentStart) w w.events w.scratch (has.each its.ContentBefore)

@@ -17,8 +17,8 @@ use Rattle.md_engine.specs.Sees.{IsStep}
 use Rattle.md_engine.specs.World.{World}
 use Rattle.md_meaning.specs.Leaves.{is_fence_marker, least_size}
 use Rattle.md_meaning.specs.Rest.{is_white}
-use Rattle.md_code.specs.Fence.{FenceInvariant, block_name, chunk_name, cleared, fence_name, held_indent, held_marker, held_size, is_on}
-use Rattle.md_code.specs.Fence.{is_refused, meta_name, sequence_name, string_link}
+use Rattle.md_code.specs.Fence.{FenceInvariant, block_name, chunk_name, cleared, fence_name, held_indent, held_marker}
+use Rattle.md_code.specs.Fence.{held_size, is_on, is_refused, meta_name, sequence_name, string_link}
 use Rattle.md_leaves.specs.Further.{further_link}
 use Rattle.md_seam.specs.Ahead.{HasWhite, begins_white, white_end, white_rest}
 use Rattle.md_seam.specs.Events.Nested.{enter, enter_link, exit, pair}

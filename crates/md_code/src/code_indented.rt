@@ -5,9 +5,9 @@
 //     blank_line    ::= *space_or_tab
 //
 // Each line of code is a `CodeIndented` of its own, around the `SpaceOrTab` of its four columns and a `CodeFlowChunk`
-// over the rest. A further one goes on the code of a line before, and says so in its link: a resolver makes one block of
-// them. A blank line stands bare, as it is not known yet whether code goes on behind it: a `SpaceOrTab` of at most four
-// columns, and a chunk over what whitespace is left, which `scratch.seen` notes until it begins.
+// over the rest. A further one goes on the code of a line before, and says so in its link: a resolver makes one block
+// of them. A blank line stands bare, as it is not known yet whether code goes on behind it: a `SpaceOrTab` of at most
+// four columns, and a chunk over what whitespace is left, which `scratch.seen` notes until it begins.
 
 ghost use Rattle.std.specs.Prelude.{◌≡◌, ◌≢◌, IfSome};
 ghost use Rattle.md_code.specs.CodeRule.{CodeMeans};

@@ -142,7 +142,8 @@ part-white {bytes = bytes} p q onward blank = go (same_place p q) refl
     go : (x : Bool) → same_place p q ≡ x → FrontPart bytes p q (cond x [] (pair n.SpaceOrTab p q))
     go true e = part-none p q onward e ends
     go false e =
-        part-pair n.SpaceOrTab p q (refl, refl, refl, refl) (λ ys h. h) refl refl onward (white-stands bytes p q e blank)
+        part-pair n.SpaceOrTab p q (refl, refl, refl, refl) (λ ys h. h) refl refl onward
+        (white-stands bytes p q e blank)
         ends
 
 -- a pair around others, which is no text

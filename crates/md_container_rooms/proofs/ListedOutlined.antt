@@ -14,9 +14,9 @@ use Rattle.md_engine.specs.declared.event.Point.{Point}
 use Rattle.md_meaning.specs.Texts.{first_byte}
 use Rattle.md_meaning.specs.Containers.{is_bullet}
 use Rattle.md_seam.specs.Events.Nested.{Nested, enter, exit}
-use Rattle.md_seam.specs.Events.Spelled.{AsDigits, AsFootnoteLabel, AsItemMarker, FootnoteShape, ContainerRole, IsEnding}
-use Rattle.md_seam.specs.Events.Spelled.{IsPrefix, IsQuiet, IsQuoteMarker, ItemShape, OrderedShape, Role, Shape}
-use Rattle.md_seam.specs.Events.Spelled.{TextRole, UnorderedShape, byte_at, is_ordered, role, spelled}
+use Rattle.md_seam.specs.Events.Spelled.{AsDigits, AsFootnoteLabel, AsItemMarker, FootnoteShape, ContainerRole}
+use Rattle.md_seam.specs.Events.Spelled.{IsEnding, IsPrefix, IsQuiet, IsQuoteMarker, ItemShape, OrderedShape, Role}
+use Rattle.md_seam.specs.Events.Spelled.{Shape, TextRole, UnorderedShape, byte_at, is_ordered, role, spelled}
 use Rattle.md_containers.specs.ItemsHeld.{ItemsHeld}
 use Rattle.md_containers.specs.ItemsStand as stand
 use Rattle.md_containers.specs.ItemsStand.{AmongBlocks, InFront, InLabel, Inner, IsMarkerAt, ItemsStand, MayBegin}
@@ -111,7 +111,8 @@ holds-parted bytes Exit shape p None = refl
 holds-parted bytes Enter shape p (Some span) = refl
 holds-parted bytes Exit shape p (Some span) = refl
 
-same-span : (kind : Kind) (shape : Shape) (p : Point) (span : Option OpenTextSpan) → span_by kind (ContainerRole shape) p span ≡ span
+same-span : (kind : Kind) (shape : Shape) (p : Point) (span : Option OpenTextSpan) →
+    span_by kind (ContainerRole shape) p span ≡ span
 same-span Enter shape p span = refl
 same-span Exit shape p span = refl
 
@@ -120,7 +121,8 @@ holder-parted : (bytes : List ℕ) (kind : Kind) (x : Role) (shape : Shape) (p :
     (parts_by bytes kind x p span && are_parted bytes (span_by kind x p span) es) ≡ true
 holder-parted bytes kind x shape p span es is h k =
     ap (λ (x : Role). parts_by bytes kind x p span && are_parted bytes (span_by kind x p span) es) is
-    ∙ and_from (parts_by bytes kind (ContainerRole shape) p span) (are_parted bytes (span_by kind (ContainerRole shape) p span) es)
+    ∙ and_from (parts_by bytes kind (ContainerRole shape) p span)
+    (are_parted bytes (span_by kind (ContainerRole shape) p span) es)
     (holds-parted bytes kind shape p span ∙ h)
     (ap (λ (s : Option OpenTextSpan). are_parted bytes s es) (same-span kind shape p span) ∙ k)
 
@@ -182,7 +184,8 @@ parted-kept bytes span place (e ∷ es) h =
             holder-parted bytes Exit (role (list_name m)) (list_shape m) e.point span rest (role-list m) none k
 
     passed :
-        ((s : Option OpenTextSpan) → are_parted bytes s es ≡ true → are_parted bytes s (listed_from bytes place es) ≡ true) →
+        ((s : Option OpenTextSpan) → are_parted bytes s es ≡ true →
+        are_parted bytes s (listed_from bytes place es) ≡ true) →
         (kind : Kind) (name : Name) → is_item (role name) ≡ false →
         are_parted bytes span (record e { kind = kind; name = name } ∷ es) ≡ true →
         are_parted bytes span (listed_from bytes place (record e { kind = kind; name = name } ∷ es)) ≡ true
@@ -344,7 +347,8 @@ at-passed bytes (AtMarker shape) held InFront Enter IsQuiet p behind may passes 
 at-passed bytes (AtMarker shape) held InFront Exit IsQuiet p behind may passes at = (tt, at)
 at-passed bytes (AtMarker shape) held InFront Enter (TextRole AsDigits) p behind may passes at = (tt, at)
 at-passed bytes (AtMarker shape) held InFront Exit (TextRole AsDigits) p behind may passes at = (tt, at)
-at-passed bytes (AtMarker shape) held InFront Enter (TextRole AsItemMarker) p behind may passes at = (tt, (refl, may, at))
+at-passed bytes (AtMarker shape) held InFront Enter (TextRole AsItemMarker) p behind may passes at =
+    (tt, (refl, may, at))
 at-passed bytes (AtMarker shape) held InFront _ _ p behind may passes at = absurd may
 at-passed bytes (InMarker shape q) held (stand.InMarker r) Exit (TextRole AsItemMarker) p behind may passes at =
     (marker-marks bytes shape p q r at.0 at.1 at.2 may, tt)
@@ -439,7 +443,8 @@ lists-begun bytes stage site place (e ∷ es) stands at =
     inside = record { within = false; markers = marker_ahead bytes es ∷ place.markers }
 
     begins : (within : Bool) → MayBegin bytes e.point site.inner (ContainerRole (ItemShape 0 [])) →
-        ((s : Stage) → IsAt bytes s (inner_in e.point site.inner (ContainerRole (ItemShape 0 []))) (marker_ahead bytes es) →
+        ((s : Stage) →
+        IsAt bytes s (inner_in e.point site.inner (ContainerRole (ItemShape 0 []))) (marker_ahead bytes es) →
         ListsBegin bytes s (listed_from bytes inside es)) →
         ListsBegin bytes AllTold
         ((list_begin within (marker_ahead bytes es) e.point ++ record e { kind = Enter; name = n.ListItem } ∷ [])

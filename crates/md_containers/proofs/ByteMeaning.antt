@@ -1,5 +1,6 @@
 -- A state that asks for one byte takes one step of its rule.
-use Rattle.std.proofs.Common.{◌≡◌, ℕ, Bool, true, false, cond, nat_eq, List, [], ◌∷◌, ◌++◌, Option, Some, None, refl, sym, ◌∙◌, ap}
+use Rattle.std.proofs.Common.{◌≡◌, ℕ, Bool, true, false, cond, nat_eq, List, [], ◌∷◌, ◌++◌}
+use Rattle.std.proofs.Common.{Option, Some, None, refl, sym, ◌∙◌, ap}
 use Rattle.md_engine.specs.declared.event.Event.{Event}
 use Rattle.md_engine.specs.declared.event.Point.{Point}
 use Rattle.md_engine.specs.declared.state.Name.{Name as StateName}
@@ -11,14 +12,16 @@ use Rattle.md_engine.proofs.StepOf.{moves, passes}
 use Rattle.md_seam.specs.Spaces.{is_current}
 
 -- What is left where this byte must stand: what is left behind it, with these events.
-pub record AsksFor (b : ℕ) (adds : Point → Point → List Event) (front behind : List Cell → Here → Outcome) : Type 0 where
+pub record AsksFor (b : ℕ) (adds : Point → Point → List Event)
+    (front behind : List Cell → Here → Outcome) : Type 0 where
   pub none : (h : Here) → front [] h ≡ Refuses h.scratch h.flags
   pub some : (c : Cell) (cs : List Cell) (h : Here) →
       front (c ∷ cs) h
       ≡ cond (nat_eq c.byte b) (behind cs (record h { events = h.events ++ adds h.point c.after; point = c.after }))
       (Refuses h.scratch h.flags)
 
-asked : {b : ℕ} {adds : Point → Point → List Event} {front behind : List Cell → Here → Outcome} (feed : Feed) (w : World)
+asked : {b : ℕ} {adds : Point → Point → List Event} {front behind : List Cell → Here → Outcome}
+    (feed : Feed) (w : World)
     (h : Here) (o : Option ℕ) (x : Bool) → AsksFor b adds front behind → is_current b o ≡ x →
     front (ahead feed w o) h
     ≡ cond x

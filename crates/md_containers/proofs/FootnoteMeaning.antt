@@ -18,10 +18,10 @@ use Rattle.md_engine.specs.Scheme.{After, Position, position}
 use Rattle.md_engine.specs.World.{World, after}
 use Rattle.md_engine.specs.Sees.{Sees, ahead, cell_here}
 use Rattle.md_engine.proofs.StepOf.{begins_only, moves, passes, steps-as}
-use Rattle.md_containers.specs.Footnote.{FootnoteInvariant, breaks_label, closed_code, footnote_ready, footnote_transition}
-use Rattle.md_containers.specs.Footnote.{label_after_code, label_at_marker_code, label_before_code, label_escape_code}
-use Rattle.md_containers.specs.Footnote.{label_inside_code, label_link, marker_after_code, most, refused, sees_mark}
-use Rattle.md_containers.specs.Footnote.{taken_as}
+use Rattle.md_containers.specs.Footnote.{FootnoteInvariant, breaks_label, closed_code, footnote_ready}
+use Rattle.md_containers.specs.Footnote.{footnote_transition, label_after_code, label_at_marker_code, label_before_code}
+use Rattle.md_containers.specs.Footnote.{label_escape_code, label_inside_code, label_link}
+use Rattle.md_containers.specs.Footnote.{marker_after_code, most, refused, sees_mark, taken_as}
 use Rattle.md_containers.specs.FootnoteRule.{FootnoteMeans, HasFootnote, LabelCells, at_bracket, at_caret, at_colon}
 use Rattle.md_containers.specs.FootnoteRule.{behind_colon, behind_prefix, bracket_events, caret_events, in_label}
 use Rattle.md_containers.specs.FootnoteRule.{label_by, label_cells, label_ended, with_cell}

@@ -1,6 +1,6 @@
 -- Each state of frontmatter takes one step of its rule.
-use Rattle.std.proofs.Common.{◌≡◌, ℕ, suc, ◌+◌, ◌≤◌, Bool, true, false, ◌&&◌, nat_eq, nat_lt, List, [], ◌∷◌, ◌++◌, length, take}
-use Rattle.std.proofs.Common.{Option, Some, None, refl, sym, ◌∙◌, ap, arith, append_assoc}
+use Rattle.std.proofs.Common.{◌≡◌, ℕ, suc, ◌+◌, ◌≤◌, Bool, true, false, ◌&&◌, nat_eq, nat_lt, List, [], ◌∷◌, ◌++◌}
+use Rattle.std.proofs.Common.{length, take, Option, Some, None, refl, sym, ◌∙◌, ap, arith, append_assoc}
 use Rattle.std.specs.Prelude.{not, ◌==◌}
 use Rattle.std.proofs.lemmas.Bool.Decides.{nat_tests}
 use Rattle.std.proofs.Math.Seq.{take-append_seam}
@@ -198,7 +198,8 @@ start_means B feed w true has s e = go w.current s.next
     go : (o : Option ℕ) → feed w.point ≡ ahead feed w o →
         Steps B feed (Next (n.Frontmatter its.Start)) w (start_at w o).to (start_at w o).world
     go None k =
-        passes B feed _ _ w w refl refl (on ∙ ap (λ (cells : List Cell). front_here cells (here w)) k ∙ front-none (here w))
+        passes B feed _ _ w w refl refl
+        (on ∙ ap (λ (cells : List Cell). front_here cells (here w)) k ∙ front-none (here w))
     go (Some b) k = by (is_marker b) refl
       where
         by : (y : Bool) → is_marker b ≡ y →
@@ -286,7 +287,8 @@ close_start_means B feed w true has s e =
     begins B feed _ _ w (close_start_code w true).world
     (enter part.FrontmatterFence w.point ∷ enter part.FrontmatterSequence w.point ∷ []) f refl (simp append_assoc)
     (has.each its.CloseStart _ _ ∙ rw marker refl
-    ∙ closed-resumes B feed w (close_start_code w true).world.events f (in_close (feed w.point) (fence_begun (here w))) has
+    ∙ closed-resumes B feed w (close_start_code w true).world.events f
+    (in_close (feed w.point) (fence_begun (here w))) has
     refl (simp append_assoc)
     ∙ ap (resume B feed (close_start_code w true).world.events f) (sym (has.each its.CloseSequence _ _)))
 close_start_means B feed w false has s e =
@@ -361,7 +363,8 @@ content_inside_means B feed w false has s e =
     let saw = sees-one feed w (λ (o : Option ℕ). not (ends_line o)) refl s (ap not e) in
     passes B feed _ _ w (content_inside_code w false).world refl refl
     (has.each its.ContentInside _ _ ∙ ap (λ (cells : List Cell). in_lines true cells (here w)) saw.1
-    ∙ lines-more true (cell_here feed w saw.0) (feed (after w.setting w.point)) (here w) (not-true (nat_eq saw.0 10) saw.2)
+    ∙ lines-more true (cell_here feed w saw.0) (feed (after w.setting w.point)) (here w)
+    (not-true (nat_eq saw.0 10) saw.2)
     ∙ sym (has.each its.ContentInside _ _))
 
 line-ends : (c : Cell) (cs : List Cell) (h : Here) → nat_eq c.byte 10 ≡ true →
@@ -425,7 +428,8 @@ front_means B feed its.OpenSequence w has s =
 front_means B feed its.OpenAfter w has s = open_after_means B feed w _ has s refl
 front_means B feed its.CloseStart w has s = close_start_means B feed w _ has s refl
 front_means B feed its.CloseSequence w has s =
-    sequence_means B feed w its.CloseSequence its.CloseAfter (without_size w.scratch) close_end _ _ _ (closing B w has) s
+    sequence_means B feed w its.CloseSequence its.CloseAfter (without_size w.scratch) close_end _ _ _
+    (closing B w has) s
     refl refl refl
 front_means B feed its.CloseAfter w has s = close_after_means B feed w _ has s refl
 front_means B feed its.ContentStart w has s = content_start_means B feed w _ has s refl

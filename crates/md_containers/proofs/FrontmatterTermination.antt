@@ -9,8 +9,8 @@ use Rattle.md_engine.specs.declared.state.frontmatter.State.{State as FrontState
 use Rattle.md_engine.specs.declared.state.frontmatter.State.TheVariants as its
 use Rattle.md_engine.specs.declared.state.State.TheVariants.{Next}
 use Rattle.md_engine.specs.declared.tokenizer.Scratch.{Scratch}
-use Rattle.md_engine.specs.Scheme.{After, Ends, Fits, Grown, Reaches, Scheme, after_all, moved_to, ranked, seen, position}
-use Rattle.md_engine.specs.Scheme.{spot_at}
+use Rattle.md_engine.specs.Scheme.{After, Ends, Fits, Grown, Reaches, Scheme, after_all}
+use Rattle.md_engine.specs.Scheme.{moved_to, ranked, seen, position, spot_at}
 use Rattle.md_engine.specs.World.{Setting, World, after, looks}
 use Rattle.md_engine.proofs.Falls.{later, later_at}
 use Rattle.md_engine.proofs.Local.{accepts, begins_try, consumes, refuses, turns}
@@ -154,7 +154,8 @@ to-line T w state events has inside two r = (
 open_after_ends : (T : Scheme) (w : World) (x : Bool) → FrontFits T → in_front (position w) (after_all T w.frames) →
     is_current 10 (seen (position w)) ≡ x → Does T (n.Frontmatter its.OpenAfter) w (open_after_code w x)
 open_after_ends T w true has r e =
-    to-line T w its.OpenAfter (open_after_code w true).world.events has (seen-in (position w) (is_current 10) refl e) refl r
+    to-line T w its.OpenAfter (open_after_code w true).world.events has
+    (seen-in (position w) (is_current 10) refl e) refl r
 open_after_ends T w false has r e = (refuses T _ w _ _ w.events (cleared w.scratch) r.1 r.0, refl)
 
 -- A further line.

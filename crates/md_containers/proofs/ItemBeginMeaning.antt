@@ -245,7 +245,8 @@ break-checked B feed w c cs x y has is next e f g = go x y f g
         (went-back B Nok feed w (without_marker w.scratch) w.flags
         ∙ ap (λ (s : Scratch). Refuses s w.flags) rest)
     go true true f g =
-        let under = (and_parts (turns_nothing w.setting.options w.flags.leaf) (is_underline (line_bytes (c ∷ cs))) g).1 in
+        let under =
+        (and_parts (turns_nothing w.setting.options w.flags.leaf) (is_underline (line_bytes (c ∷ cs))) g).1 in
         sym (bullet-run c cs (here w) is e f under) ∙ onward
     go false y f g = onward
 
@@ -278,8 +279,8 @@ bullet_means B feed w c cs false has s is next e f =
     ∙ ap (λ (x : List Cell). at_bullet x (here w)) (sym next)
     ∙ sym (has.each its.BeforeUnordered _ _))
 
-pub before_means : (B : Behaviour) (feed : Feed) (w : World) (o : Option ℕ) → HasItem B w.setting.options → Sees feed w →
-    IsRest w.scratch → feed w.point ≡ ahead feed w o →
+pub before_means : (B : Behaviour) (feed : Feed) (w : World) (o : Option ℕ) → HasItem B w.setting.options →
+    Sees feed w → IsRest w.scratch → feed w.point ≡ ahead feed w o →
     Steps B feed (Next (n.ListItem its.Before)) w (before_code w o).to (before_code w o).world
 before_means B feed w None has s is next =
     passes B feed _ Nok w w refl refl

@@ -1,6 +1,7 @@
 -- What is left of a list item on a further line is what it takes of the line by the cells.
 use Rattle.std.proofs.Common.{◌≡◌, ℕ, zero, suc, ◌+◌, ◌-◌, ◌≤◌, Bool, true, false, cond, not, ◌&&◌, nat_eq, List}
-use Rattle.std.proofs.Common.{[], ◌∷◌, ◌++◌, refl, sym, ◌∙◌, ap, ap₂, arith, append_assoc, append-nil, subst, Some, None}
+use Rattle.std.proofs.Common.{[], ◌∷◌, ◌++◌, refl, sym, ◌∙◌, ap, ap₂, arith}
+use Rattle.std.proofs.Common.{append_assoc, append-nil, subst, Some, None}
 use Rattle.std.specs.Prelude.{nat_le}
 use Rattle.std.proofs.lemmas.Bool.{and_parts}
 use Rattle.std.proofs.lemmas.Bool.Decides.{nat_tests}
@@ -109,7 +110,8 @@ size-white m cells some = go (begins_white cells) refl
 white-some : (w : ℕ) (cells : List Cell) → begins_white cells ≡ true → nat_le 1 (white_size (suc w) cells) ≡ true
 white-some w [] e = cc
 white-some w (c ∷ cs) e =
-    let size : white_size (suc w) (c ∷ cs) ≡ suc (white_size w cs) = ap (λ (x : Bool). cond x (suc (white_size w cs)) 0) e in
+    let size : white_size (suc w) (c ∷ cs) ≡ suc (white_size w cs) =
+    ap (λ (x : Bool). cond x (suc (white_size w cs)) 0) e in
     let enough : nat_le 1 (suc (white_size w cs)) ≡ true = grind (arith, nat_tests) in
     ap (nat_le 1) size ∙ enough
 
@@ -162,7 +164,9 @@ further-rest w blank digits marker cells h e f =
         (λ (es : List Event) (held : Held).
         Accepts (record h { events = es; scratch = REST; flags = record h.flags { asked = held } }) cells)
         (sym (append-nil h.events))
-        (ap₂ (λ (width : ℕ) (b : Bool). let c : Held = record h.flags.asked { width = width; starts_blank = b } in c) e k)
+        (ap₂
+        (λ (width : ℕ) (b : Bool). let c : Held = record h.flags.asked { width = width; starts_blank = b } in c)
+        e k)
 
     blank-taken : (b : Bool) → begins_white cells ≡ true →
         cond b (Refuses REST h.flags) (indent_at 1 cells (at_rest h)) ≡

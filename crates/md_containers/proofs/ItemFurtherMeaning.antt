@@ -195,8 +195,8 @@ in-filled B options has = record {
       has.each its.ContFilled _ _ ∙ ap (λ (max : ℕ). filled_behaves max cells h) e;
 }
 
-pub cont_blank_means : (B : Behaviour) (options : ParseOptions) (feed : Feed) (w : World) (max : ℕ) → HasItem B options →
-    Sees feed w → w.scratch.whitespace.max ≡ max →
+pub cont_blank_means : (B : Behaviour) (options : ParseOptions) (feed : Feed) (w : World) (max : ℕ) →
+    HasItem B options → Sees feed w → w.scratch.whitespace.max ≡ max →
     Steps B feed (Next (n.ListItem its.ContBlank)) w (cont_blank_code w max).to (cont_blank_code w max).world
 cont_blank_means B options feed w (suc more) has s e =
     inside_means B feed w its.ContBlank _ _ more (in-blank B options has) s e refl refl
@@ -215,8 +215,8 @@ cont_blank_means B options feed w zero has s e =
     go false is =
         indent_means B feed w its.ContBlank 1 (sees_white w.current) (in-blank B options has) s refl is
 
-pub cont_filled_means : (B : Behaviour) (options : ParseOptions) (feed : Feed) (w : World) (max : ℕ) → HasItem B options →
-    Sees feed w → w.scratch.whitespace.max ≡ max →
+pub cont_filled_means : (B : Behaviour) (options : ParseOptions) (feed : Feed) (w : World) (max : ℕ) →
+    HasItem B options → Sees feed w → w.scratch.whitespace.max ≡ max →
     Steps B feed (Next (n.ListItem its.ContFilled)) w (cont_filled_code w max).to (cont_filled_code w max).world
 cont_filled_means B options feed w (suc more) has s e =
     inside_means B feed w its.ContFilled _ _ more (in-filled B options has) s e refl refl

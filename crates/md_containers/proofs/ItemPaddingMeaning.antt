@@ -120,7 +120,8 @@ filled-at : (cells : List Cell) (h : Here) (x y : Bool) → begins_white cells �
     begins_white (white_rest 4 cells) ≡ y →
     filled_at cells h ≡
     cond (x && not y)
-    (behind_prefix (white_rest 4 cells) (behind_columns 4 cells (record h { scratch = record h.scratch { seen = true } })))
+    (behind_prefix (white_rest 4 cells)
+    (behind_columns 4 cells (record h { scratch = record h.scratch { seen = true } })))
     (one_column cells (record h { scratch = record h.scratch { seen = true } }))
 unfolding filled_at
 filled-at cells h x y e f = rw (e, f) refl
@@ -159,7 +160,8 @@ filled_means B options feed w has is =
     k = record (here w) { scratch = record w.scratch { seen = true } }
 
     calm : calmed k.scratch ≡ k.scratch
-    calm = let e : calmed w.scratch ≡ w.scratch = ap calmed is ∙ sym is in ap (λ (s : Scratch). record s { seen = true }) e
+    calm = let e : calmed w.scratch ≡ w.scratch =
+        ap calmed is ∙ sym is in ap (λ (s : Scratch). record s { seen = true }) e
 
     go : (x : Bool) →
         cond x (behind_prefix (white_rest 4 cells) (behind_columns 4 cells k)) (one_column cells k) ≡
@@ -188,8 +190,8 @@ padding-none : (cells : List Cell) (h : Here) → begins_white cells ≡ false �
 unfolding padding_at
 padding-none cells h e = rw e refl
 
-pub whitespace_means : (B : Behaviour) (options : ParseOptions) (feed : Feed) (w : World) (x : Bool) → HasItem B options →
-    begins_white (feed w.point) ≡ x →
+pub whitespace_means : (B : Behaviour) (options : ParseOptions) (feed : Feed) (w : World) (x : Bool) →
+    HasItem B options → begins_white (feed w.point) ≡ x →
     Steps B feed (Next (n.ListItem its.Whitespace)) w (item_transition its.Whitespace w).to
     (item_transition its.Whitespace w).world
 whitespace_means B options feed w true has e =
@@ -201,7 +203,8 @@ whitespace_means B options feed w false has e =
     let f : Frame = frame_here (Next (n.ListItem its.WhitespaceAfter)) Nok false w in
     begins_only B feed _ _ w (item_transition its.Whitespace w).world f refl refl
     (has.each its.Whitespace _ _ ∙ padding-none (feed w.point) (here w) e
-    ∙ ap (resume B feed w.events f) (sym (has.white.each space_or_tab.Start _ _ ∙ white-refused (feed w.point) (here w) e)))
+    ∙ ap (resume B feed w.events f)
+    (sym (has.white.each space_or_tab.Start _ _ ∙ white-refused (feed w.point) (here w) e)))
 
 padding-ended : (cells : List Cell) (h : Here) (x : Bool) → begins_white cells ≡ x →
     behind_padding cells h ≡ cond x (Refuses h.scratch h.flags) (Accepts h cells)
@@ -210,7 +213,8 @@ padding-ended cells h x e = rw e refl
 
 pub whitespace_after_means : (B : Behaviour) (options : ParseOptions) (feed : Feed) (w : World) (x : Bool) →
     HasItem B options → Sees feed w → sees_white w.current ≡ x →
-    Steps B feed (Next (n.ListItem its.WhitespaceAfter)) w (whitespace_after_code w x).to (whitespace_after_code w x).world
+    Steps B feed (Next (n.ListItem its.WhitespaceAfter)) w (whitespace_after_code w x).to
+    (whitespace_after_code w x).world
 whitespace_after_means B options feed w true has s e =
     passes B feed _ Nok w w refl refl
     (has.each its.WhitespaceAfter _ _ ∙ padding-ended (feed w.point) (here w) true (begins-seen feed w s ∙ e))

@@ -12,7 +12,8 @@ use Rattle.md_engine.specs.declared.state.thematic_break.State.TheVariants as th
 use Rattle.md_engine.specs.declared.tokenizer.Frame.{Frame}
 use Rattle.md_engine.specs.declared.tokenizer.Scratch.{Scratch}
 use Rattle.md_engine.specs.declared.tokenizer.container.Container.{Container}
-use Rattle.md_engine.specs.Scheme.{After, EndsLater, Fits, Grown, Scheme, Position, after_all, moved_to, seen, position, spot_at}
+use Rattle.md_engine.specs.Scheme.{After, EndsLater, Fits, Grown, Scheme, Position}
+use Rattle.md_engine.specs.Scheme.{after_all, moved_to, seen, position, spot_at}
 use Rattle.md_engine.specs.World.{Setting, World, after, looks}
 use Rattle.md_engine.proofs.Falls.{later, later_at, passed, passing_at}
 use Rattle.md_engine.proofs.Local.{accepts, begins_try, consumes, refuses, refuses_later, turns}
@@ -21,9 +22,9 @@ use Rattle.md_containers.specs.Interrupts.{interrupts}
 use Rattle.md_containers.specs.Item.{IsFilled, after_code, before_code, before_ordered_code, blank_code}
 use Rattle.md_containers.specs.Item.{bullet_code, cont_blank_code, cont_filled_code, cont_start_code, filled_transition}
 use Rattle.md_containers.specs.Item.{indent_code, indent_ready, inside_code, is_item_marker, item_level, item_rank}
-use Rattle.md_containers.specs.Item.{item_ready, item_scheme, item_transition, item_tries, least_width, marker_code, may_break, refused}
-use Rattle.md_containers.specs.Item.{prefix_other_code, sees, unseen, value_code}
-use Rattle.md_containers.specs.Item.{whitespace_after_code, without_size}
+use Rattle.md_containers.specs.Item.{item_ready, item_scheme, item_transition, item_tries, least_width, marker_code}
+use Rattle.md_containers.specs.Item.{may_break, refused, prefix_other_code, sees, unseen}
+use Rattle.md_containers.specs.Item.{value_code, whitespace_after_code, without_size}
 use Rattle.md_containers.proofs.LaterStart.{good-later_start}
 use Rattle.md_meaning.specs.Containers.{is_bullet, is_digit}
 use Rattle.md_leaves.specs.Blank.{blank_scheme}
@@ -79,7 +80,8 @@ break_ends T w has r =
       events_len = length w.events;
       point = w.point;
     } in (
-      begins_try T item_scheme break_scheme _ (n.ThematicBreak thematic_break.Start) w IsRest IsRest w.events w.scratch f
+      begins_try T item_scheme break_scheme _ (n.ThematicBreak thematic_break.Start) w IsRest IsRest
+          w.events w.scratch f
           (has.each its.Before) (has.breaks.each thematic_break.Start) tt (has.each its.BeforeUnordered) refl
           (record {
             ok = λ s q t is up way. r.1.nok s w.point t is up;
@@ -120,8 +122,8 @@ before_ends T w (Some b) has r =
 
 -- The value and the marker.
 
-before_ordered_ends : (T : Scheme) (w : World) (x : Bool) → ItemFits T → later_ready (position w) (after_all T w.frames) →
-    Does T (n.ListItem its.BeforeOrdered) w (before_ordered_code w x)
+before_ordered_ends : (T : Scheme) (w : World) (x : Bool) → ItemFits T →
+    later_ready (position w) (after_all T w.frames) → Does T (n.ListItem its.BeforeOrdered) w (before_ordered_code w x)
 before_ordered_ends T w true has r = (
   turns T item_scheme _ (n.ListItem its.Value) w (before_ordered_code w true).world.events w.scratch
       (has.each its.BeforeOrdered) (has.each its.Value) (ap without_size r.0, r.1) (omega arith) (omega arith),
@@ -170,7 +172,8 @@ marker_ends : (T : Scheme) (w : World) (x : Bool) → ItemFits T → later_ready
 marker_ends T w true has r e =
     let inside = seen-in (position w) (sees is_item_marker) refl e in (
       consumes T item_scheme _ _ w (marker_code w true).world.events w.scratch (has.each its.Marker)
-          (has.each its.MarkerAfter) inside (r.0, passed _ _ (position w) _ _ _ (takes_past w.setting w.point inside) r.1)
+          (has.each its.MarkerAfter) inside
+          (r.0, passed _ _ (position w) _ _ _ (takes_past w.setting w.point inside) r.1)
           (omega arith),
       refl,
     )
@@ -234,13 +237,15 @@ choice_ends T w name blank filled (Some b) has is c = go (nat_eq b 10) refl
 
 -- Behind the marker.
 
-marker_after_ends : (T : Scheme) (w : World) (o : Option ℕ) → ItemFits T → rest_ready (position w) (after_all T w.frames) →
+marker_after_ends : (T : Scheme) (w : World) (o : Option ℕ) → ItemFits T →
+    rest_ready (position w) (after_all T w.frames) →
     Does T (n.ListItem its.MarkerAfter) w (blank_code its.After its.MarkerAfterFilled w o)
 marker_after_ends T w o has r =
     choice_ends T w its.MarkerAfter its.After its.MarkerAfterFilled o has r.0 (record {
       blank_ready =
           λ s t is up. (ap unseen is, later_at IsRest IsRest (position w) _ w.point t s up (stays t.limit w.point) r.1);
-      filled_ready = λ s t is up. (is, later_at IsRest IsRest (position w) _ w.point t s up (stays t.limit w.point) r.1);
+      filled_ready =
+          λ s t is up. (is, later_at IsRest IsRest (position w) _ w.point t s up (stays t.limit w.point) r.1);
       blank_level = omega arith;
       filled_level = omega arith;
       name_level = omega arith;
@@ -267,7 +272,8 @@ filled_ends T w has r = (
         ok_level = omega arith;
         ok_rank = λ s t is up. omega arith;
         nok =
-            λ s t is up. (ap unseen is, later_at IsRest IsRest (position w) _ w.point t s up (stays t.limit w.point) r.1);
+            λ s t is up.
+            (ap unseen is, later_at IsRest IsRest (position w) _ w.point t s up (stays t.limit w.point) r.1);
         nok_level = omega arith;
         nok_rank = λ s t is up. omega arith;
       })
@@ -282,7 +288,8 @@ whitespace_ends T w has r =
     white_try T item_scheme _ (n.ListItem its.WhitespaceAfter) w w.events w.scratch 1 4 IsFilled IsFilled has.white
     (has.each its.Whitespace) (has.each its.WhitespaceAfter) (ap (λ (s : Scratch). s.whitespace.size) r.0)
     (λ some. ap calmed r.0) r.1
-    (λ q t up way. (ap calmed r.0, later_at IsFilled IsFilled (position w) _ q t _ up way r.1)) (omega arith) (omega arith)
+    (λ q t up way. (ap calmed r.0, later_at IsFilled IsFilled (position w) _ q t _ up way r.1)) (omega arith)
+    (omega arith)
     (λ t up. omega arith) (omega arith)
 
 whitespace_after_ends : (T : Scheme) (w : World) (x : Bool) → ItemFits T →
@@ -371,7 +378,8 @@ inside_ends : (T : Scheme) (state : ItemState) (w : World) (x y z : Bool) (more 
     Does T (n.ListItem state) w (inside_code state w (x && y) z)
 inside_ends T state w true true z more has some r e =
     let inside = seen-in (position w) sees_white refl e in
-    let s : Scratch = asking w.scratch.whitespace.min w.scratch.whitespace.max (w.scratch.whitespace.size + 1) w.scratch in
+    let s : Scratch =
+    asking w.scratch.whitespace.min w.scratch.whitespace.max (w.scratch.whitespace.size + 1) w.scratch in
     let y : Position = moved_to (position w) (after w.setting w.point) s in (
       consumes T item_scheme _ (n.ListItem state) w w.events s has.fits has.fits inside
           (has.ready y _ (rw some (r.0, later IsRest IsRest (position w) _ _ _ (takes w.setting w.point inside) r.1)))

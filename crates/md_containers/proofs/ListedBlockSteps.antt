@@ -25,7 +25,8 @@ use Rattle.md_containers.proofs.ListedOpen.{passes-here, place_of}
 use Rattle.md_containers.proofs.ListedMarkers.{marker-begins, marker-goes, marker-here}
 
 -- what is between blocks says nothing of what comes next
-pub between-next : (kind : Kind) (x : Role) → IsBetween x → (ahead : ℕ) (next : Option ℕ) → next_by kind x ahead next ≡ next
+pub between-next : (kind : Kind) (x : Role) → IsBetween x → (ahead : ℕ) (next : Option ℕ) →
+    next_by kind x ahead next ≡ next
 between-next kind IsPrefix h ahead next = refl
 between-next kind IsQuoteMarker h ahead next = refl
 between-next kind IsEnding h ahead next = refl
@@ -55,14 +56,17 @@ pub none-some : {X : Type 0} (l : ℕ) → None ≡ Some l → X
 none-some l e = absurd (cc)
 
 -- a quote or a footnote definition begins
-pub holder-begins : (bytes : List ℕ) (p : Point) (shape : Shape) (inner : Inner) (w : Option OpenList) (ls : List OpenList)
+pub holder-begins : (bytes : List ℕ) (p : Point) (shape : Shape) (inner : Inner) (w : Option OpenList)
+    (ls : List OpenList)
     (r : Reading) (ahead : ℕ) (next : Option ℕ) (held : List Bool) → IsNoItem shape →
     ((outer : List OpenContainer) → Agree (false ∷ held) ls outer → AgreeAt inner (false ∷ held) ls outer) →
     ((s : Reading) → s.here ≡ End → Knows bytes inner None ls s ahead next) →
     Agree held ls r.outer → NoLists r.here → Knows bytes AmongBlocks w ls r 0 None →
     Stepped bytes Enter (ContainerRole shape) p w ls r ahead next held (record { held = false ∷ held; inner = inner })
-holder-begins bytes p shape inner (Some l) ls r ahead next held not_item to knows agree lists known = none-some l.marker known.0
-holder-begins bytes p (ItemShape k d) inner None ls r ahead next held not_item to knows agree lists known = absurd not_item
+holder-begins bytes p shape inner (Some l) ls r ahead next held not_item to knows agree lists known =
+    none-some l.marker known.0
+holder-begins bytes p (ItemShape k d) inner None ls r ahead next held not_item to knows agree lists known =
+    absurd not_item
 holder-begins bytes p shape inner None ls r ahead next held not_item to knows agree lists known = record {
   lists = ls;
   within = None;
@@ -170,11 +174,13 @@ pub holder-ends : (bytes : List ℕ) (p : Point) (shape : Shape) (w : Option Ope
     (ahead : ℕ) (next : Option ℕ) (held : List Bool) → IsNoItem shape → Agree (false ∷ held) ls outer →
     NoLists here →
     Knows bytes AmongBlocks w ls (record { outer = outer; here = here; leaf = leaf; text = text }) 0 None →
-    Stepped bytes Exit (ContainerRole shape) p w ls (record { outer = outer; here = here; leaf = leaf; text = text }) ahead next
+    Stepped bytes Exit (ContainerRole shape) p w ls
+    (record { outer = outer; here = here; leaf = leaf; text = text }) ahead next
     (false ∷ held) (record { held = held; inner = AmongBlocks })
 holder-ends bytes p shape (Some l) ls outer here leaf text ahead next held not_item agree lists known =
     none-some l.marker known.0
-holder-ends bytes p (ItemShape k d) None ls outer here leaf text ahead next held not_item agree lists known = absurd not_item
+holder-ends bytes p (ItemShape k d) None ls outer here leaf text ahead next held not_item agree lists known =
+    absurd not_item
 holder-ends bytes p shape None ls [] here leaf text ahead next held not_item agree lists known = absurd agree
 holder-ends bytes p shape None ls (a ∷ arounds) here leaf text ahead next held not_item agree lists known =
     let block : Block = block_around a.shape here in
@@ -341,7 +347,8 @@ pub item-ends : (bytes : List ℕ) (p : Point) (k : ℕ) (e : List ℕ) (w : Opt
     (outer : List OpenContainer) (here : Blocks) (leaf : Option OpenLeaf) (text : Option Text)
     (ahead : ℕ) (next : Option ℕ) (held : List Bool) → Agree (true ∷ held) ls outer →
     Knows bytes AmongBlocks w ls (record { outer = outer; here = here; leaf = leaf; text = text }) 0 None →
-    Stepped bytes Exit (ContainerRole (ItemShape k e)) p w ls (record { outer = outer; here = here; leaf = leaf; text = text })
+    Stepped bytes Exit (ContainerRole (ItemShape k e)) p w ls
+    (record { outer = outer; here = here; leaf = leaf; text = text })
     ahead next (true ∷ held) (record { held = held; inner = AmongBlocks })
 item-ends bytes p k e (Some l) ls outer here leaf text ahead next held agree known = none-some l.marker known.0
 item-ends bytes p k e None [] outer here leaf text ahead next held agree known = absurd agree

@@ -38,7 +38,8 @@ listed-blocks bytes events is = record {
   lines = listed-stands bytes bytes events ∙ is.lines;
   chunks = listed-chunks bytes events ∙ is.chunks;
   grammar = listed-grammar unread_text refl bytes events is.nested is.items is.grammar;
-  pieces_are = subst (λ (ps : List Piece). IsTrue (pieces_stand bytes ps)) (sym (listed-pieces bytes events)) is.pieces_are;
+  pieces_are =
+      subst (λ (ps : List Piece). IsTrue (pieces_stand bytes ps)) (sym (listed-pieces bytes events)) is.pieces_are;
   endings = listed-endings bytes events ∙ is.endings;
 }
 

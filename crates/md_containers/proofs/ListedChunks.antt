@@ -59,7 +59,8 @@ chunk-unmoved : Unmoved Event Bool is_chunk
 chunk-unmoved = record {
   begins = λ e f within m es lists h.
       let item : Event = record f { kind = Enter; name = n.ListItem } in
-      with-begin (λ (xs : List Event). is_chunk e (xs ++ item ∷ lists) ≡ is_chunk e (item ∷ es)) within m f.point refl refl
+      with-begin (λ (xs : List Event). is_chunk e (xs ++ item ∷ lists) ≡ is_chunk e (item ∷ es)) within m
+      f.point refl refl
       refl;
   ends = λ e f markers next es lists h. refl;
   passes = λ e bytes place f es h. refl;
@@ -74,7 +75,8 @@ chunks-unmoved = record { begins = begins; ends = ends; passes = passes }
 
     begins : (depth : ℕ) (e : Event) (within : Bool) (m : ℕ) (es lists : List Event) →
         ((k : ℕ) → chunks_stand k lists ≡ chunks_stand k es) →
-        chunks_stand depth (list_begin within m e.point ++ item Enter e ∷ lists) ≡ chunks_stand depth (item Enter e ∷ es)
+        chunks_stand depth (list_begin within m e.point ++ item Enter e ∷ lists) ≡
+        chunks_stand depth (item Enter e ∷ es)
     begins zero e within m es lists h =
         let more = ap (λ (b : Bool). not (is_linked e) && b) (h 0) in
         with-begin
@@ -85,10 +87,12 @@ chunks-unmoved = record { begins = begins; ends = ends; passes = passes }
 
     ends : (depth : ℕ) (e : Event) (markers : List ℕ) (next : Option ℕ) (es lists : List Event) →
         ((k : ℕ) → chunks_stand k lists ≡ chunks_stand k es) →
-        chunks_stand depth (item Exit e ∷ list_end markers next e.point ++ lists) ≡ chunks_stand depth (item Exit e ∷ es)
+        chunks_stand depth (item Exit e ∷ list_end markers next e.point ++ lists) ≡
+        chunks_stand depth (item Exit e ∷ es)
     ends zero e markers next es lists h =
         ap (λ (b : Bool). not (is_linked e) && b)
-        (with-end (λ (xs : List Event). chunks_stand 0 (xs ++ lists) ≡ chunks_stand 0 es) markers next e.point (h 0) (h 0)
+        (with-end (λ (xs : List Event). chunks_stand 0 (xs ++ lists) ≡ chunks_stand 0 es) markers next
+        e.point (h 0) (h 0)
         (h 0))
     ends (suc depth) e markers next es lists h =
         item-inside e Exit depth (list_end markers next e.point ++ lists) ∙ sym (item-inside e Exit depth es)

@@ -159,7 +159,8 @@ ahead-filled bytes (e ∷ f ∷ es) h lists each =
 filled-begin : (within : Bool) (m : ℕ) (p : Point) (es : List Event) (lists : List (List Event)) →
     filled_from false (list_begin within m p ++ es) lists ≡ list_begin within m p ++ filled_from false es lists
 filled-begin within m p es lists =
-    with-begin (λ (xs : List Event). filled_from false (xs ++ es) lists ≡ xs ++ filled_from false es lists) within m p refl
+    with-begin (λ (xs : List Event). filled_from false (xs ++ es) lists ≡ xs ++ filled_from false es lists)
+    within m p refl
     refl refl
 
 filled-end : (markers : List ℕ) (next : Option ℕ) (p : Point) (es : List Event) (lists : List (List Event)) →

@@ -1,8 +1,8 @@
 -- What is read of events with lists around their items, from what is read of the events.
 --
--- Both are read side by side. What is read of the one follows from what is read of the other and from the lists that are
--- open (`as_listed`): for each open item, its list with the items so far; and the list whose next item is to come, if
--- one goes on. `Stepped` says that an event keeps this.
+-- Both are read side by side. What is read of the one follows from what is read of the other and from the lists that
+-- are open (`as_listed`): for each open item, its list with the items so far; and the list whose next item is to come,
+-- if one goes on. `Stepped` says that an event keeps this.
 use Rattle.std.proofs.Common.{◌≡◌, ℕ, Bool, true, false, List, [], ◌∷◌, ◌++◌, map, length, refl, ap, sym, subst, ◌∙◌}
 use Rattle.std.specs.Prelude.{if◌then◌else◌, nat_lt, Option, Some, None, get_or}
 use Rattle.std.specs.Option.{is_some}
@@ -23,8 +23,8 @@ use Rattle.md_seam.specs.Events.Nested.{exit}
 use Rattle.md_seam.proofs.ToldLemmas.{told-noted}
 use Rattle.md_containers.specs.ItemsStand.{AmongBlocks, InFront, InLabel, InLeaf, InMarker, InText, Inner, IsForItself}
 use Rattle.md_containers.specs.ItemsStand.{IsForLeaf, IsMarkerAt, IsOfItself, IsOfLeaf, Site, is_list_marker}
-use Rattle.md_containers.specs.Listed.{Begins, Ends, Place, Stays, Turn, given_by, goes_on, list_begin, list_end, list_name}
-use Rattle.md_containers.specs.Listed.{place_by, turn}
+use Rattle.md_containers.specs.Listed.{Begins, Ends, Place, Stays, Turn, given_by, goes_on}
+use Rattle.md_containers.specs.Listed.{list_begin, list_end, list_name, place_by, turn}
 use Rattle.md_containers.proofs.GroupedLemmas.{NoLists}
 
 -- Lists that are open.
@@ -45,7 +45,8 @@ list_around l = record { shape = list_shape l.marker; before = l.before }
 abbrev pub outer_by : List Bool → List OpenList → List OpenContainer → List OpenContainer
 outer_by (true ∷ held) (l ∷ ls) (a ∷ arounds) =
     record { shape = a.shape; before = l.items } ∷ list_around l ∷ outer_by held ls arounds
-outer_by (false ∷ held) ls (a ∷ arounds) = record { shape = a.shape; before = grouped a.before } ∷ outer_by held ls arounds
+outer_by (false ∷ held) ls (a ∷ arounds) =
+    record { shape = a.shape; before = grouped a.before } ∷ outer_by held ls arounds
 outer_by _ _ _ = []
 
 abbrev pub moved : Reading → List OpenContainer → Blocks → Reading
@@ -105,7 +106,8 @@ Agree _ _ _ = ⊥
 
 -- the same where the innermost is an item whose marker is not read yet
 abbrev pub AgreeFront : List Bool → List OpenList → List OpenContainer → Type 0
-AgreeFront (true ∷ held) (l ∷ ls) (a ∷ arounds) = IsBegun a.shape × Fits l a.before × NoLists a.before × Agree held ls arounds
+AgreeFront (true ∷ held) (l ∷ ls) (a ∷ arounds) =
+    IsBegun a.shape × Fits l a.before × NoLists a.before × Agree held ls arounds
 AgreeFront _ _ _ = ⊥
 
 abbrev pub AgreeAt : Inner → List Bool → List OpenList → List OpenContainer → Type 0
@@ -177,7 +179,8 @@ read-turn bytes Begins place ahead next e r = go place.within
         ≡ read_by bytes e.kind (role e.name) e.point (begun_list x ahead r)
     go true = refl
     go false =
-        ap (λ (x : Role). read_by bytes e.kind (role e.name) e.point (read_by bytes Enter x e.point r)) (role-list ahead)
+        ap (λ (x : Role). read_by bytes e.kind (role e.name) e.point (read_by bytes Enter x e.point r))
+        (role-list ahead)
 read-turn bytes Ends place ahead next e r = go place.markers
   where
     s : Reading
@@ -187,7 +190,8 @@ read-turn bytes Ends place ahead next e r = go place.markers
     go [] = refl
     go (m ∷ markers) = by (goes_on m next)
       where
-        by : (x : Bool) → read bytes s (if x then [] else exit (list_name m) e.point ∷ []) ≡ (if x then s else left s.outer s)
+        by : (x : Bool) →
+            read bytes s (if x then [] else exit (list_name m) e.point ∷ []) ≡ (if x then s else left s.outer s)
         by true = refl
         by false = ap (λ (x : Role). read_by bytes Exit x e.point s) (role-list m)
 read-turn bytes Stays place ahead next e r = refl
@@ -218,13 +222,15 @@ of-itself purpose h = go (told_of purpose) h
     go OfItself h = refl
     go _ h = absurd h
 
-pub told-moved : (purpose : Purpose) → IsOfLeaf purpose → (line : Line) (r : Reading) (outer : List OpenContainer) (here : Blocks) →
+pub told-moved : (purpose : Purpose) → IsOfLeaf purpose →
+    (line : Line) (r : Reading) (outer : List OpenContainer) (here : Blocks) →
     told purpose line (moved r outer here) ≡ moved (told purpose line r) outer here
 told-moved purpose h line r outer here =
     told-noted purpose (of-leaf purpose h) line (moved r outer here)
     ∙ ap (λ (s : Reading). moved s outer here) (sym (told-noted purpose (of-leaf purpose h) line r))
 
-pub told_at-moved : (bytes : List ℕ) (purpose : Purpose) → IsOfLeaf purpose → (p : Point) (text : Option Text) (r : Reading)
+pub told_at-moved : (bytes : List ℕ) (purpose : Purpose) → IsOfLeaf purpose →
+    (p : Point) (text : Option Text) (r : Reading)
     (outer : List OpenContainer) (here : Blocks) →
     told_at bytes purpose p text (moved r outer here) ≡ moved (told_at bytes purpose p text r) outer here
 told_at-moved bytes purpose h p None r outer here = refl
@@ -232,8 +238,8 @@ told_at-moved bytes purpose h p (Some text) r outer here =
     told-moved purpose h (record { spaces = text.spaces; text = text_to bytes p.index text })
     (record r { text = None }) outer here
 
-pub ending-moved : (bytes : List ℕ) (p : Point) (text : Option Text) (r : Reading) (outer : List OpenContainer) (here : Blocks) →
-    at_ending bytes p text (moved r outer here) ≡ moved (at_ending bytes p text r) outer here
+pub ending-moved : (bytes : List ℕ) (p : Point) (text : Option Text) (r : Reading) (outer : List OpenContainer)
+    (here : Blocks) → at_ending bytes p text (moved r outer here) ≡ moved (at_ending bytes p text r) outer here
 ending-moved bytes p (Some text) r outer here = refl
 ending-moved bytes p None r outer here = go (nat_lt p.index (length bytes))
   where
@@ -301,7 +307,8 @@ pub record Stepped (bytes : List ℕ) (kind : Kind) (x : Role) (p : Point) (w : 
   pub known : Known bytes site within lists (read_by bytes kind x p r) ahead next
 
 -- an event that passes, within a container
-pub passed : (bytes : List ℕ) (kind : Kind) (x : Role) (p : Point) (w : Option OpenList) (ls : List OpenList) (r : Reading)
+pub passed : (bytes : List ℕ) (kind : Kind) (x : Role) (p : Point) (w : Option OpenList) (ls : List OpenList)
+    (r : Reading)
     (ahead : ℕ) (next : Option ℕ) (held : List Bool) (inner : Inner) → Passes kind x → AgreeAt inner held ls r.outer →
     NoLists r.here → Knows bytes inner w ls (read_by bytes kind x p r) ahead next →
     Stepped bytes kind x p w ls r ahead next held (record { held = held; inner = inner })

@@ -22,9 +22,9 @@ use Rattle.md_containers.specs.ItemsStand.{AmongBlocks, InFront, InLabel, InLeaf
 use Rattle.md_containers.specs.ItemsStand.{IsMarkerAt, IsOfLeaf, IsPart, MayBegin, MayEnd, is_list_marker, site_after}
 use Rattle.md_containers.specs.Listed.{Stays, Turn, marker_by, next_by, place_by, turn}
 use Rattle.md_containers.proofs.GroupedLemmas.{IsOther, NoLists, grouped-other, no-lists-then, other-is-no-list}
-use Rattle.md_containers.proofs.ListedOpen.{Agree, AgreeFront, Apart, IsBegun, IsItemOf, IsNoItem, Known, OpenList, Passes}
-use Rattle.md_containers.proofs.ListedOpen.{Stepped, as_listed, first_marker, moved, of-itself, of-leaf, outer_by, passed}
-use Rattle.md_containers.proofs.ListedOpen.{passes-here, place_of, read_turn}
+use Rattle.md_containers.proofs.ListedOpen.{Agree, AgreeFront, Apart, IsBegun, IsItemOf, IsNoItem, Known, OpenList}
+use Rattle.md_containers.proofs.ListedOpen.{Passes, Stepped, as_listed, first_marker, moved, of-itself, of-leaf}
+use Rattle.md_containers.proofs.ListedOpen.{outer_by, passed, passes-here, place_of, read_turn}
 use Rattle.md_containers.proofs.ListedBlockSteps.{apart-end, other-apart}
 use Rattle.md_containers.proofs.ListedMarkers.{marker-begins, marker-here, marker-in_leaf, marker-in_text}
 use Rattle.md_containers.proofs.ListedMarkers.{marker-stays, shape-listed}
@@ -74,8 +74,8 @@ pub begun-digits : (t : List ℕ) (shape : Shape) → IsBegun shape → IsBegun 
 begun-digits t (ItemShape k d) h = h
 begun-digits t _ h = absurd h
 
-pub front-digits : (t : List ℕ) (held : List Bool) (ls : List OpenList) (outer : List OpenContainer) → AgreeFront held ls outer →
-    AgreeFront held ls (on_shape (named AsDigits t) outer)
+pub front-digits : (t : List ℕ) (held : List Bool) (ls : List OpenList) (outer : List OpenContainer) →
+    AgreeFront held ls outer → AgreeFront held ls (on_shape (named AsDigits t) outer)
 front-digits t (true ∷ held) (l ∷ ls) (a ∷ arounds) h = (begun-digits t a.shape h.0, h.1, h.2, h.3)
 front-digits t _ _ _ h = absurd h
 
@@ -101,8 +101,8 @@ pub no-item-label : (t : List ℕ) (shape : Shape) → IsNoItem shape → IsNoIt
 no-item-label t (ItemShape k d) h = absurd h
 no-item-label t _ h = search
 
-pub agree-label : (t : List ℕ) (held : List Bool) (ls : List OpenList) (outer : List OpenContainer) → Agree held ls outer →
-    Agree held ls (on_shape (named AsFootnoteLabel t) outer)
+pub agree-label : (t : List ℕ) (held : List Bool) (ls : List OpenList) (outer : List OpenContainer) →
+    Agree held ls outer → Agree held ls (on_shape (named AsFootnoteLabel t) outer)
 agree-label t [] [] [] h = tt
 agree-label t (true ∷ held) (l ∷ ls) (a ∷ arounds) h = (item-label t l.marker a.shape h.0, h.1, h.2, h.3)
 agree-label t (false ∷ held) ls (a ∷ arounds) h = (no-item-label t a.shape h.0, h.1, h.2)
@@ -145,8 +145,8 @@ item-marked t m (ItemShape k d) h e marker =
     (ap (λ (j : ℕ). if j == 0 then first_byte t else j) h ∙ e, marker)
 item-marked t m _ h e marker = absurd h
 
-pub front-marked : (t : List ℕ) (held : List Bool) (ls : List OpenList) (outer : List OpenContainer) → AgreeFront held ls outer →
-    first_byte t ≡ first_marker ls → is_list_marker (first_marker ls) ≡ true →
+pub front-marked : (t : List ℕ) (held : List Bool) (ls : List OpenList) (outer : List OpenContainer) →
+    AgreeFront held ls outer → first_byte t ≡ first_marker ls → is_list_marker (first_marker ls) ≡ true →
     Agree held ls (on_shape (named AsItemMarker t) outer)
 front-marked t (true ∷ held) (l ∷ ls) (a ∷ arounds) h e marker =
     (item-marked t l.marker a.shape h.0 e marker, h.1, h.2, h.3)
@@ -264,8 +264,8 @@ HasLeaf r = (leaf : OpenLeaf) × (r.leaf ≡ Some leaf)
 pub changed-leaf : (f : OpenLeaf → OpenLeaf) (r : Reading) → HasLeaf r → HasLeaf (on_leaf f r)
 changed-leaf f r h = (f h.0, ap (option_map f) h.1)
 
-pub told-leaf : (bytes : List ℕ) (purpose : Purpose) → IsOfLeaf purpose → (p : Point) (text : Option Text) (r : Reading) →
-    HasLeaf r → HasLeaf (told_at bytes purpose p text r)
+pub told-leaf : (bytes : List ℕ) (purpose : Purpose) → IsOfLeaf purpose →
+    (p : Point) (text : Option Text) (r : Reading) → HasLeaf r → HasLeaf (told_at bytes purpose p text r)
 told-leaf bytes purpose h p None r leaf = leaf
 told-leaf bytes purpose h p (Some text) r leaf =
     let line : Line = record { spaces = text.spaces; text = text_to bytes p.index text } in

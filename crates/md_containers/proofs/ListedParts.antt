@@ -50,7 +50,8 @@ inside-unmoved = record {
         pieces_from f (inside_part (e ∷ xs)) ≡ pieces_from f (inside_part (e ∷ ys))
     passed f e xs ys h = go (is_part e.name && is_exit e.kind)
       where
-        go : (x : Bool) → pieces_from f (cond x [] (e ∷ inside_part xs)) ≡ pieces_from f (cond x [] (e ∷ inside_part ys))
+        go : (x : Bool) →
+            pieces_from f (cond x [] (e ∷ inside_part xs)) ≡ pieces_from f (cond x [] (e ∷ inside_part ys))
         go true = refl
         go false = more-pieces f e (inside_part xs) (inside_part ys) h
 

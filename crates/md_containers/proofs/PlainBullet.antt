@@ -66,7 +66,8 @@ record SeesBullet (w : World) : Type 0 where
   next : (after w.setting (after w.setting w.point)).index < w.setting.limit
   dark : sees_white (looks_at w.setting (after w.setting (after w.setting w.point))) ≡ false
   -- the rest of the line is not blank
-  first : first_behind (slice_range w.setting.bytes (after w.setting w.point).index w.setting.limit) ≡ Some (byte_at w 2)
+  first : first_behind (slice_range w.setting.bytes (after w.setting w.point).index w.setting.limit) ≡
+      Some (byte_at w 2)
   not_end : nat_eq (byte_at w 2) 10 ≡ false
   -- and has another byte than the bullet
   another : sees_other w (slice_index w.setting.bytes w.point.index) ≡ true
@@ -91,7 +92,9 @@ sees-bullet w plain = record {
       ∙ ap (λ (b : Bool). is_other (cond (b || is_white marker) (first_other marker behind) (Some marker)))
       (eq-eqb marker marker refl)
       ∙ ap (λ (l : List ℕ). is_other (first_other marker l)) second
-      ∙ ap (λ (b : Bool). is_other (cond b (first_other marker (slice_range w.setting.bytes (w.point.index + 1 + 1) w.setting.limit)) (Some 32))) (or-true (nat_eq 32 marker))
+      ∙ ap (λ (b : Bool). is_other
+      (cond b (first_other marker (slice_range w.setting.bytes (w.point.index + 1 + 1) w.setting.limit)) (Some 32)))
+      (or-true (nat_eq 32 marker))
       ∙ ap (λ (l : List ℕ). is_other (first_other marker l)) rest
       ∙ ap₂ (λ (x y : Bool). is_other (cond (x || y) (first_other marker after_two) (Some (byte_at w 2)))) plain.other
       plain.dark
@@ -255,7 +258,8 @@ module _ (next : StateName) (nok : State) (w : World) where
   within-behind_marker : Within w → Within behind_marker
   within-behind_marker within =
       within-more (item_frame ∷ w.frames) _ (exit ListItemMarker behind_marker.point ∷ [])
-      (within-more (item_frame ∷ w.frames) in_prefix.events (enter ListItemMarker w.point ∷ []) (within-in_prefix within))
+      (within-more (item_frame ∷ w.frames) in_prefix.events (enter ListItemMarker w.point ∷ [])
+      (within-in_prefix within))
 
   within-trying_padding : Within w → Within trying_padding
   within-trying_padding within =
@@ -455,7 +459,8 @@ pub bullet-run : (T : Step) (is_end : Bool) (s : State) (v : World) (next : Stat
     w.current ≡ looks w → Within w → IsPlainBullet w → CameTo T is_end s v next (bulleted w)
 bullet-run T is_end s v next nok w has_item has_white came seen within plain =
     then-holds T is_end s v (n.ListItem its.After) next after_padding done (item_frame next nok w) w.frames at_after
-    (has_item its.After after_padding Ok done refl) refl (within-filled next nok w within) refl refl refl within sees.next
+    (has_item its.After after_padding Ok done refl) refl (within-filled next nok w within) refl refl refl
+    within sees.next
   where
     sees : SeesBullet w
     sees = sees-bullet w plain
@@ -480,5 +485,6 @@ bullet-run T is_end s v next nok w has_item has_white came seen within plain =
         then-holds T is_end s v (n.ListItem its.WhitespaceAfter) (n.ListItem its.After) behind_padding behind_padding
         (padding_frame next nok w) (item_frame next nok w ∷ w.frames) at_padding
         (has_item its.WhitespaceAfter behind_padding Ok behind_padding
-        (ap (item.whitespace_after_code behind_padding) sees.dark)) refl (within-padded next nok w within) refl refl refl
+        (ap (item.whitespace_after_code behind_padding) sees.dark)) refl (within-padded next nok w within)
+        refl refl refl
         (within-behind_marker next nok w within) sees.next

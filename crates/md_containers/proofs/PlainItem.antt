@@ -178,5 +178,6 @@ indent-run T is_end s v next nok w m item came seen within width plain =
         (item its.ContFilled (part k) (Next (n.ListItem its.ContFilled)) (more k (suc (suc k)))
         (ap₂ (λ (x y : Bool). inside_code its.ContFilled (part k) (x && y) (nat_le (suc m) (suc k)))
         (ap sees_white (spaces (suc k) lt)) left
-        ∙ ap (λ (size : ℕ). record { to = Next (n.ListItem its.ContFilled); world = more k size }) one)) refl (in-part k)
+        ∙ ap (λ (size : ℕ). record { to = Next (n.ListItem its.ContFilled); world = more k size }) one))
+        refl (in-part k)
         (inside (suc (suc k)) (omega (arith, lt)))

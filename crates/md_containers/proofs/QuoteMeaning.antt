@@ -109,7 +109,8 @@ indent_means B feed w false state behind next white is then s e =
 -- The marker.
 
 asks-marker : (next : Left) →
-    AsksFor 62 (λ p q. enter BlockQuotePrefix p ∷ enter BlockQuoteMarker p ∷ exit BlockQuoteMarker q ∷ []) (at_marker next)
+    AsksFor 62 (λ p q. enter BlockQuotePrefix p ∷ enter BlockQuoteMarker p ∷ exit BlockQuoteMarker q ∷ [])
+    (at_marker next)
     (behind_marker next)
 unfolding at_marker
 asks-marker next = record { none = λ h. refl; some = λ c cs h. refl }
@@ -233,7 +234,8 @@ alert_mark_means : (B : Behaviour) (options : ParseOptions) (feed : Feed) (w : W
     HasQuote B options → Sees feed w → is_current 33 w.current ≡ x →
     Steps B feed (Next (n.BlockQuote its.AlertMark)) w (alert_mark_code w x).to (alert_mark_code w x).world
 alert_mark_means B options feed w true has s e =
-    asked-some B feed _ _ w (alert_mark_code w true).world asks-mark (has.each its.AlertMark) (has.each its.AlertLetter) s e
+    asked-some B feed _ _ w (alert_mark_code w true).world asks-mark (has.each its.AlertMark)
+    (has.each its.AlertLetter) s e
     refl (sym (append-nil w.events)) refl refl
 alert_mark_means B options feed w false has s e = asked-none B feed _ w asks-mark (has.each its.AlertMark) s e
 
@@ -411,7 +413,8 @@ quote_means B feed its.ContStart w has s =
     indent_means B feed w _ its.ContStart its.ContBefore (at_marker prefix_ended) has.white (has.each its.ContStart)
     (has.each its.ContBefore) s refl
 quote_means B feed its.ContBefore w has s =
-    marker_means B feed w _ its.ContBefore its.ContAfter prefix_ended (has.each its.ContBefore) (has.each its.ContAfter) s
+    marker_means B feed w _ its.ContBefore its.ContAfter prefix_ended (has.each its.ContBefore)
+    (has.each its.ContAfter) s
     refl
 quote_means B feed its.ContAfter w has s = cont_after_means B _ feed w _ has s refl
 

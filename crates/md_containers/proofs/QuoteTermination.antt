@@ -54,7 +54,8 @@ open_start_ends T w true has r =
     white_try_later T quote_scheme _ (n.BlockQuote its.OpenBefore) w w.events w.scratch 1
     (small_indent w.setting.options) IsRest IsRest has.white (has.each its.OpenStart) (has.each its.OpenBefore)
     (rest-none w.scratch r.0) (λ some. rest-calm w.scratch r.0) r.1
-    (λ q t up way. (rest-calm w.scratch r.0, passing_at _ _ (position w) _ q t _ up way r.1)) (omega arith) (omega arith)
+    (λ q t up way. (rest-calm w.scratch r.0, passing_at _ _ (position w) _ q t _ up way r.1)) (omega arith)
+    (omega arith)
     (λ t up. omega arith) (omega arith)
 open_start_ends T w false has r = (
   turns T quote_scheme _ (n.BlockQuote its.OpenBefore) w w.events w.scratch (has.each its.OpenStart)
@@ -68,7 +69,8 @@ cont_start_ends T w true has r =
     white_try_later T quote_scheme _ (n.BlockQuote its.ContBefore) w w.events w.scratch 1
     (small_indent w.setting.options) IsRest IsRest has.white (has.each its.ContStart) (has.each its.ContBefore)
     (rest-none w.scratch r.0) (λ some. rest-calm w.scratch r.0) r.1
-    (λ q t up way. (rest-calm w.scratch r.0, passing_at _ _ (position w) _ q t _ up way r.1)) (omega arith) (omega arith)
+    (λ q t up way. (rest-calm w.scratch r.0, passing_at _ _ (position w) _ q t _ up way r.1)) (omega arith)
+    (omega arith)
     (λ t up. omega arith) (omega arith)
 cont_start_ends T w false has r = (
   turns T quote_scheme _ (n.BlockQuote its.ContBefore) w w.events w.scratch (has.each its.ContStart)
@@ -201,7 +203,8 @@ letter_ends T w (Some b) has r e = go (is_end (name_of (to_ascii_lowercase b))) 
         rw k (
           consumes T quote_scheme _ (n.BlockQuote its.AlertName) w w.events s (has.each its.AlertLetter)
               (has.each its.AlertName) inside
-              (ap unnamed r.0, later IsRest IsRest (position w) _ _ s (takes w.setting w.point inside) r.1) (omega arith),
+              (ap unnamed r.0, later IsRest IsRest (position w) _ _ s (takes w.setting w.point inside) r.1)
+              (omega arith),
           refl,
         )
 

@@ -1,13 +1,14 @@
--- What may still come in a part, as far as lists and items matter: in a container, where one is among its blocks; in all
--- else, no list.
-use Rattle.std.proofs.Common.{◌≡◌, Bool, true, false, cond, ◌&&◌, ◌||◌, not, List, [], ◌∷◌, refl, ap, sym, ◌∙◌, ◌⊎◌, inl, inr}
+-- What may still come in a part, as far as lists and items matter: in a container, where one is among its blocks; in
+-- all else, no list.
+use Rattle.std.proofs.Common.{◌≡◌, Bool, true, false, cond, ◌&&◌, ◌||◌, not, List, []}
+use Rattle.std.proofs.Common.{◌∷◌, refl, ap, sym, ◌∙◌, ◌⊎◌, inl, inr}
 use Rattle.std.specs.List.{list_any}
 use Rattle.std.proofs.lemmas.Bool.{and_from, and_parts}
 use Rattle.md_engine.specs.declared.event.Name.{Name}
 use Rattle.md_engine.specs.declared.event.Name.TheVariants as n
 use Rattle.md_containers.specs.Unlisted.{in_place}
-use Rattle.md_seam.specs.Events.Grammar.{Expression, Many, Never, Nothing, One, Or, Then, and_then, behind, behind_block}
-use Rattle.md_seam.specs.Events.Grammar.{blocks, inside, may_end, one, or_else, white}
+use Rattle.md_seam.specs.Events.Grammar.{Expression, Many, Never, Nothing, One, Or, Then, and_then, behind}
+use Rattle.md_seam.specs.Events.Grammar.{behind_block, blocks, inside, may_end, one, or_else, white}
 use Rattle.md_seam.specs.Events.Names.{same_name}
 
 -- Containers.

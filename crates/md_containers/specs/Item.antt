@@ -121,9 +121,10 @@ blank_code blank filled w (Some b) = if b == 10 then goes_to blank w else goes_t
 
 -- 1 to 4 columns are tried; that something stands behind the marker is noted
 abbrev pub filled_transition : World → Transition
-filled_transition w = goes_to its.Whitespace (record (tried w (Next (n.ListItem its.After)) (Next (n.ListItem its.PrefixOther))) {
-  scratch = record w.scratch { seen = true };
-})
+filled_transition w =
+    goes_to its.Whitespace (record (tried w (Next (n.ListItem its.After)) (Next (n.ListItem its.PrefixOther))) {
+      scratch = record w.scratch { seen = true };
+    })
 
 -- by whether whitespace is left
 abbrev pub whitespace_after_code : World → Bool → Transition

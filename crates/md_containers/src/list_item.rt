@@ -20,13 +20,14 @@ ghost use Rattle.md_engine.specs.World.{world};
 ghost use Rattle.md_engine.specs.declared.state.Name.{Name as StateName};
 ghost use Rattle.md_engine.specs.declared.state.State.{State};
 ghost use Rattle.md_engine.specs.declared.state.list_item.State.{State as ItemState};
-ghost use Rattle.md_containers.specs.Item.{after_transition, at_least_one, before_ordered_transition, before_transition};
-ghost use Rattle.md_containers.specs.Item.{before_unordered_transition, blank_code, cont_blank_transition};
-ghost use Rattle.md_containers.specs.Item.{cont_filled_transition, cont_start_transition, ends_value, filled_transition};
-ghost use Rattle.md_containers.specs.Item.{indent_code, inside_transition, item_transition, least_width};
-ghost use Rattle.md_containers.specs.Item.{marker_after_transition, marker_transition, may_begin, may_break};
-ghost use Rattle.md_containers.specs.Item.{prefix_other_transition, sees, start_transition, value_transition};
-ghost use Rattle.md_containers.specs.Item.{whitespace_after_transition, whitespace_transition, width_here};
+ghost use Rattle.md_containers.specs.Item.{after_transition, at_least_one, before_ordered_transition};
+ghost use Rattle.md_containers.specs.Item.{before_transition, before_unordered_transition, blank_code};
+ghost use Rattle.md_containers.specs.Item.{cont_blank_transition, cont_filled_transition, cont_start_transition};
+ghost use Rattle.md_containers.specs.Item.{ends_value, filled_transition, indent_code, inside_transition};
+ghost use Rattle.md_containers.specs.Item.{item_transition, least_width, marker_after_transition, marker_transition};
+ghost use Rattle.md_containers.specs.Item.{may_begin, may_break, prefix_other_transition, sees, start_transition};
+ghost use Rattle.md_containers.specs.Item.{value_transition, whitespace_after_transition};
+ghost use Rattle.md_containers.specs.Item.{whitespace_transition, width_here};
 ghost use Rattle.md_meaning.specs.Containers.{is_bullet, is_digit};
 ghost use Rattle.md_seam.specs.Look.{looks_behind, may_with};
 ghost use Rattle.md_seam.specs.Spaces.{sees_white};
@@ -286,7 +287,8 @@ fn by_blank(tokenizer: &mut Tokenizer, blank: ItemState, filled: ItemState) -> S
     ensures to { result ≢ State.Error →
         result ≡ (blank_code blank filled (world tokenizer.old) (looks_behind (world tokenizer.old))).to }
     ensures world { result ≢ State.Error →
-        world tokenizer.new ≡ (blank_code blank filled (world tokenizer.old) (looks_behind (world tokenizer.old))).world }
+        world tokenizer.new ≡
+        (blank_code blank filled (world tokenizer.old) (looks_behind (world tokenizer.old))).world }
     ensures full { OnError result (IsFull tokenizer.new) }
 {
     match look_behind(tokenizer) {

@@ -142,7 +142,8 @@ span-taken c n end w low at some h =
       new = ap (λ (p : Point). record w { point = p }) (sym (along-further w.setting c n end w.point here.0 ∙ is));
       each =
           λ k lt. subst (IsOf c w.setting.bytes end)
-          (sym (along-further w.setting c k end w.point (λ i below. here.0 i (omega (arith, lt, below))))) (here.0 k lt);
+          (sym (along-further w.setting c k end w.point (λ i below. here.0 i (omega (arith, lt, below)))))
+          (here.0 k lt);
       ends = λ sees. here.1 (subst (IsOf c w.setting.bytes end) (sym is) sees);
     }
 

@@ -12,8 +12,8 @@ use Rattle.md_engine.specs.Place.{seen_at}
 use Rattle.md_engine.specs.Run.{IsEnd, Leaves, goes_back, left, next_of, plain}
 use Rattle.md_engine.specs.Scheme.{After, Ends, EndsLater, Grown, Passes, Reaches, Resumes, Scheme, Position, Tries}
 use Rattle.md_engine.specs.Scheme.{TriesLater, after_all, after_frame, cells_before, frame_level, frame_number}
-use Rattle.md_engine.specs.Scheme.{frame_rank, frames_work, holds, moved_to, seen, position, spot_at, stands, state_level}
-use Rattle.md_engine.specs.Scheme.{state_number, state_rank, state_work, work}
+use Rattle.md_engine.specs.Scheme.{frame_rank, frames_work, holds, moved_to, seen, position, spot_at, stands}
+use Rattle.md_engine.specs.Scheme.{state_level, state_number, state_rank, state_work, work}
 use Rattle.md_engine.proofs.Points.{grown-same, grown-then, passes-reaches, passes_then, rank-low, stays, then_passes}
 use Rattle.md_engine.proofs.Points.{then_reaches}
 use Rattle.md_engine.proofs.Powers.{weighs}
@@ -140,7 +140,8 @@ resumed T w fs f s end e st = go s end (subst Q e st)
     Q : List Frame → Type 0
     Q = λ x. holds T (plain s) (position w) (after_all T x)
 
-    back : (b : Bool) → Resumes T f f.ok (cond b (record (position w) { point = f.point }) (position w)) (after_all T fs) →
+    back : (b : Bool) →
+        Resumes T f f.ok (cond b (record (position w) { point = f.point }) (position w)) (after_all T fs) →
         Resumes T f f.ok (position (left w fs f b)) (after_all T fs)
     back true r = r
     back false r = r

@@ -36,7 +36,8 @@ pub turns : (T own : Scheme) (n m : StateName) (w : World) (events : List Event)
     (own.rank m (moved_to (position w) w.point s)).number < (own.rank n (position w)).number →
     Good T n w (Retry m) (record w { events = events; scratch = s })
 turns T own n m w events s fn fm r le lt =
-    let a = fm.level in let b = fn.level in let c = fm.rank (moved_to (position w) w.point s) in let d = fn.rank (position w) in
+    let a = fm.level in let b = fn.level in let c = fm.rank (moved_to (position w) w.point s) in
+    let d = fn.rank (position w) in
     let low : (T.rank m (moved_to (position w) w.point s)).number < (T.rank n (position w)).number = rw (c, d) lt in
     (fm.ready _ _ r, same-frames T w events w.point s n m (rw (a, b) le) (omega (arith, low)), (refl, refl))
 
@@ -56,7 +57,8 @@ consumes T own n m w events s fn fm inside r le =
 
 ends-falls : (T : Scheme) (w : World) (n : StateName) → 0 + frames_work T w.setting.limit w.frames < work T w (Next n)
 ends-falls T w n =
-    let less = weighs w.setting.limit 0 (state_number T (Next n) (position w)) 0 (T.level n) (omega arith) (omega arith) in
+    let less =
+    weighs w.setting.limit 0 (state_number T (Next n) (position w)) 0 (T.level n) (omega arith) (omega arith) in
     omega (arith, less)
 
 pub accepts : (T : Scheme) (n : StateName) (w : World) (P Q : Scratch → Type 0) (events : List Event) (s : Scratch) →
@@ -81,7 +83,8 @@ pub refuses_later : (T : Scheme) (n : StateName) (w : World) (P Q : Scratch → 
 refuses_later T n w P Q events s e is =
     (e.nok s w.point w.setting is (grown-same w.setting), omega (arith, ends-falls T w n), tt)
 
-holds_by : (T own : Scheme) (st : State) (x : Position) (K : After) → FitsState T own st → holds own st x K → holds T st x K
+holds_by : (T own : Scheme) (st : State) (x : Position) (K : After) → FitsState T own st → holds own st x K →
+    holds T st x K
 holds_by T own Ok x K f h = h
 holds_by T own Nok x K f h = h
 holds_by T own Error x K f h = h
@@ -143,8 +146,8 @@ tries_by T own f P Q x K a b t =
       nok_rank = λ s v is up. rw (r, rank_by T own f.nok _ b) (t.nok_rank s v is up);
     }
 
-tries_later_by : (T own : Scheme) (f : Frame) (P Q : Scratch → Type 0) (x : Position) (K : After) → FitsState T own f.ok →
-    FitsState T own f.nok → TriesLater own f P Q x K → TriesLater T f P Q x K
+tries_later_by : (T own : Scheme) (f : Frame) (P Q : Scratch → Type 0) (x : Position) (K : After) →
+    FitsState T own f.ok → FitsState T own f.nok → TriesLater own f P Q x K → TriesLater T f P Q x K
 tries_later_by T own f P Q x K a b t =
     let low = keyed_by T own (λ (S : Scheme). S.level) f.nok f.ok b a (λ n h. h.level) in
     let r = tries-by T own f.nok f.ok b a in
@@ -166,7 +169,8 @@ begins_ready : (T own inner : Scheme) (n m : StateName) (w : World) (events : Li
     (f : Frame) →
     Fits T own n → Fits T inner m → FitsState T own f.ok → FitsState T own f.nok → f.point ≡ w.point →
     inner.ready m (moved_to (position w) q s) (after_frame T f (after_all T w.frames)) →
-    inner.level m < own.level n → frame_level own f ≤ own.level n → frame_rank own f < (own.rank n (position w)).number →
+    inner.level m < own.level n → frame_level own f ≤ own.level n →
+    frame_rank own f < (own.rank n (position w)).number →
     Begun T n w m (record w { events = events; frames = f ∷ w.frames; point = q; scratch = s })
 begins_ready T own inner n m w events q s f fn fm fo fk same r low le lt =
     let y : Position = moved_to (position w) q s in
@@ -177,7 +181,8 @@ begins_ready T own inner n m w events q s f fn fm fo fk same r low le lt =
     let lower : T.level m < T.level n = rw (a, b) low in
     let under : frame_level T f ≤ T.level n = rw (l, b) le in
     let less : frame_rank T f < (T.rank n (position w)).number = rw (k, d) lt in
-    let number : frame_number T w.setting.limit f < state_number T (Next n) (position w) = rw same (omega (arith, less)) in
+    let number : frame_number T w.setting.limit f < state_number T (Next n) (position w) =
+    rw same (omega (arith, less)) in
     let few = rank-low (T.rank m y) in
     let small : state_number T (Next m) y < base w.setting.limit = omega (arith, few) in
     let all = weighs_with w.setting.limit (state_number T (Next m) y) (frame_number T w.setting.limit f)
@@ -191,7 +196,8 @@ begins_by : (T own inner : Scheme) (n m : StateName) (w : World) (P Q : Scratch 
     Fits T own n → Fits T inner m → FitsState T own f.ok → FitsState T own f.nok → f.point ≡ w.point →
     Tries own f P Q (moved_to (position w) w.point s) (after_all T w.frames) →
     ((K : After) → Ends P Q (moved_to (position w) q s) K → inner.ready m (moved_to (position w) q s) K) →
-    inner.level m < own.level n → frame_level own f ≤ own.level n → frame_rank own f < (own.rank n (position w)).number →
+    inner.level m < own.level n → frame_level own f ≤ own.level n →
+    frame_rank own f < (own.rank n (position w)).number →
     Begun T n w m (record w { events = events; frames = f ∷ w.frames; point = q; scratch = s })
 begins_by T own inner n m w P Q events q s f way fn fm fo fk same t r low le lt =
     let x : Position = moved_to (position w) w.point s in
@@ -205,7 +211,8 @@ pub begins_try : (T own inner : Scheme) (n m : StateName) (w : World) (P Q : Scr
     Fits T own n → Fits T inner m → FitsState T own f.ok → FitsState T own f.nok → f.point ≡ w.point →
     Tries own f P Q (moved_to (position w) w.point s) (after_all T w.frames) →
     ((K : After) → Ends P Q (moved_to (position w) w.point s) K → inner.ready m (moved_to (position w) w.point s) K) →
-    inner.level m < own.level n → frame_level own f ≤ own.level n → frame_rank own f < (own.rank n (position w)).number →
+    inner.level m < own.level n → frame_level own f ≤ own.level n →
+    frame_rank own f < (own.rank n (position w)).number →
     Good T n w (Retry m) (record w { events = events; frames = f ∷ w.frames; scratch = s })
 begins_try T own inner n m w P Q events s f fn fm fo fk same t r low le lt =
     let b = begins_by T own inner n m w P Q events w.point s f (stays w.setting.limit w.point) fn fm fo fk same t r low
@@ -217,8 +224,10 @@ pub begins_later : (T own inner : Scheme) (n m : StateName) (w : World) (P Q : S
     (s : Scratch) (f : Frame) →
     Fits T own n → Fits T inner m → FitsState T own f.ok → FitsState T own f.nok → f.point ≡ w.point →
     TriesLater own f P Q (moved_to (position w) w.point s) (after_all T w.frames) →
-    ((K : After) → EndsLater P Q (moved_to (position w) w.point s) K → inner.ready m (moved_to (position w) w.point s) K) →
-    inner.level m < own.level n → frame_level own f ≤ own.level n → frame_rank own f < (own.rank n (position w)).number →
+    ((K : After) → EndsLater P Q (moved_to (position w) w.point s) K →
+    inner.ready m (moved_to (position w) w.point s) K) →
+    inner.level m < own.level n → frame_level own f ≤ own.level n →
+    frame_rank own f < (own.rank n (position w)).number →
     Good T n w (Retry m) (record w { events = events; frames = f ∷ w.frames; scratch = s })
 begins_later T own inner n m w P Q events s f fn fm fo fk same t r low le lt =
     let x : Position = moved_to (position w) w.point s in

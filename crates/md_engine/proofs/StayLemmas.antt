@@ -1,6 +1,6 @@
 -- What a state that stays takes at once is what it takes one after another.
-use Rattle.std.proofs.Common.{◌≡◌, ℕ, zero, suc, ◌+◌, ◌-◌, ◌^◌, ◌<◌, ◌≤◌, Bool, true, false, not, nat_eq, nat_lt, List, length}
-use Rattle.std.proofs.Common.{Option, None, Some, refl, sym, ◌∙◌, ap, ap₂, arith, cond, inr, subst}
+use Rattle.std.proofs.Common.{◌≡◌, ℕ, zero, suc, ◌+◌, ◌-◌, ◌^◌, ◌<◌, ◌≤◌, Bool, true, false, not, nat_eq, nat_lt, List}
+use Rattle.std.proofs.Common.{length, Option, None, Some, refl, sym, ◌∙◌, ap, ap₂, arith, cond, inr, subst}
 use Rattle.std.specs.Prelude.{slice_index}
 use Rattle.std.specs.List.{All}
 use Rattle.std.proofs.lemmas.Bool.Decides.{nat_tests}
@@ -262,7 +262,8 @@ one-column w n p q o s some lt is e to =
     let look : looks_at w.setting p ≡ Some s = white-look w.setting p lt is ∙ ap Some (sym e) in
     let next = white-next w.setting.bytes p is in
     let moved : after w.setting p ≡ q =
-    ap (λ (b : Bool). cond b (line_begun w.setting (next_point w.setting.bytes p)) (next_point w.setting.bytes p)) next.0
+    ap (λ (b : Bool). cond b (line_begun w.setting (next_point w.setting.bytes p)) (next_point w.setting.bytes p))
+    next.0
     ∙ next.1 ∙ sym to in
     let same : took v ≡ record w { point = q; current = Some s } =
     ap₂ (λ (x : Point) (c : Option ℕ). record w { point = x; current = c }) moved look in

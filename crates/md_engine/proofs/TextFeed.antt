@@ -71,7 +71,8 @@ cells-most x (suc n) p = go (nat_lt p.index x.limit) (cells-most x n (after x p)
   where
     go : (t : Bool) → length (cells_from x n (after x p)) ≤ n →
         length
-        (cond t (record { byte = seen_at x.bytes p; after = after x p; line = x.line } ∷ cells_from x n (after x p)) []) ≤
+        (cond t
+        (record { byte = seen_at x.bytes p; after = after x p; line = x.line } ∷ cells_from x n (after x p)) []) ≤
         suc n
     go true h = omega arith
     go false h = omega arith

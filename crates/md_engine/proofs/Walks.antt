@@ -206,7 +206,8 @@ runs-keep T S is_end s w s' w' each at (ThenCalls t v t' v' r c) =
     let P : State → Type 0 = λ x. stands S (reading v) x in
     let ready : stands S (reading v) (Next c.name) = subst P c.names before.1 in
     let good = each c.name (reading v) t' v' refl ready c.step in
-    let same : work S v (plain t) ≡ work S (reading v) (Next c.name) = ap (λ (x : State). work S (reading v) x) c.names in
+    let same : work S v (plain t) ≡ work S (reading v) (Next c.name) =
+    ap (λ (x : State). work S (reading v) x) c.names in
     (inr (go before.0 (rw same good.1)), good.0)
   where
     go : (((t ≡ s) × (v ≡ w)) ⊎ (work S v (plain t) < work S w (plain s))) →

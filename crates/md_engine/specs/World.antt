@@ -153,10 +153,12 @@ skipping w p = record w {
 
 -- behind those that are registered, or before them; each once
 abbrev pub registered : List ResolveName → ResolveName → List ResolveName
-registered names name = if list_any (λ (other : ResolveName). same_name other name) names then names else names ++ name ∷ []
+registered names name =
+    if list_any (λ (other : ResolveName). same_name other name) names then names else names ++ name ∷ []
 
 abbrev pub registered_before : List ResolveName → ResolveName → List ResolveName
-registered_before names name = if list_any (λ (other : ResolveName). same_name other name) names then names else name ∷ names
+registered_before names name =
+    if list_any (λ (other : ResolveName). same_name other name) names then names else name ∷ names
 
 -- the text may be read up to here
 abbrev pub reads_to : World → ℕ → World

@@ -85,7 +85,8 @@ impl KnownContinuing {
 
     /// What stays known where another container is held at an index.
     pub fn changed(self, index: usize, container: Container) -> KnownContinuing
-        ensures { (cs : List Container) → IsKnownContinuing cs self → IsKnownContinuing (slice_set cs index container) result }
+        ensures { (cs : List Container) → IsKnownContinuing cs self →
+            IsKnownContinuing (slice_set cs index container) result }
     {
         if index < self.from || container.goes_over_empty() {
             self

@@ -346,8 +346,8 @@ impl<'a> Tokenizer<'a> {
         }
     }
 
-    /// Adds an event at the point where the list may have no room for it, or changes nothing. This is rare, so it stands
-    /// apart.
+    /// Adds an event at the point where the list may have no room for it, or changes nothing. This is rare, so it
+    /// stands apart.
     #[inline(never)]
     #[tactic(auto, unfolding(crate::specs::Full::IsFull))]
     fn add_growing(&mut self, kind: Kind, name: Name, link: Option<Link>) -> Result<(), Message>

@@ -15,8 +15,8 @@ use Rattle.md_meaning.specs.Bytes.{is_end}
 use Rattle.md_meaning.specs.Definition.{Cut, definition_at}
 use Rattle.md_meaning.specs.Rest.{Rest, behind_indent}
 use Rattle.md_meaning.proofs.TextsLemmas.{NoEnding}
-use Rattle.md_link_definitions.specs.DefinitionRule.{DefinitionParts, definition_end, definition_events, definition_parts}
-use Rattle.md_link_definitions.specs.DefinitionRule.{definition_rest}
+use Rattle.md_link_definitions.specs.DefinitionRule.{DefinitionParts, definition_end, definition_events}
+use Rattle.md_link_definitions.specs.DefinitionRule.{definition_parts, definition_rest}
 use Rattle.md_seam.specs.Events.Nested.{pair}
 use Rattle.md_seam.proofs.FeedLines.{cell}
 use Rattle.md_seam.proofs.InlineLemmas.{past-index}
@@ -138,7 +138,8 @@ along-are options text x [] r [] h here are =
       begins = begins-is options text h.0 x r h.1 here same;
       stop = [];
       cells_are =
-          ap (λ (s : Rest). rest_cells no_line s r.first) (sym same) ∙ sym (append-nil (rest_cells no_line x.rest r.first));
+          ap (λ (s : Rest). rest_cells no_line s r.first) (sym same)
+          ∙ sym (append-nil (rest_cells no_line x.rest r.first));
       behind = (refl, refl);
     }
 along-are options text x (y ∷ ys) r (next ∷ rs) h here are =
@@ -269,7 +270,9 @@ module _ (options : ParseOptions) (text : List ℕ) (Agree : Relation) (kept : I
   behind-step last d x passed end (y ∷ ys) size left r own [] walk along at_end ends are rest lines few agree =
       let o = along.behind in let bad : [] ≡ o.turn ∷ o.left = sym are ∙ o.turns_are in cc
   behind-step last d x passed end others size left r own (next ∷ below) walk along at_end ends are rest lines few
-      agree = by others (next-on text (at end (past size end.rest)) others z z [] c cs left over.left tt refl here over.turn) agree
+      agree =
+      by others
+      (next-on text (at end (past size end.rest)) others z z [] c cs left over.left tt refl here over.turn) agree
     where
       z : Point
       z = definition_end d
@@ -343,7 +346,8 @@ module _ (options : ParseOptions) (text : List ℕ) (Agree : Relation) (kept : I
           onto : onto_next (end ∷ on.next ∷ on.further) ≡ ending_events n.LineEnding f ++ next.front
           onto =
               ap₂ (λ (es fs : List Event). es ++ fs)
-              (ap (λ (b : Bool). cond b [] (pair n.LineEnding (place end.line (line_end end.line)) (next_line end.line)))
+              (ap (λ (b : Bool). cond b []
+              (pair n.LineEnding (place end.line (line_end end.line)) (next_line end.line)))
               on.ends
               ∙ ap₂ (λ (p q : Point). pair n.LineEnding p q) (at_end ∙ ends) after
               ∙ sym (ending-is n.LineEnding f split.3 split.4)) front
@@ -419,7 +423,8 @@ module _ (options : ParseOptions) (text : List ℕ) (Agree : Relation) (kept : I
           (definition_rest d) on.left on.along in
           let turns = ap (λ (l : List Turn). length l) on.takes.turns_are in
           let parts = length-append took on.left in
-          let rows : length xs ≡ length (on.onward.passed ++ on.more) = ap (λ (l : List Row). length l) on.onward.behind in
+          let rows : length xs ≡ length (on.onward.passed ++ on.more) =
+          ap (λ (l : List Row). length l) on.onward.behind in
           let sum = length-append on.onward.passed on.more in
           let size = length-take-le m rs known.many in
           omega (arith, start, end, turns, parts, rows, sum, size)
@@ -458,7 +463,8 @@ module _ (options : ParseOptions) (text : List ℕ) (small : length text < 2 ^ 6
       text_events remain size (x ∷ xs) ≡ cut_at_most defined_unread also options text size r rs
   cut-same zero x xs r rs stands = same x xs r rs stands.agree
   cut-same (suc size) x xs r rs stands =
-      go options.constructs.definition on (definition_parts cells) refl (λ y ys next below h. cut-same size y ys next below h)
+      go options.constructs.definition on (definition_parts cells) refl
+      (λ y ys next below h. cut-same size y ys next below h)
     where
       cells : List Cell
       cells = lines_cells options text r rs

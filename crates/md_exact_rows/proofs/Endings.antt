@@ -230,7 +230,8 @@ blank-leaf options bytes x r is l kind last = go (leaf l).stays_blank refl
             ∙ ap
             (λ (t : Bool).
             behind_code
-            (cond t (Further (OpenCode opened.lines)) (First ((leaf CodeFurther).comes options NoLeaf rest))) r is.below)
+            (cond t (Further (OpenCode opened.lines)) (First ((leaf CodeFurther).comes options NoLeaf rest))) r
+            is.below)
             is_on
             ∙ ap
             (λ (t : Bool).

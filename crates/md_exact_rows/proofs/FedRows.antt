@@ -100,7 +100,8 @@ onto-fed options n said bytes behind open_before still line lines cells stop bui
     } in
     subst
     (λ (l : List Cell).
-    AreFed options bytes open_before still (line ∷ lines) (rows_at options (suc n) open_before still l (line_start line)))
+    AreFed options bytes open_before still (line ∷ lines)
+    (rows_at options (suc n) open_before still l (line_start line)))
     (sym fed)
     (subst (AreFed options bytes open_before still (line ∷ lines)) (sym rows) ((one, refl, further h stops.0)))
 

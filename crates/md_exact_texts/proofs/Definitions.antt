@@ -1,5 +1,5 @@
--- A definition, by the rows that it stands in: where its cells stand in front of rows, the exact list finds it there and
--- has its events in the places of their lines.
+-- A definition, by the rows that it stands in: where its cells stand in front of rows, the exact list finds it there
+-- and has its events in the places of their lines.
 use Rattle.std.proofs.Common.{◌≡◌, ℕ, ◌≤◌, Bool, true, false, cond, nat_eq, List, [], ◌∷◌, ◌++◌, length}
 use Rattle.std.proofs.Common.{refl, sym, ap, ap₂, ◌∙◌, subst, arith, Option, Some, None}
 use Rattle.std.specs.Prelude.{◌==◌}
@@ -14,11 +14,11 @@ use Rattle.md_meaning.specs.Ascii.{colon}
 use Rattle.md_meaning.specs.Definition as found
 use Rattle.md_meaning.specs.Definition.{Destination}
 use Rattle.md_meaning.specs.Rest.{Rest, behind_indent, cut_tab, indent, is_white}
-use Rattle.md_link_definitions.specs.DefinitionRule.{DefinitionParts, definition_end, definition_events, definition_parts}
-use Rattle.md_link_definitions.specs.DefinitionRule.{definition_rest, destination_begin, destination_end}
-use Rattle.md_link_definitions.specs.DefinitionRule.{destination_rest, ends_behind, is_literal, label_begin, parts_behind}
-use Rattle.md_link_definitions.specs.DefinitionRule.{parts_end, parts_labelled, parts_rest, parts_with, titled_part}
-use Rattle.md_link_definitions.specs.DefinitionRule.{title_behind}
+use Rattle.md_link_definitions.specs.DefinitionRule.{DefinitionParts, definition_end, definition_events}
+use Rattle.md_link_definitions.specs.DefinitionRule.{definition_parts, definition_rest, destination_begin}
+use Rattle.md_link_definitions.specs.DefinitionRule.{destination_end, destination_rest, ends_behind, is_literal}
+use Rattle.md_link_definitions.specs.DefinitionRule.{label_begin, parts_behind, parts_end, parts_labelled}
+use Rattle.md_link_definitions.specs.DefinitionRule.{parts_rest, parts_with, titled_part, title_behind}
 use Rattle.md_link_definitions.specs.DestinationRule.{destination_left, destination_part}
 use Rattle.md_link_definitions.specs.GapRule.{gap_part, gap_rest, white_part}
 use Rattle.md_link_definitions.specs.LabelRule.{LabelParts, label_events, label_parts}

@@ -232,7 +232,8 @@ destination-rest row rows lines text e = go (destination_at row.rest.bytes) refl
 destination-found : (text : List ℕ) (row : Row) (rows : List Row) (p : Point) (cells : List Cell) (turns : List Turn)
     (d : Destination) →
     Along text (row ∷ rows) p cells turns → p.vs ≡ 0 → AreAt p cells → destination_at (line_bytes cells) ≡ Some d →
-    (ends : List Row) (left : List Turn) → Along text ends (destination_last d cells p) (destination_left d cells) left →
+    (ends : List Row) (left : List Turn) →
+    Along text ends (destination_last d cells p) (destination_left d cells) left →
     (destination_last d cells p).vs ≡ 0 → Ahead (row ∷ rows) ends → behind_destination (row ∷ rows) ≡ ends
 destination-found text row rows p cells turns d along whole at e ends left behind end ahead =
     destination-rest row rows lines _
@@ -291,7 +292,8 @@ raw-part : (text : List ℕ) (last p : Point) (c : Cell) (front rest cells : Lis
 raw-part text last p c front rest cells turns row rows more split none other walk along whole end =
     raw-as text last p cells all rest (record { text = bytes_of all; rest = more }) turns (row ∷ rows) on.ends on.left
     bare taken left
-    (subst (λ (es : List Event). Takes text last p turns q rest on.left es (Texts.destination_part (row ∷ rows) on.ends))
+    (subst (λ (es : List Event). Takes text last p turns q rest on.left es
+    (Texts.destination_part (row ∷ rows) on.ends))
     (raw-events c front p none) on.takes) on.along on.ahead
   where
     all : List Cell

@@ -53,7 +53,8 @@ lone-some t are small =
     line = bytes_of (whole_cells t.closer.after (line_cells t.rest))
 
     go : (x : Bool) →
-        is_some (cond x (Some (let r : Lines = record { text = text; rest = further (from_ending t.rest) } in r)) None) ≡ x
+        is_some
+        (cond x (Some (let r : Lines = record { text = text; rest = further (from_ending t.rest) } in r)) None) ≡ x
     go true = refl
     go false = refl
 
@@ -126,7 +127,8 @@ gap-at text last p cells turns rows walk along whole c cs e dark plain = record 
   left = on.left;
   takes =
       subst
-      (λ (l : List Row). Takes text last p turns (gap_end cells p) (gap_rest cells) on.left (gap_part cells p) (gap rows l))
+      (λ (l : List Row). Takes text last p turns (gap_end cells p) (gap_rest cells) on.left (gap_part cells p)
+      (gap rows l))
       (sym is) on.takes;
   along = subst (λ (l : List Row). Along text l (gap_end cells p) (gap_rest cells) on.left) (sym is) on.along;
   ahead = subst (Ahead rows) (sym is) on.ahead;
@@ -148,7 +150,8 @@ abbrev tail_by : Bool → List Row → List Event
 tail_by x rows =
     cond x
     (gap rows (behind_gap rows)
-    ++ enclosed_part n.DefinitionTitle n.DefinitionTitleMarker n.DefinitionTitleString (behind_gap rows) (end_by x rows))
+    ++ enclosed_part n.DefinitionTitle n.DefinitionTitleMarker n.DefinitionTitleString (behind_gap rows)
+    (end_by x rows))
     []
 
 abbrev pub title_end : List Row → List Row

@@ -28,8 +28,8 @@ use Rattle.md_frame.specs.ContainerNames.{IsOf}
 use Rattle.md_frame.proofs.PassedFacts.{Agree, HasFurther, HasOpening}
 use Rattle.md_frame.proofs.PrefixNames.{AreFront}
 
--- one that goes on or opens is of its kind, takes a cell at least where the line does not end here, and adds events with
--- names of prefixes and of containers
+-- one that goes on or opens is of its kind, takes a cell at least where the line does not end here, and adds events
+-- with names of prefixes and of containers
 pub record IsPassed (k : ContainerKind) (cells : List Cell) (t : Passed) : Type 0 where
   pub one : IsOf k t.container
   pub kind : t.held.kind ≡ k

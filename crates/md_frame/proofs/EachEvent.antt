@@ -40,7 +40,8 @@ pub settled-each : (P : Event → Type 0) → ((e : Event) (q : Point) → P e �
 settled-each P moves chunks [] h = tt
 settled-each P moves [] (e ∷ es) h = h
 settled-each P moves (chunk ∷ chunks) (e ∷ es) h =
-    go (is_piece_end e && nat_le chunk.after.index e.point.index) (settled-each P moves chunks es h.1) (settled-each P moves (chunk ∷ chunks) es h.1)
+    go (is_piece_end e && nat_le chunk.after.index e.point.index) (settled-each P moves chunks es h.1)
+    (settled-each P moves (chunk ∷ chunks) es h.1)
   where
     go : (x : Bool) → Each P (settled chunks es) → Each P (settled (chunk ∷ chunks) es) →
         Each P (cond x (record e { point = chunk.after } ∷ settled chunks es) (e ∷ settled (chunk ∷ chunks) es))

@@ -95,7 +95,8 @@ pub ending-unlists : (text : Expression) (blank : Bool) (p q : Point) (block : B
     Unlists text (blocks_behind block ∷ []) (blocks ∷ []) (pair (ending_name blank) p q)
 ending-unlists text blank p q block =
     unlists-same text (blocks_behind block ∷ []) (blocks ∷ []) (pair (ending_name blank) p q)
-    (between-unlisted (pair (ending_name blank) p q) (ended-roles Between blank p q tt tt)) (ending-word text blank p q block)
+    (between-unlisted (pair (ending_name blank) p q) (ended-roles Between blank p q tt tt))
+    (ending-word text blank p q block)
 
 -- and it has the right name behind a leaf with something on its last line, or with nothing.
 pub ending-leads : (blank : Bool) (p q : Point) →

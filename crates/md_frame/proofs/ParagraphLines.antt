@@ -89,8 +89,8 @@ ends-before Return rest h = h
 ends-before Both rest h = tt
 
 -- a line, its ending, and further lines
-pub lines-more : (line : List ℕ) (own : List (List ℕ)) (text : List ℕ) (ending : Ending) (rest : List ℕ) → NoEnding line →
-    EndsBefore ending rest → text ≡ line ++ ending_bytes ending ++ rest → IsOfLines own rest →
+pub lines-more : (line : List ℕ) (own : List (List ℕ)) (text : List ℕ) (ending : Ending) (rest : List ℕ) →
+    NoEnding line → EndsBefore ending rest → text ≡ line ++ ending_bytes ending ++ rest → IsOfLines own rest →
     IsOfLines (line ∷ own) text
 lines-more line [] text ending rest none before is own = absurd own
 lines-more line (next ∷ lines) text ending rest none before is own = (none, (ending, rest, before, is, own))

@@ -53,9 +53,11 @@ byte-from p = go (p.vs == 0)
 
 -- no text begins in them that does not end
 abbrev pub PrefixesAtLineStart : List ℕ → List Event → Type 0
-PrefixesAtLineStart bytes xs = (ys : List Event) → are_parted bytes None ys ≡ true → are_parted bytes None (xs ++ ys) ≡ true
+PrefixesAtLineStart bytes xs =
+    (ys : List Event) → are_parted bytes None ys ≡ true → are_parted bytes None (xs ++ ys) ≡ true
 
-pub sits-append : (bytes : List ℕ) (xs ys : List Event) → PrefixesAtLineStart bytes xs → PrefixesAtLineStart bytes ys → PrefixesAtLineStart bytes (xs ++ ys)
+pub sits-append : (bytes : List ℕ) (xs ys : List Event) → PrefixesAtLineStart bytes xs → PrefixesAtLineStart bytes ys →
+    PrefixesAtLineStart bytes (xs ++ ys)
 sits-append bytes xs ys h k zs z = ap (are_parted bytes None) (append_assoc xs ys zs) ∙ h (ys ++ zs) (k zs z)
 
 -- what is no text
@@ -95,7 +97,8 @@ parts-quiet bytes Enter EndingRole p (Some span) h = refl
 parts-quiet bytes Exit EndingRole p (Some span) h = refl
 parts-quiet bytes kind _ p (Some span) h = absurd h
 
-pub span-quiet : (kind : Kind) (x : Role) (p : Point) (s : Option OpenTextSpan) → QuietOrEnding x → span_by kind x p s ≡ s
+pub span-quiet : (kind : Kind) (x : Role) (p : Point) (s : Option OpenTextSpan) → QuietOrEnding x →
+    span_by kind x p s ≡ s
 span-quiet Enter IsQuiet p s h = refl
 span-quiet Exit IsQuiet p s h = refl
 span-quiet Enter EndingRole p s h = refl

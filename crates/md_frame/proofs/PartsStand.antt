@@ -143,7 +143,8 @@ stands-outside bytes xs h k = record {
   chunks = λ ys. outside-chunks xs ys h k;
 }
 
-pub stands-append : (bytes : List ℕ) (xs ys : List Event) → PartsWhole bytes xs → PartsWhole bytes ys → PartsWhole bytes (xs ++ ys)
+pub stands-append : (bytes : List ℕ) (xs ys : List Event) → PartsWhole bytes xs → PartsWhole bytes ys →
+    PartsWhole bytes (xs ++ ys)
 stands-append bytes xs ys h k = record {
   parts = λ zs. ap (parts_stand bytes) (append_assoc xs ys zs) ∙ h.parts (ys ++ zs) ∙ k.parts zs;
   chunks = λ zs. ap (chunks_stand 0) (append_assoc xs ys zs) ∙ h.chunks (ys ++ zs) ∙ k.chunks zs;

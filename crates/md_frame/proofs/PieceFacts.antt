@@ -127,7 +127,8 @@ pub stood-none : (bytes : List ℕ) → PiecesValid bytes []
 stood-none bytes = record { ends = refl; stand = refl }
 
 -- some, and others behind them
-pub stood-append : (bytes : List ℕ) (xs ys : List Event) → PiecesValid bytes xs → PiecesValid bytes ys → PiecesValid bytes (xs ++ ys)
+pub stood-append : (bytes : List ℕ) (xs ys : List Event) → PiecesValid bytes xs → PiecesValid bytes ys →
+    PiecesValid bytes (xs ++ ys)
 stood-append bytes xs ys h k = record {
   ends = ends-append Exit xs ys h.ends k.ends;
   stand =
@@ -141,7 +142,8 @@ stood-pair bytes name p q h = record { ends = refl; stand = and_from (piece_stan
 
 -- a pair that is left out if it is empty
 pub stood-unless_empty : (bytes : List ℕ) (name : Name) (p q : Point) →
-    (same_place p q ≡ false → piece_stands bytes (span name p q) ≡ true) → PiecesValid bytes (pair_unless_empty name p q)
+    (same_place p q ≡ false → piece_stands bytes (span name p q) ≡ true) →
+    PiecesValid bytes (pair_unless_empty name p q)
 stood-unless_empty bytes name p q h = go (same_place p q) refl
   where
     go : (none : Bool) → same_place p q ≡ none → PiecesValid bytes (cond none [] (pair name p q))

@@ -92,7 +92,8 @@ begun-next bytes run m p q ys b rest h on = record {
   some = let size = length-append ys (b ∷ []) in let some = h.some in omega arith;
   all =
       list_all-append (goes_on run m) ys (b ∷ [])
-      ∙ and_from (list_all (goes_on run m) ys) (goes_on run m b && true) h.all (and_from (goes_on run m b) true on refl);
+      ∙ and_from (list_all (goes_on run m) ys) (goes_on run m b && true) h.all
+      (and_from (goes_on run m b) true on refl);
   end = ap (past_byte b) h.end ∙ sym (past_text-append ys (b ∷ []) p);
   cut = h.cut;
 }

@@ -83,8 +83,8 @@ pub record IsBare (es : List Event) : Type 0 where
 -- The laws.
 
 pub record SpanLaws (first further : LineLeaf) : Type 1 where
-  -- Each line is a block by itself at first; a further one says by the link of its begin that it goes on the one before,
-  -- or it stands bare.
+  -- Each line is a block by itself at first; a further one says by the link of its begin that it goes on the one
+  -- before, or it stands bare.
   pub first_spanned : (options : ParseOptions) (bytes : List ℕ) (row : Row) → IsLineOf options bytes first row →
       first.further row.on ≡ false → IsSpanned AreUnspanned IsBegin row.inside
   pub further_spanned : (options : ParseOptions) (bytes : List ℕ) (row : Row) → IsLineOf options bytes further row →

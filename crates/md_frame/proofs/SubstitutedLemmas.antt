@@ -226,7 +226,8 @@ shares wants reads name link row (next ∷ rows) ys left done out rest w fits cu
     Substituted wants reads more many (linked_lines name link next rows ++ ys) over =
     passes wants reads more many next.front (linked_lines name link next rows ++ ys) rest
     (prefixes-unwanted wants next.front fits.0)
-    (subst (λ (l : List Event). Substituted wants reads l many (further_lines name link (next ∷ rows) ys) rest) after s) in
+    (subst
+    (λ (l : List Event). Substituted wants reads l many (further_lines name link (next ∷ rows) ys) rest) after s) in
     let here : SubstitutedBy wants reads more many (enter_link name next.first link) (exit name (line_after next rows))
     (further_lines name link rows ys) one.0 (Some link.content) =
     subst

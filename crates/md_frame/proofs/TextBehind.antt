@@ -12,8 +12,8 @@ use Rattle.md_link_definitions.specs.WholeCells.{rest_here, whole_cells, whole_l
 use Rattle.md_link_definitions.proofs.LineCells.{further, lines-first}
 use Rattle.md_link_definitions.proofs.SpreadLines.{spread-last, spread-whole, tab-none, whole_cells-append}
 use Rattle.md_seam.specs.Ahead.{from_ending, line_cells, point_after}
-use Rattle.md_seam.proofs.FeedLines.{NoFeed, Stops, bytes_of, line_cells-append, no_feed-spread, spread, tab-end, tab_cells}
-use Rattle.md_seam.proofs.FeedLines.{tab_end}
+use Rattle.md_seam.proofs.FeedLines.{NoFeed, Stops, bytes_of, line_cells-append, no_feed-spread}
+use Rattle.md_seam.proofs.FeedLines.{spread, tab-end, tab_cells, tab_end}
 use Rattle.md_seam.proofs.RestCells.{Cut, cells_by, rest_cells}
 use Rattle.md_seam.proofs.RestLines.{rest-line}
 
@@ -46,7 +46,8 @@ rest-bytes line (suc n) bytes p none cut one =
     let within : nat_eq p.vs 0 ≡ false = grind (arith, nat_tests) in
     ap bytes_of
     (whole_cells-append (tab_cells line n 32 p) rest p
-    ∙ ap (λ (x : List Cell). x ++ whole_cells (point_after (tab_cells line n 32 p) p) rest) (tab-none line n 32 p within)
+    ∙ ap (λ (x : List Cell). x ++ whole_cells (point_after (tab_cells line n 32 p) p) rest)
+    (tab-none line n 32 p within)
     ∙ ap (λ (e : Point). whole_cells e rest) (tab-end line n 32 p p))
     ∙ spread-bytes line bytes q none refl (omega arith)
 

@@ -112,7 +112,8 @@ text-more {bytes = bytes} {kind = kind} {link = link} {p = p} {b = b} {r = r} {q
       unread_nested =
           nested_in-append p b q linked (front ++ us) h.unread_nested
           (nested_in-append b r q front us f.nested k.unread_nested);
-      nested = nested_in-append p r q (chunk ++ front) es (nested_in-append p b r chunk front h.nested f.nested) k.nested;
+      nested =
+          nested_in-append p r q (chunk ++ front) es (nested_in-append p b r chunk front h.nested f.nested) k.nested;
       tiled = tiled-append p b q linked (front ++ us) h.tiled (tiled-append b r q front us f.tiled k.tiled);
       unread_stood =
           stood-append bytes linked (front ++ us) h.unread_stood (stood-append bytes front us f.stood k.unread_stood);
@@ -123,7 +124,8 @@ text-more {bytes = bytes} {kind = kind} {link = link} {p = p} {b = b} {r = r} {q
       filled = λ ys more.
           let lists : List (List Event) = plain_chunks bytes cs ++ more in
           ap (λ (l : List Event). chunk ++ filled_from false l lists) (append_assoc front us ys)
-          ∙ ap (λ (l : List Event). chunk ++ l) (passes-filled front (us ++ ys) lists (fronts-unlinked bytes b r front is))
+          ∙ ap (λ (l : List Event). chunk ++ l)
+          (passes-filled front (us ++ ys) lists (fronts-unlinked bytes b r front is))
           ∙ ap (λ (l : List Event). chunk ++ (front ++ l)) (k.filled ys more)
           ∙ sym (append_assoc chunk front (es ++ filled_from false ys more))
           ∙ sym (append_assoc (chunk ++ front) es (filled_from false ys more));
@@ -132,7 +134,8 @@ text-more {bytes = bytes} {kind = kind} {link = link} {p = p} {b = b} {r = r} {q
           between-append bytes (chunk ++ front) es (between-append bytes chunk front (h.between first behind) fronts.0)
           (k.between fronts.1 last);
       plain =
-          plain-append bytes (chunk ++ front) es (plain-append bytes chunk front h.plain (plain-front bytes [] b r front is))
+          plain-append bytes (chunk ++ front) es
+          (plain-append bytes chunk front h.plain (plain-front bytes [] b r front is))
           k.plain;
     }
   where

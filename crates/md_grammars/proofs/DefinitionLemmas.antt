@@ -173,7 +173,8 @@ depth_behind-le escaped depth b behind e = go (is_bare escaped b 41) (depth == 0
   where
     go : (closes is_zero opens : Bool) →
         Some behind ≡
-        (if closes then (if is_zero then None else Some (depth - 1)) else if opens then Some (depth + 1) else Some depth) →
+        (if closes then (if is_zero then None else Some (depth - 1)) else if opens then Some (depth + 1)
+        else Some depth) →
         behind ≤ depth + 1
     go true true opens f = cc
     go true false opens f = let k : behind ≡ depth - 1 = cc in omega arith

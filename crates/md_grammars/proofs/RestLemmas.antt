@@ -14,7 +14,8 @@ without_column-still c zero [] e = refl
 without_column-still c zero (b ∷ bytes) e = by (b == 9) (b == 32) e
   where
     by : (p q : Bool) →
-        (cond p (rest (c + 1) (r.tab_columns c - 1) bytes) (cond q (rest (c + 1) 0 bytes) (rest c 0 (b ∷ bytes)))).column ≡
+        (cond p (rest (c + 1) (r.tab_columns c - 1) bytes)
+        (cond q (rest (c + 1) 0 bytes) (rest c 0 (b ∷ bytes)))).column ≡
         c
         → cond p (rest (c + 1) (r.tab_columns c - 1) bytes) (cond q (rest (c + 1) 0 bytes) (rest c 0 (b ∷ bytes))) ≡
         rest c 0 (b ∷ bytes)

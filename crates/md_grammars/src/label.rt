@@ -65,9 +65,9 @@ fn spaced(alloc: Global, lines: &[&[u8]]) -> Result<Vec<u8>, Message>
     Ok(text)
 }
 
-/// The normal form of a label (CommonMark 6.3), given the bytes of its lines without the prefixes of containers: one space for
-/// each run of spaces, tabs and line endings, none at the ends, and Unicode full case folding. An `Err` says that memory ran
-/// out; so it does of bytes that are no UTF-8, which no label of a text has.
+/// The normal form of a label (CommonMark 6.3), given the bytes of its lines without the prefixes of containers: one
+/// space for each run of spaces, tabs and line endings, none at the ends, and Unicode full case folding. An `Err` says
+/// that memory ran out; so it does of bytes that are no UTF-8, which no label of a text has.
 #[tactic(auto, unfolding(md_meaning::specs::Label::normal_form))]
 pub fn normal_form(alloc: Global, lines: &[&[u8]]) -> Result<String, Message>
     ensures { IfOk result (λ form. string_bytes form ≡ label.normal_form (texts lines.now)) }

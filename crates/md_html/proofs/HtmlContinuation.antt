@@ -147,7 +147,8 @@ text_means B feed w b true has saw line e =
     go true c i d f g h k =
         rw f
         (takes_on B feed its.Continuation its.ContinuationRawTagOpen w w.scratch [] (codes "<") b refl refl
-        (has.each its.Continuation _ _) (has.each its.ContinuationRawTagOpen _ _) saw line (begun 60 (codes "<") f refl))
+        (has.each its.Continuation _ _) (has.each its.ContinuationRawTagOpen _ _) saw line
+        (begun 60 (codes "<") f refl))
     go false true i d f g h k =
         rw (f, g)
         (takes_on B feed its.Continuation its.ContinuationCommentInside w w.scratch [] (codes "-") b refl refl
@@ -189,8 +190,8 @@ continuation_means B feed w has s = in_text_means B feed w _ has s refl
 -- behind one of the two bytes with which an end of this marker begins
 twice_means : (B : Behaviour) (feed : Feed) (from : HtmlState) (w : World) (m : ℕ) (x : Bool) →
     HasHtml B w.setting.bytes w.setting.options → Sees feed w → w.scratch.marker ≡ m → (m ≡ 45) ⊎ (m ≡ 93) →
-    B (n.HtmlFlow from) (feed w.point) (here w) ≡ goes_on (m ∷ []) (feed w.point) (here w) → is_current m w.current ≡ x →
-    Steps B feed (Next (n.HtmlFlow from)) w (moved w (twice_move w.scratch x)).to
+    B (n.HtmlFlow from) (feed w.point) (here w) ≡ goes_on (m ∷ []) (feed w.point) (here w) →
+    is_current m w.current ≡ x → Steps B feed (Next (n.HtmlFlow from)) w (moved w (twice_move w.scratch x)).to
     (moved w (twice_move w.scratch x)).world
 twice_means B feed from w m true has s is two old e =
     let saw = sees-here feed w (is_current m) refl s e in
@@ -309,7 +310,8 @@ pub continuation_raw_tag_open_means : (B : Behaviour) (feed : Feed) (w : World) 
 continuation_raw_tag_open_means B feed w has s is = raw_open_means B feed w _ has s is refl
 
 raw_end_means : (B : Behaviour) (feed : Feed) (w : World) (x y : Bool) → HasHtml B w.setting.bytes w.setting.options →
-    Sees feed w → w.current ≡ looks w → in_letters (position w) → w.scratch.marker ≡ 60 → sees_letter w.current ≡ x → is_current 62 w.current && is_raw_name (name_here w) ≡ y →
+    Sees feed w → w.current ≡ looks w → in_letters (position w) → w.scratch.marker ≡ 60 → sees_letter w.current ≡ x →
+    is_current 62 w.current && is_raw_name (name_here w) ≡ y →
     Steps B feed (Next (n.HtmlFlow its.ContinuationRawEndTag)) w (moved w (raw_end_move w.scratch x y)).to
     (moved w (raw_end_move w.scratch x y)).world
 raw_end_means B feed w true y has s at name is e f =
@@ -321,7 +323,8 @@ raw_end_means B feed w true y has s at name is e f =
     (has.each its.ContinuationRawEndTag _ _) (has.each its.ContinuationRawEndTag _ _) saw.2 (grind (arith, nat_tests))
     (ap (λ (rest : List ℕ). ends_by w.scratch.marker (60 ∷ 47 ∷ rest))
     (sym (append_assoc (name_here w) (saw.0 ∷ []) bytes)
-    ∙ ap (λ (read : List ℕ). read ++ bytes) (sym (name-more w.setting w.point saw.0 w.scratch.start dark (sym at ∙ saw.1) name.0))))
+    ∙ ap (λ (read : List ℕ). read ++ bytes)
+    (sym (name-more w.setting w.point saw.0 w.scratch.start dark (sym at ∙ saw.1) name.0))))
 raw_end_means B feed w false true has s at name is e f =
     let parts = and_parts (is_current 62 w.current) (is_raw_name (name_here w)) f in
     let saw = sees-here feed w (is_current 62) refl s parts.0 in

@@ -170,7 +170,8 @@ asks_declaration : (T : Scheme) (w : World) (b : ℕ) → Stood T w → Inside w
 asks_declaration T w b r inside =
     either T its.DeclarationOpen w (nat_eq b 45) _ _ (λ e. (inside, behind T w w.scratch inside r r.0))
     (λ e.
-    either T its.DeclarationOpen w (nat_eq b 91) _ _ (λ e. (inside, (omega arith, behind T w (cleared w.scratch) inside r r.0)))
+    either T its.DeclarationOpen w (nat_eq b 91) _ _
+    (λ e. (inside, (omega arith, behind T w (cleared w.scratch) inside r r.0)))
     (λ e.
     either T its.DeclarationOpen w (is_ascii_alphabetic b) _ _
     (λ e. (inside, behind T w (marked 62 w.scratch) inside r r.0)) (λ e. tt)))
@@ -353,8 +354,8 @@ text_ends T w false has c r e =
 
 -- behind one `-`, or one `]`
 asks_twice : (T : Scheme) (from : HtmlState) (w : World) (x : Bool) →
-    3 < (html_rank (n.HtmlFlow from) (position w)).number → (x ≡ true → Inside w) → IsStop w.scratch.marker → Stood T w →
-    Asks T from w (twice_move w.scratch x)
+    3 < (html_rank (n.HtmlFlow from) (position w)).number → (x ≡ true → Inside w) → IsStop w.scratch.marker →
+    Stood T w → Asks T from w (twice_move w.scratch x)
 asks_twice T from w true lt inside m r = (inside refl, (m, behind T w w.scratch (inside refl) r r.0))
 asks_twice T from w false lt inside m r = (here T w w.scratch r r.0, lt)
 
@@ -366,7 +367,8 @@ raw_open_ends T w true has c m r e =
     let inside = stands-here w (is_current 47) c refl e in (
       consumes T html_scheme _ (n.HtmlFlow its.ContinuationRawEndTag) w w.events s (has.each its.ContinuationRawTagOpen)
           (has.each its.ContinuationRawEndTag) inside
-          ((omega arith, letters-none w.setting.bytes (taken w).point.index), (m, behind T w s inside r r.0)) (omega arith),
+          ((omega arith, letters-none w.setting.bytes (taken w).point.index), (m, behind T w s inside r r.0))
+          (omega arith),
       refl,
     )
 raw_open_ends T w false has c m r e =
@@ -448,7 +450,8 @@ pub html_terminates : (T : Scheme) (state : HtmlState) (w : World) → HtmlFits 
     Does T (n.HtmlFlow state) w (html_transition state w)
 html_terminates T its.Start w has c r = start_ends T w _ has r
 html_terminates T its.Indent w has c r =
-    move_terminates T its.Indent w _ has r (asks_indent T w _ (λ e. stands-here w sees_white c refl (and_parts _ _ e).0) r)
+    move_terminates T its.Indent w _ has r
+    (asks_indent T w _ (λ e. stands-here w sees_white c refl (and_parts _ _ e).0) r)
 html_terminates T its.Before w has c r =
     move_terminates T its.Before w _ has r (asks_before T w _ (stands-here w (is_current 60) c refl) r)
 html_terminates T its.Open w has c r =

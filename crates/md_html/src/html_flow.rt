@@ -627,7 +627,8 @@ pub fn continuation_declaration_inside(tokenizer: &mut Tokenizer) -> State
     requires { IsAt HtmlNeeds (StateName.HtmlFlow HtmlState.ContinuationDeclarationInside) (world tokenizer.old) }
     ensures to { result ≡ (continuation_declaration_inside_transition (world tokenizer.old)).to }
     ensures world { world tokenizer.new ≡ (continuation_declaration_inside_transition (world tokenizer.old)).world }
-    ensures rule { HtmlMeans HtmlState.ContinuationDeclarationInside (world tokenizer.old) result (world tokenizer.new) }
+    ensures rule { HtmlMeans HtmlState.ContinuationDeclarationInside (world tokenizer.old) result
+        (world tokenizer.new) }
 {
     if tokenizer.current == Some(b'>') {
         shut(tokenizer)

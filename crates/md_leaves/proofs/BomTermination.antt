@@ -60,4 +60,5 @@ pub bom_terminates : (T : Scheme) (state : BomState) (w : World) → BomFits T �
     bom_ready (n.Bom state) (position w) (after_all T w.frames) →
     Does T (n.Bom state) w (bom_transition state w)
 bom_terminates T its.Start w has c r = bom_start_ends T w _ has r
-bom_terminates T its.Inside w has c r = bom_inside_ends T w _ _ has r (ap (is_current (mark_at w.scratch.size)) (sym c)) refl
+bom_terminates T its.Inside w has c r =
+    bom_inside_ends T w _ _ has r (ap (is_current (mark_at w.scratch.size)) (sym c)) refl

@@ -132,7 +132,8 @@ pub takes-white : TakesWhite (λ s. is_white s.marker ≡ false) (in_break White
 unfolding at_break
 takes-white = record {
   more =
-      λ c cs h apart s. in_break-white c cs h (white-apart c.byte h.scratch.marker s apart) s (white-no_ending c.byte s);
+      λ c cs h apart s. in_break-white c cs h (white-apart c.byte h.scratch.marker s apart) s
+      (white-no_ending c.byte s);
   stop = λ c cs h apart k. white-ends c cs h k ∙ rw k refl;
   none = λ h apart. white-at_none h;
 }

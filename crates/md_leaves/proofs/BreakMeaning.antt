@@ -18,11 +18,11 @@ use Rattle.md_engine.specs.Scheme.{After, position}
 use Rattle.md_engine.specs.World.{World, after}
 use Rattle.md_engine.specs.Sees.{Sees, ahead, cell_here}
 use Rattle.md_engine.proofs.StepOf.{begins, moves, passes, steps-as}
-use Rattle.md_leaves.specs.Break.{BreakInvariant, at_break_code, before_code, before_transition, break_ready, break_transition}
-use Rattle.md_leaves.specs.Break.{is_marker, marked_code, one_run_after_code, one_run_code, sequence_code}
-use Rattle.md_leaves.specs.Break.{without_marker}
-use Rattle.md_leaves.specs.BreakRule.{Apart, BreakMeans, HasBreak, Marks, White, at_break, before_marker, behind_one_run, in_break}
-use Rattle.md_leaves.specs.BreakRule.{in_one_run}
+use Rattle.md_leaves.specs.Break.{BreakInvariant, at_break_code, before_code, before_transition, break_ready}
+use Rattle.md_leaves.specs.Break.{break_transition, is_marker, marked_code, one_run_after_code}
+use Rattle.md_leaves.specs.Break.{one_run_code, sequence_code, without_marker}
+use Rattle.md_leaves.specs.BreakRule.{Apart, BreakMeans, HasBreak, Marks, White, at_break}
+use Rattle.md_leaves.specs.BreakRule.{before_marker, behind_one_run, in_break, in_one_run}
 use Rattle.md_leaves.specs.HeadingSetext.{turns_nothing}
 use Rattle.md_leaves.specs.HeadingSetextRule.{is_underline}
 use Rattle.md_leaves.proofs.BreakLemmas.{apart-mark, before-mark, before-other, in_break-mark, in_break-other}

@@ -21,11 +21,11 @@ use Rattle.md_engine.specs.Scheme.{After, position}
 use Rattle.md_engine.specs.World.{World, after}
 use Rattle.md_engine.specs.Sees.{Sees, ahead, cell_here}
 use Rattle.md_engine.proofs.StepOf.{steps-as, begins, moves, passes}
-use Rattle.md_leaves.specs.Heading.{HeadingInvariant, at_break_code, before_code, behind_part, data_code, heading_link, heading_ready}
-use Rattle.md_leaves.specs.Heading.{heading_transition, sees_text, sequence_further_code, sequence_open_code}
-use Rattle.md_leaves.specs.Heading.{without_size}
-use Rattle.md_leaves.specs.HeadingRule.{HeadingMeans, Apart, HasHeading, Hashes, Run, Text, White, at_break, before_opening, begun}
-use Rattle.md_leaves.specs.HeadingRule.{closes, goes_on, in_heading, in_opening, opens}
+use Rattle.md_leaves.specs.Heading.{HeadingInvariant, at_break_code, before_code, behind_part, data_code, heading_link}
+use Rattle.md_leaves.specs.Heading.{heading_ready, heading_transition, sees_text}
+use Rattle.md_leaves.specs.Heading.{sequence_further_code, sequence_open_code, without_size}
+use Rattle.md_leaves.specs.HeadingRule.{HeadingMeans, Apart, HasHeading, Hashes, Run, Text, White, at_break}
+use Rattle.md_leaves.specs.HeadingRule.{before_opening, begun, closes, goes_on, in_heading, in_opening, opens}
 use Rattle.md_leaves.proofs.LeafStart.{HasStart, start-steps}
 use Rattle.md_leaves.proofs.LeafSteps.{sees-one, white_frame, behind-joined, white-run}
 use Rattle.md_leaves.proofs.HeadingLemmas.{apart-none, apart-white, before-hash, before-other, opening-ends}
@@ -294,8 +294,8 @@ data_means B options feed w false y has s r e f =
     ∙ rw s.next (run-stops feed w (here w) Text w.current (λ b is k. not_from_true _ (white-of w.current b e is k))))
 
 -- each state of a heading takes one step of its rule
-heading_steps : (B : Behaviour) (feed : Feed) (state : HeadingState) (w : World) → HasHeading B w.setting.options → Sees feed w →
-    HeadingInvariant (n.HeadingAtx state) (position w) →
+heading_steps : (B : Behaviour) (feed : Feed) (state : HeadingState) (w : World) → HasHeading B w.setting.options →
+    Sees feed w → HeadingInvariant (n.HeadingAtx state) (position w) →
     Steps B feed (Next (n.HeadingAtx state)) w (heading_transition state w).to (heading_transition state w).world
 heading_steps B feed its.Start w has s at =
     start-steps B feed parts.HeadingAtx _ before_opening _ _ w _ _ (has_start B _ has) s refl refl
@@ -307,8 +307,8 @@ heading_steps B feed its.SequenceFurther w has s at = sequence_further_means B _
 heading_steps B feed its.Data w has s at = data_means B _ feed w _ _ has s at refl refl
 
 -- and so where its attempts end as they have to
-pub heading_means : (B : Behaviour) (feed : Feed) (state : HeadingState) (w : World) (K : After) → HasHeading B w.setting.options →
-    Sees feed w → heading_ready (n.HeadingAtx state) (position w) K →
+pub heading_means : (B : Behaviour) (feed : Feed) (state : HeadingState) (w : World) (K : After) →
+    HasHeading B w.setting.options → Sees feed w → heading_ready (n.HeadingAtx state) (position w) K →
     Steps B feed (Next (n.HeadingAtx state)) w (heading_transition state w).to (heading_transition state w).world
 heading_means B feed state w K has s at = heading_steps B feed state w has s at.0
 

@@ -44,8 +44,8 @@ heading-starts T has = record {
   tries = λ x. omega arith;
 }
 
-heading_before_ends : (T : Scheme) (w : World) (x : Bool) → HeadingFits T → rest_ready (position w) (after_all T w.frames) →
-    Does T (n.HeadingAtx its.Before) w (before_code w x)
+heading_before_ends : (T : Scheme) (w : World) (x : Bool) → HeadingFits T →
+    rest_ready (position w) (after_all T w.frames) → Does T (n.HeadingAtx its.Before) w (before_code w x)
 heading_before_ends T w true has r = (
   turns T heading_scheme _ (n.HeadingAtx its.SequenceOpen) w (entered w parts.HeadingAtxSequence).events w.scratch
       (has.each its.Before) (has.each its.SequenceOpen)
@@ -135,8 +135,8 @@ heading_at_break_ends T w false y false has r e f =
     (refuses T _ w _ _ w.events w.scratch r.1 r.0, refl)
 
 sequence_further_ends : (T : Scheme) (w : World) (x y : Bool) → HeadingFits T →
-    rest_ready (position w) (after_all T w.frames) → is_current 35 (seen (position w)) ≡ x → sees_white (seen (position w)) ≡ y →
-    Does T (n.HeadingAtx its.SequenceFurther) w (sequence_further_code w x y)
+    rest_ready (position w) (after_all T w.frames) → is_current 35 (seen (position w)) ≡ x →
+    sees_white (seen (position w)) ≡ y → Does T (n.HeadingAtx its.SequenceFurther) w (sequence_further_code w x y)
 sequence_further_ends T w true y has r e f =
     let inside = seen-in (position w) (is_current 35) refl e in (
       consumes T heading_scheme _ _ w w.events w.scratch (has.each its.SequenceFurther)

@@ -67,14 +67,16 @@ heading-taken options cells h calm e = go (begins_white cells) refl
         ∙ before-is (white_rest (small_indent options) cells)
         (behind_white (small_indent options) cells (entered_here HeadingAtx h)) parts.1
         ∙ taken-white (small_indent options) cells h calm
-        ∙ ap (λ (es : List Event). taken_line es cells h) (sym (indented-white behind_indent (small_indent options) cells h.point s))
+        ∙ ap (λ (es : List Event). taken_line es cells h)
+        (sym (indented-white behind_indent (small_indent options) cells h.point s))
     go false s =
         at-none HeadingAtx _ before_opening options cells h parts.0 s
         ∙ before-is cells (entered_here HeadingAtx h)
         (sym (ap (λ (r : List Cell). is_heading (line_bytes r)) (none-rest (small_indent options) cells s))
         ∙ parts.1)
         ∙ taken-none cells h
-        ∙ ap (λ (es : List Event). taken_line es cells h) (sym (indented-none behind_indent (small_indent options) cells h.point s))
+        ∙ ap (λ (es : List Event). taken_line es cells h)
+        (sym (indented-none behind_indent (small_indent options) cells h.point s))
 
 -- any other line is refused
 pub heading-refused : (options : ParseOptions) (cells : List Cell) (h : Here) → calmed h.scratch ≡ h.scratch →

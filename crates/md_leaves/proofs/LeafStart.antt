@@ -159,7 +159,8 @@ good-start T own name start next w false y has r = (refuses T _ w _ _ w.events w
 good-start T own name start next w true true has r =
     white_try T own start next w (entered w name).events w.scratch 0 (small_indent w.setting.options) IsRest IsRest
     has.white has.start_fits has.next_fits (rest-none w.scratch r.0) (λ some. rest-calm w.scratch r.0) r.1
-    (λ q t up way. has.ready _ _ (rest-calm w.scratch r.0, later_at _ _ (position w) _ q t _ up way r.1)) has.level has.some
+    (λ q t up way. has.ready _ _ (rest-calm w.scratch r.0, later_at _ _ (position w) _ q t _ up way r.1))
+    has.level has.some
     (λ t up. has.falls _) (has.tries _)
 good-start T own name start next w true false has r = (
   turns T own start next w (entered w name).events w.scratch has.start_fits has.next_fits (has.ready _ _ r) has.level

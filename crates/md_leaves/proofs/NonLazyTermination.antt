@@ -21,7 +21,8 @@ non_lazy_start_ends : (T : Scheme) (w : World) (x : Bool) → NonLazyFits T →
 non_lazy_start_ends T w true has r e =
     let inside = seen-in (position w) (is_current 10) refl e in (
       consumes T non_lazy_scheme _ (n.NonLazyContinuation its.After) w (start_code w true).world.events w.scratch
-          (has.each its.Start) (has.each its.After) inside (later _ _ (position w) _ _ _ (takes w.setting w.point inside) r)
+          (has.each its.Start) (has.each its.After) inside
+          (later _ _ (position w) _ _ _ (takes w.setting w.point inside) r)
           (omega arith),
       refl,
     )

@@ -17,8 +17,8 @@ use Rattle.md_engine.specs.Scheme.{After, position}
 use Rattle.md_engine.specs.World.{World, after}
 use Rattle.md_engine.specs.Sees.{Sees, ahead, cell_here}
 use Rattle.md_engine.proofs.StepOf.{steps-as, begins, moves, passes}
-use Rattle.md_leaves.specs.HeadingSetext.{SetextInvariant, after_code, before_code, inside_code, is_marker, setext_ready}
-use Rattle.md_leaves.specs.HeadingSetext.{setext_transition, without_marker}
+use Rattle.md_leaves.specs.HeadingSetext.{SetextInvariant, after_code, before_code, inside_code, is_marker}
+use Rattle.md_leaves.specs.HeadingSetext.{setext_ready, setext_transition, without_marker}
 use Rattle.md_leaves.specs.HeadingSetextRule.{SetextMeans, HasSetext, before_run, behind_run, in_run}
 use Rattle.md_leaves.proofs.BreakTermination.{marked-calm, rest-marker}
 use Rattle.md_leaves.proofs.LeafStart.{start-steps_here}
@@ -63,7 +63,8 @@ before_means B options feed w has s r = go w.current s.next
             rw k (moves B feed _ (Retry (n.HeadingSetext its.Inside)) w new
             (enter HeadingSetextUnderlineSequence w.point ∷ []) refl refl
             (has.each its.Before _ _ ∙ ap (λ (x : List Cell). before_run x (here w)) e
-            ∙ before-mark c cs (here w) k (rest-marker w.scratch r) ∙ ap (λ (x : List Cell). in_run x (here new)) (sym e)
+            ∙ before-mark c cs (here w) k (rest-marker w.scratch r)
+            ∙ ap (λ (x : List Cell). in_run x (here new)) (sym e)
             ∙ sym (has.each its.Inside _ _)))
         by false k =
             rw k
@@ -148,8 +149,8 @@ after_means B options feed w false has s e =
     (has.each its.After _ _ ∙ behind-other (feed w.point) (here w) (ap ends_line (first-seen feed w s) ∙ e))
 
 -- each state of an underline takes one step of its rule
-setext_steps : (B : Behaviour) (feed : Feed) (state : SetextState) (w : World) → HasSetext B w.setting.options → Sees feed w →
-    SetextInvariant (n.HeadingSetext state) (position w) →
+setext_steps : (B : Behaviour) (feed : Feed) (state : SetextState) (w : World) → HasSetext B w.setting.options →
+    Sees feed w → SetextInvariant (n.HeadingSetext state) (position w) →
     Steps B feed (Next (n.HeadingSetext state)) w (setext_transition state w).to (setext_transition state w).world
 setext_steps B feed its.Start w has s at =
     start-steps_here B feed HeadingSetextUnderline _ before_run _ _ w _ _ has.white (has.each its.Start _ _)
@@ -159,8 +160,8 @@ setext_steps B feed its.Inside w has s at = inside_means B _ feed w _ _ has s at
 setext_steps B feed its.After w has s at = after_means B _ feed w _ has s refl
 
 -- and so where its attempts end as they have to
-pub setext_means : (B : Behaviour) (feed : Feed) (state : SetextState) (w : World) (K : After) → HasSetext B w.setting.options →
-    Sees feed w → setext_ready (n.HeadingSetext state) (position w) K →
+pub setext_means : (B : Behaviour) (feed : Feed) (state : SetextState) (w : World) (K : After) →
+    HasSetext B w.setting.options → Sees feed w → setext_ready (n.HeadingSetext state) (position w) K →
     Steps B feed (Next (n.HeadingSetext state)) w (setext_transition state w).to (setext_transition state w).world
 setext_means B feed state w K has s at = setext_steps B feed state w has s at.0
 

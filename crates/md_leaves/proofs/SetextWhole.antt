@@ -136,7 +136,8 @@ setext-refused options cells h is e =
     off = at-off HeadingSetextUnderline _ before_run options cells h
 
     go : options.constructs.heading_setext && may_turn options h.flags.leaf ≡ true →
-        is_underline (line_bytes left) ≡ false → (x : Bool) → begins_white cells ≡ x → setext_at options cells h ≡ Refuses h.scratch h.flags
+        is_underline (line_bytes left) ≡ false → (x : Bool) → begins_white cells ≡ x →
+        setext_at options cells h ≡ Refuses h.scratch h.flags
     go on none true s =
         at-white HeadingSetextUnderline _ before_run options cells h on s
         ∙ before-no left (behind_white room cells (entered_here HeadingSetextUnderline h)) none

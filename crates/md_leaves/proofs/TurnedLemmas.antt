@@ -10,9 +10,9 @@ use Rattle.md_engine.specs.declared.event.Name.{Name}
 use Rattle.md_engine.specs.declared.event.Name.TheVariants as n
 use Rattle.md_engine.specs.declared.event.Point.{Point}
 use Rattle.md_engine.specs.Place.{IsPlaced}
-use Rattle.md_leaves.specs.Turned.{BeginsText, HoldNoUnderline, EndsText, EndsUnderline, Stays, Turn, given, given_by, has_underline}
-use Rattle.md_leaves.specs.Turned.{is_no_underline, is_paragraph, is_turned, is_underline, on_after, on_by, passes}
-use Rattle.md_leaves.specs.Turned.{turn, turn_by, turned, turned_from, underline_behind}
+use Rattle.md_leaves.specs.Turned.{BeginsText, HoldNoUnderline, EndsText, EndsUnderline, Stays, Turn, given, given_by}
+use Rattle.md_leaves.specs.Turned.{has_underline, is_no_underline, is_paragraph, is_turned, is_underline, on_after}
+use Rattle.md_leaves.specs.Turned.{on_by, passes, turn, turn_by, turned, turned_from, underline_behind}
 use Rattle.md_leaves.proofs.SpannedLemmas.{AtPoint, one-point}
 use Rattle.md_seam.specs.Events.Inline.{is_line_ending}
 use Rattle.md_seam.specs.Events.Nested.{around, enter, exit, is_enter, is_exit, pair}

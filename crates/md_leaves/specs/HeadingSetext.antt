@@ -74,7 +74,10 @@ inside_code w false false = record {
 -- by whether the line ends here: no leaf is open behind it
 abbrev pub after_code : World → Bool → Transition
 after_code w true =
-    record { to = Ok; world = record (exited w HeadingSetextUnderline) { flags = record w.flags { leaf = held_leaf.None } } }
+    record {
+      to = Ok;
+      world = record (exited w HeadingSetextUnderline) { flags = record w.flags { leaf = held_leaf.None } };
+    }
 after_code w false = record { to = Nok; world = w }
 
 -- each state with what it does, where there is memory
@@ -120,7 +123,8 @@ setext_ready name x K = SetextInvariant name x × Ends IsRest IsRest x K
 abbrev pub setext_rank : StateName → Position → Rank
 setext_rank (n.HeadingSetext its.Start) x = ranked 5 refl
 setext_rank (n.HeadingSetext its.Before) x = ranked 3 refl
-setext_rank (n.HeadingSetext its.Inside) x = if is_current x.scratch.marker (seen x) then ranked 1 refl else ranked 2 refl
+setext_rank (n.HeadingSetext its.Inside) x =
+    if is_current x.scratch.marker (seen x) then ranked 1 refl else ranked 2 refl
 setext_rank _ x = ranked 0 refl
 
 abbrev pub setext_tries : StateName → Rank

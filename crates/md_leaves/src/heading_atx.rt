@@ -278,8 +278,8 @@ pub fn words(tokenizer: &mut Tokenizer) -> State
     at_break(tokenizer)
 }
 
-/// In the opening sequence: where one space stands behind it, goes on at once with the words, as the states do one after
-/// another.
+/// In the opening sequence: where one space stands behind it, goes on at once with the words, as the states do one
+/// after another.
 ///
 /// ```markdown
 /// > | ## aa bb

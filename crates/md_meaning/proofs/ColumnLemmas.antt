@@ -232,7 +232,8 @@ item_padded options interrupting before bytes marker after padding =
     (record {
       container =
           InItem marker.digits marker.byte
-          (before + length marker.digits + 1 + padding + (if is_blank after.bytes then 1 else 0)) (is_blank after.bytes);
+          (before + length marker.digits + 1 + padding + (if is_blank after.bytes then 1 else 0))
+          (is_blank after.bytes);
       rest = lose padding after;
     })
     else None
@@ -459,7 +460,8 @@ with_line-any : (bs : Blocks) (lines : List ParagraphLine) (c d : ℕ) (bytes : 
 with_line-any bs lines c d bytes h =
     ap (λ (k : ParagraphLine). record { here = bs; leaf = OpenParagraph (lines ++ k ∷ []) }) (kept-any c d bytes h)
 
-underlined_by-any : (bs : Blocks) (lines : List ParagraphLine) (depth : ℕ) (defined : Blocks) (remaining : List (List ℕ))
+underlined_by-any : (bs : Blocks) (lines : List ParagraphLine) (depth : ℕ) (defined : Blocks)
+    (remaining : List (List ℕ))
     (c d : ℕ) (bytes : List ℕ) →
     NoTab bytes →
     underlined_by bs lines (rest_at c bytes) depth defined remaining ≡
@@ -467,16 +469,16 @@ underlined_by-any : (bs : Blocks) (lines : List ParagraphLine) (depth : ℕ) (de
 underlined_by-any bs lines depth defined [] c d bytes h = with_line-any bs lines c d bytes h
 underlined_by-any bs lines depth defined (line ∷ remaining) c d bytes h = refl
 
-underlined-any : (options : ParseOptions) (bs : Blocks) (lines : List ParagraphLine) (depth : ℕ) (c d : ℕ) (bytes : List ℕ) →
-    NoTab bytes →
+underlined-any : (options : ParseOptions) (bs : Blocks) (lines : List ParagraphLine) (depth : ℕ) (c d : ℕ)
+    (bytes : List ℕ) → NoTab bytes →
     underlined options bs lines (rest_at c bytes) depth ≡ underlined options bs lines (rest_at d bytes) depth
 unfolding underlined
 underlined-any options bs lines depth c d bytes h =
     underlined_by-any bs lines depth (then_definitions bs (cut options (texts lines)).0)
     (cut options (texts lines)).1 c d bytes h
 
-table_at-any : (options : ParseOptions) (bs : Blocks) (lines : List ParagraphLine) (c d : ℕ) (bytes : List ℕ) → NoTab bytes →
-    table_at options bs lines (rest_at c bytes) ≡ table_at options bs lines (rest_at d bytes)
+table_at-any : (options : ParseOptions) (bs : Blocks) (lines : List ParagraphLine) (c d : ℕ) (bytes : List ℕ) →
+    NoTab bytes → table_at options bs lines (rest_at c bytes) ≡ table_at options bs lines (rest_at d bytes)
 unfolding table_at
 table_at-any options bs lines c d bytes h =
     ap
@@ -500,13 +502,13 @@ fresh_line-any options bs c d bytes h =
     (ap (fresh_by bs (rest_at c bytes)) (starts-any options NoText c d bytes h)
     ∙ fresh_by-any bs (starts options NoText (rest_at d bytes)) c d bytes h)
 
-row_or_text-any : (bs : Blocks) (lines : List ParagraphLine) (o : Option Innermost) (c d : ℕ) (bytes : List ℕ) → NoTab bytes →
-    row_or_text bs lines (rest_at c bytes) o ≡ row_or_text bs lines (rest_at d bytes) o
+row_or_text-any : (bs : Blocks) (lines : List ParagraphLine) (o : Option Innermost) (c d : ℕ) (bytes : List ℕ) →
+    NoTab bytes → row_or_text bs lines (rest_at c bytes) o ≡ row_or_text bs lines (rest_at d bytes) o
 row_or_text-any bs lines (Some s) c d bytes h = refl
 row_or_text-any bs lines None c d bytes h = with_line-any bs lines c d bytes h
 
-text_by-any : (options : ParseOptions) (bs : Blocks) (lines : List ParagraphLine) (o : Option LeafResult) (c d : ℕ) (bytes : List ℕ) →
-    NoTab bytes →
+text_by-any : (options : ParseOptions) (bs : Blocks) (lines : List ParagraphLine) (o : Option LeafResult) (c d : ℕ)
+    (bytes : List ℕ) → NoTab bytes →
     text_by options bs lines (rest_at c bytes) o ≡ text_by options bs lines (rest_at d bytes) o
 text_by-any options bs lines (Some x) c d bytes h = refl
 text_by-any options bs lines None c d bytes h =
@@ -522,16 +524,16 @@ underline_or_text-any options bs lines None c d bytes h =
     ap (text_by options bs lines (rest_at c bytes)) (starts-any options Text c d bytes h)
     ∙ text_by-any options bs lines (starts options Text (rest_at d bytes)) c d bytes h
 
-text_line-any : (options : ParseOptions) (bs : Blocks) (lines : List ParagraphLine) (c d : ℕ) (bytes : List ℕ) → NoTab bytes →
-    text_line options bs lines (rest_at c bytes) ≡ text_line options bs lines (rest_at d bytes)
+text_line-any : (options : ParseOptions) (bs : Blocks) (lines : List ParagraphLine) (c d : ℕ) (bytes : List ℕ) →
+    NoTab bytes → text_line options bs lines (rest_at c bytes) ≡ text_line options bs lines (rest_at d bytes)
 unfolding text_line
 text_line-any options bs lines c d bytes h =
     ap (λ (s : Innermost). if is_blank bytes then spot_of (then_leaf options bs (OpenParagraph lines)) else s)
     (ap (underline_or_text options bs lines (rest_at c bytes)) (underline_depth-any options c d bytes h)
     ∙ underline_or_text-any options bs lines (underline_depth options (rest_at d bytes)) c d bytes h)
 
-on_or_fresh-any : (options : ParseOptions) (s : Innermost) (o : Option LeafResult) (c d : ℕ) (bytes : List ℕ) → NoTab bytes →
-    on_or_fresh options s (rest_at c bytes) o ≡ on_or_fresh options s (rest_at d bytes) o
+on_or_fresh-any : (options : ParseOptions) (s : Innermost) (o : Option LeafResult) (c d : ℕ) (bytes : List ℕ) →
+    NoTab bytes → on_or_fresh options s (rest_at c bytes) o ≡ on_or_fresh options s (rest_at d bytes) o
 on_or_fresh-any options s (Some x) c d bytes h = refl
 on_or_fresh-any options s None c d bytes h = fresh_line-any options (shut options s) c d bytes h
 
@@ -566,8 +568,8 @@ opened-any options (suc n) c d bytes h =
     go (opened-any options n) (opens options false (rest_at c bytes)) (opens options false (rest_at d bytes))
     (opens-alike options false c d bytes h)
   where
-    go : ((e f : ℕ) (more : List ℕ) → NoTab more → opened options n (rest_at e more) ≡ opened options n (rest_at f more)) →
-        (o p : Option Taken) → BothTaken o p →
+    go : ((e f : ℕ) (more : List ℕ) → NoTab more →
+        opened options n (rest_at e more) ≡ opened options n (rest_at f more)) → (o p : Option Taken) → BothTaken o p →
         opened_by options n (rest_at c bytes) o ≡ opened_by options n (rest_at d bytes) p
     go below o p neither = ap (λ (s : Innermost). At s) (fresh_line-any options End c d bytes h)
     go below o p (taken container e f more k) = ap (Within End container) (below e f more k)

@@ -27,4 +27,5 @@ opens-leaves options interrupting r =
     (first-found (Leaves (length r.bytes)) (opens_item options interrupting r) (opens_footnote options r)
     (behind-leaves (opens_item options interrupting r) r
     (item-leaves options interrupting (indent r) from.column from.spaces from.bytes))
-    (behind-leaves (opens_footnote options r) r (footnote-leaves options (indent r) from.column from.spaces from.bytes)))
+    (behind-leaves (opens_footnote options r) r
+    (footnote-leaves options (indent r) from.column from.spaces from.bytes)))

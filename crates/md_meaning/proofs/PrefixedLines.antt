@@ -46,7 +46,8 @@ full_lines_of-prefix (b ∷ prefix) bytes h =
     ∙ ap (onto_first b) (full_lines_of-prefix prefix bytes h.1)
 
 -- the same prefix before all lines
-pub prefixed-all : (prefix : List ℕ) (lines : List (List ℕ)) → prefixed prefix prefix lines ≡ map (λ l. prefix ++ l) lines
+pub prefixed-all : (prefix : List ℕ) (lines : List (List ℕ)) →
+    prefixed prefix prefix lines ≡ map (λ l. prefix ++ l) lines
 prefixed-all prefix [] = refl
 prefixed-all prefix (line ∷ lines) = refl
 

@@ -5,11 +5,12 @@ use Rattle.std.specs.Option.{is_some}
 use Rattle.md_engine.specs.declared.configuration.ParseOptions.{ParseOptions}
 use Rattle.md_meaning.specs.Tree.{Blocks, End}
 use Rattle.md_meaning.specs.Rest.{Rest, is_blank}
-use Rattle.md_meaning.specs.State.{Container, ParagraphLine, Leaf, NoLeaf, OpenParagraph, OpenFence, OpenHtml, Innermost, Path, At}
-use Rattle.md_meaning.specs.State.{Within, spot, at_spot, then_block, then_leaf, shut, container_block, closed, kept}
+use Rattle.md_meaning.specs.State.{Container, ParagraphLine, Leaf, NoLeaf, OpenParagraph, OpenFence, OpenHtml}
+use Rattle.md_meaning.specs.State.{Innermost, Path, At, Within, spot, at_spot, then_block}
+use Rattle.md_meaning.specs.State.{then_leaf, shut, container_block, closed, kept}
 use Rattle.md_meaning.specs.Containers.{Taken, continues, opens}
-use Rattle.md_meaning.specs.Leaves.{LeafResult, Opened, Finished, NoText, Text, LazyText, starts, goes_on, underline_depth}
-use Rattle.md_meaning.specs.Leaves.{underlined, table_at, with_line}
+use Rattle.md_meaning.specs.Leaves.{LeafResult, Opened, Finished, NoText, Text, LazyText, starts, goes_on}
+use Rattle.md_meaning.specs.Leaves.{underline_depth, underlined, table_at, with_line}
 
 abbrev pub spot_of : Blocks → Innermost
 spot_of bs = record { here = bs; leaf = NoLeaf }

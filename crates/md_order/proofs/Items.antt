@@ -3,8 +3,8 @@ use Rattle.std.proofs.Common.{◌≡◌, ℕ, Bool, true, false, cond, List, [],
 use Rattle.std.specs.Prelude.{Option}
 use Rattle.md_engine.specs.declared.event.Event.{Event}
 use Rattle.md_containers.specs.Listed.{Begins, Ends, Place as ListPlace, Stays, Turn, given, given_by, goes_on, is_item}
-use Rattle.md_containers.specs.Listed.{list_begin, list_end, list_name, listed_from, marker_ahead, next_item, place_after}
-use Rattle.md_containers.specs.Listed.{turn}
+use Rattle.md_containers.specs.Listed.{list_begin, list_end, list_name, listed_from}
+use Rattle.md_containers.specs.Listed.{marker_ahead, next_item, place_after, turn}
 use Rattle.md_seam.specs.Events.Nested.{enter, exit}
 use Rattle.md_seam.specs.Events.Spelled.{role}
 use Rattle.md_order.specs.declared.wanted.Wanted.{Wanted}

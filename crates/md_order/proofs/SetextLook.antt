@@ -35,7 +35,8 @@ pub ahead-pass : (a i : Bool) (bytes : List ℕ) (place : Place) (e : Event) (es
     ahead a i bytes place (e ∷ es) ≡ e ∷ ahead a i bytes place es
 ahead-pass a i bytes place e es item heading =
     ap (set_if a (resolved Outside)) (items-pass i bytes place e es (λ k. item))
-    ∙ heads-pass a e (set_if i (listed_from bytes place) es) (λ k. and_right (is_enter e.kind) (is_heading e.name) heading)
+    ∙ heads-pass a e (set_if i (listed_from bytes place) es)
+    (λ k. and_right (is_enter e.kind) (is_heading e.name) heading)
 
 -- headings leave the first event as it is
 abbrev heads_rest : Bool → Event → List Event → List Event
@@ -106,7 +107,8 @@ plain-unlined : (e : Event) (es : List Event) → IsPlain e.name → underline_b
 plain-unlined e es h = rw h.prefix (and_right (is_enter e.kind) (is_underline e.name) h.underline)
 
 starts-unlined : (a : Bool) (es : List Event) → StartsPlain es →
-    (underline_behind (set_if a (resolved Outside) es) ≡ false) × (has_underline (set_if a (resolved Outside) es) ≡ false)
+    (underline_behind (set_if a (resolved Outside) es) ≡ false)
+    × (has_underline (set_if a (resolved Outside) es) ≡ false)
 starts-unlined a es h =
     let same : set_if a (resolved Outside) es ≡ h.first ∷ heads_rest a h.first h.rest =
     ap (set_if a (resolved Outside)) h.is ∙ heads-first a h.first h.rest in (
@@ -117,7 +119,8 @@ starts-unlined a es h =
 -- So an item hides what stands behind it,
 item-hides : (a i : Bool) (bytes : List ℕ) (place : Place) (e : Event) (es : List Event) →
     is_item (role e.name) ≡ true →
-    (underline_behind (ahead a i bytes place (e ∷ es)) ≡ false) × (has_underline (ahead a i bytes place (e ∷ es)) ≡ false)
+    (underline_behind (ahead a i bytes place (e ∷ es)) ≡ false)
+    × (has_underline (ahead a i bytes place (e ∷ es)) ≡ false)
 item-hides a true bytes place e es h =
     starts-unlined a (listed_from bytes place (e ∷ es))
     (item-starts bytes place e es (listed_from bytes (place_after bytes place e es) es) h)

@@ -1,6 +1,6 @@
 -- A table is set as it stands, whatever stands behind it.
-use Rattle.std.proofs.Common.{◌≡◌, ℕ, suc, ◌+◌, Bool, true, false, cond, not, ◌&&◌, List, [], ◌∷◌, ◌++◌, take, drop, refl, ap, sym}
-use Rattle.std.proofs.Common.{◌∙◌, append_assoc, append-nil, arith}
+use Rattle.std.proofs.Common.{◌≡◌, ℕ, suc, ◌+◌, Bool, true, false, cond, not, ◌&&◌, List, [], ◌∷◌, ◌++◌, take, drop}
+use Rattle.std.proofs.Common.{refl, ap, sym, ◌∙◌, append_assoc, append-nil, arith}
 use Rattle.std.specs.List.{prefix_len}
 use Rattle.std.proofs.lemmas.Bool.{and_parts, and_right}
 use Rattle.md_engine.specs.declared.event.Event.{Event}
@@ -9,7 +9,8 @@ use Rattle.md_engine.specs.declared.event.Kind.TheVariants.{Enter, Exit}
 use Rattle.md_engine.specs.declared.event.Name.{Name}
 use Rattle.md_engine.specs.declared.event.Name.TheVariants as n
 use Rattle.md_seam.specs.Events.Nested.{is_enter, is_exit}
-use Rattle.md_tables.specs.Cells.{Step, begins_divider, ends_inner, ends_row, ends_with, inside_step, is_divider, is_inner, step}
+use Rattle.md_tables.specs.Cells.{Step, begins_divider, ends_inner, ends_row, ends_with}
+use Rattle.md_tables.specs.Cells.{inside_step, is_divider, is_inner, step}
 use Rattle.md_tables.specs.Heads.{is_table}
 use Rattle.md_tables.specs.Tabled.{behind, bound_by, bound_of, in_front, next, tabled, tabled_from, with_cells}
 use Rattle.md_tables.specs.declared.cells.RowKind.{RowKind}
@@ -171,4 +172,5 @@ tabled-slice (e ∷ es) ys section stage h = go (ends_table e) refl (λ s t k. t
         (looks-like (slice es ++ ys) (slice es) (slice-like es ys (h is))))
         ∙ ap (λ (l : List Event). itself (cells (slice es)) ++ l) (more behind_it (cells (slice es)).stage is)
         ∙ sym
-        (append_assoc (itself (cells (slice es))) (tabled_from behind_it (cells (slice es)).stage (slice es)) (tabled ys))
+        (append_assoc (itself (cells (slice es))) (tabled_from behind_it (cells (slice es)).stage (slice es))
+        (tabled ys))

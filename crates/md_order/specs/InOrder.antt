@@ -1,5 +1,5 @@
--- What the resolvers of items, headings and tables make of events, in the order of their names: `ListItem`, `HeadingAtx`,
--- `HeadingSetext`, `GfmTable`.
+-- What the resolvers of items, headings and tables make of events, in the order of their names: `ListItem`,
+-- `HeadingAtx`, `HeadingSetext`, `GfmTable`.
 use Rattle.std.specs.Prelude.{ℕ, Bool, true, false, List, [], ◌∷◌}
 use Rattle.md_engine.specs.declared.event.Event.{Event}
 use Rattle.md_engine.specs.declared.resolve.name.Name.{Name as ResolveName}

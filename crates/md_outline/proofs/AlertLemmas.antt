@@ -51,7 +51,8 @@ deep-row depth d cells le = (le, deep-entries depth (d + 1) word.Cell cells (ome
 deep-rows : (depth d : ℕ) (rows : List (List (List ℕ))) → depth ≤ d → Deep depth (rows_entries d rows)
 deep-rows depth d [] le = tt
 deep-rows depth d (cells ∷ rows) le =
-    deep-append depth (row_entries d cells) (rows_entries d rows) (deep-row depth d cells le) (deep-rows depth d rows le)
+    deep-append depth (row_entries d cells) (rows_entries d rows) (deep-row depth d cells le)
+    (deep-rows depth d rows le)
 
 deep-table : (depth d : ℕ) (delimiter : List ℕ) (rows : List (List (List ℕ))) → depth ≤ d →
     Deep depth (table_entries d delimiter rows)
@@ -158,7 +159,8 @@ kept-shown kind outer b bs =
     let depth : ℕ = depth_of outer in
     ap (kind_given kind depth) (shown-fronts outer (More b bs))
     ∙ kept-behind kind depth (fronts outer (More b bs)) (outline depth (More b bs))
-    (some-more (block_entries depth b) (outline depth bs) (some-block depth b)) (deep-all depth depth (More b bs) (omega arith))
+    (some-more (block_entries depth b) (outline depth bs) (some-block depth b))
+    (deep-all depth depth (More b bs) (omega arith))
     ∙ sym (shown-fronts outer (More b bs))
 
 -- and no kind changes nothing.

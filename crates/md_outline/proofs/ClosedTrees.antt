@@ -112,7 +112,8 @@ then-same : (outer : List OpenContainer) (here : Blocks) (b : Block) → HaveWor
 then-same [] here b h = tt
 then-same (around ∷ outer) here b h = then-word around.shape here b h.0
 
-words-stay : (outer : List OpenContainer) (xs ys : Blocks) → SameWord outer xs ys → HaveWords outer xs → HaveWords outer ys
+words-stay : (outer : List OpenContainer) (xs ys : Blocks) → SameWord outer xs ys → HaveWords outer xs →
+    HaveWords outer ys
 words-stay [] xs ys e h = tt
 words-stay (around ∷ outer) xs ys e h = (
   word-stays around.shape xs ys e h.0,
@@ -223,8 +224,8 @@ KeepsWord f here =
     list_word list (then_block before (block_around (f shape) here))
     ≡ list_word list (then_block before (block_around shape here))
 
-named-same : (f : Shape → Shape) (outer : List OpenContainer) (around : OpenContainer) (here : Blocks) → KeepsWord f here →
-    HaveWords outer (then_block around.before (block_around around.shape here)) →
+named-same : (f : Shape → Shape) (outer : List OpenContainer) (around : OpenContainer) (here : Blocks) →
+    KeepsWord f here → HaveWords outer (then_block around.before (block_around around.shape here)) →
     SameWord outer (then_block around.before (block_around around.shape here))
     (then_block around.before (block_around (f around.shape) here))
 named-same f [] around here k h = tt

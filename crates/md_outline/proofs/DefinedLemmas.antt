@@ -1,6 +1,6 @@
 -- Definitions: lines of labels and titles are shown as they come; each part begins with an empty line, which is filled.
-use Rattle.std.proofs.Common.{◌≡◌, ℕ, ◌+◌, Bool, true, false, cond, not, List, [], ◌∷◌, ◌++◌, length, slice_range, refl, sym}
-use Rattle.std.proofs.Common.{◌∙◌, ap, subst, append_assoc}
+use Rattle.std.proofs.Common.{◌≡◌, ℕ, ◌+◌, Bool, true, false, cond, not, List, [], ◌∷◌, ◌++◌, length}
+use Rattle.std.proofs.Common.{slice_range, refl, sym, ◌∙◌, ap, subst, append_assoc}
 use Rattle.std.specs.Prelude.{Option, Some, None, option_map, ◌||◌}
 use Rattle.std.specs.List.{list_any}
 use Rattle.std.proofs.lemmas.Bool.{and_parts, true≢false}
@@ -22,8 +22,8 @@ use Rattle.md_seam.specs.Events.Spelled as spelled
 use Rattle.md_seam.proofs.PlacesLemmas.{Some_line, some-split}
 use Rattle.md_outline.specs.DefinitionState.{part_ended, part_parted, part_word}
 use Rattle.md_outline.specs.LinedState.{now_told, without_end}
-use Rattle.md_outline.specs.LinesStand.{DestinationLeft, LabelPart, Left, MayHaveDestination, MayHaveTitle, NoneLeft, Part}
-use Rattle.md_outline.specs.LinesStand.{TitleLeft, TitlePart}
+use Rattle.md_outline.specs.LinesStand.{DestinationLeft, LabelPart, Left, MayHaveDestination}
+use Rattle.md_outline.specs.LinesStand.{MayHaveTitle, NoneLeft, Part, TitleLeft, TitlePart}
 use Rattle.md_outline.specs.Outlined.{begins_line, parts_by}
 use Rattle.md_outline.specs.OutlineSteps.{OutlineState, line_ended, parted_at, piece_shown, state_enter}
 use Rattle.md_outline.specs.OutlineSteps.{is_titled, state_exit, told, told_at}

@@ -20,7 +20,8 @@ use Rattle.md_seam.specs.Events.Spelled.{IsTitle, OfDefinition, LeafRole, Purpos
 use Rattle.md_seam.proofs.SpelledLemmas.{Between, Quiet, QuietOrEnding, Roles}
 use Rattle.md_outline.specs.LinesStand.{AtLabel, AtTitleText, BehindPart, BehindTitleText, InDestination, InPart}
 use Rattle.md_outline.specs.LinesStand.{InParted, LabelPart, Left, LinesStand, MayHaveDestination, MayHaveTitle}
-use Rattle.md_outline.specs.LinesStand.{MayStand, NoneLeft, Outside, Part, Site, TitleLeft, TitlePart, part_site, site_by}
+use Rattle.md_outline.specs.LinesStand.{MayStand, NoneLeft, Outside, Part, Site}
+use Rattle.md_outline.specs.LinesStand.{TitleLeft, TitlePart, part_site, site_by}
 use Rattle.md_outline.proofs.LinesPass.{Passes, Steps, passes-append, passes-around, passes-event, passes-quiet}
 use Rattle.md_outline.proofs.LinesPass.{stand-both, passes-lines, passes-inline}
 
@@ -42,7 +43,8 @@ pub passes-destination : (bytes : List ℕ) (name : Name) (p q : Point) (left : 
     role name ≡ TextRole AsDestination → MayHaveDestination left → Roles Quiet es →
     Passes bytes (BehindPart left) (BehindPart TitleLeft) (around name p q es)
 passes-destination bytes name p q left es is may h =
-    passes-around bytes (BehindPart left) InDestination InDestination (BehindPart TitleLeft) (TextRole AsDestination) name
+    passes-around bytes (BehindPart left) InDestination InDestination (BehindPart TitleLeft)
+    (TextRole AsDestination) name
     p q es is (may, refl) (passes-quiet bytes InDestination es h) (tt, refl)
 
 -- and its title, around its text, or with none.
@@ -94,7 +96,8 @@ pub passes-part_line : (bytes : List ℕ) (part : Part) (name : Name) (p q : Poi
     role name ≡ TextRole (part_purpose part) → Roles QuietOrEnding es →
     Passes bytes (part_begin part) (part_site part) (around name p q es)
 passes-part_line bytes part name p q es is h =
-    passes-text bytes part name p q (InPart part p) es is (passes-inline bytes (InPart part p) es tt h) (first-ends bytes part p q)
+    passes-text bytes part name p q (InPart part p) es is (passes-inline bytes (InPart part p) es tt h)
+    (first-ends bytes part p q)
 
 -- and with prefixes, which stand behind an ending
 any-longer : (xs : List ℕ) (m n : ℕ) → m ≤ n → list_any is_ending (take m xs) ≡ true →

@@ -1,5 +1,5 @@
--- An inline layer changes nothing that an outline needs: where the events that the plain layer gives may be outlined, so
--- may those of any layer.
+-- An inline layer changes nothing that an outline needs: where the events that the plain layer gives may be outlined,
+-- so may those of any layer.
 use Rattle.std.proofs.Common.{◌≡◌, ℕ, zero, suc, Bool, true, false, cond, ◌&&◌, ◌||◌, not, List, [], ◌∷◌, ◌++◌, refl}
 use Rattle.std.proofs.Common.{ap, sym, ◌∙◌, subst}
 use Rattle.std.specs.Prelude.{◌==◌, Option, None}
@@ -20,8 +20,8 @@ use Rattle.md_seam.specs.Events.Spelled.{AsCell, AsDelimiter, AsDestination, AsD
 use Rattle.md_seam.specs.Events.Spelled.{AsInfo, AsItemMarker, AsLabel, AsLine, AsMarkers, AsMeta, AsParagraph, AsTitle}
 use Rattle.md_seam.specs.Events.Spelled.{IsEnding, IsPrefix, IsQuiet, IsQuoteMarker, Purpose, Role, TextRole, byte_at}
 use Rattle.md_seam.specs.Events.Spelled.{role, LeafRole}
-use Rattle.md_seam.specs.Events.Tiles.{Tiles, chunks_stand, depth_behind, filled, filled_from, first_list, further_lists}
-use Rattle.md_seam.specs.Events.Tiles.{is_chunk, is_part, parts, plain_lists, plain_read, stands_in_part}
+use Rattle.md_seam.specs.Events.Tiles.{Tiles, chunks_stand, depth_behind, filled, filled_from, first_list}
+use Rattle.md_seam.specs.Events.Tiles.{further_lists, is_chunk, is_part, parts, plain_lists, plain_read, stands_in_part}
 use Rattle.md_seam.proofs.FilledLemmas.{EachInline, chunk-behind, first-inline, further-inline, spelled-filled}
 use Rattle.md_seam.proofs.FilledLemmas.{stands-role}
 use Rattle.md_seam.proofs.NestsLemmas.{tiles-nested}
@@ -64,8 +64,8 @@ part-text _ h = cc
 
 -- Walks.
 
--- A walk over events, which knows where it is: what may stand there, and where it is behind that. In a text part it does
--- not mind what an inline layer gives.
+-- A walk over events, which knows where it is: what may stand there, and where it is behind that. In a text part it
+-- does not mind what an inline layer gives.
 record Walk (S : Type 0) (W : S → List Event → Type 0) : Type 1 where
   May : S → Kind → Role → Point → Type 0
   next : S → Kind → Role → Point → S
@@ -75,7 +75,8 @@ record Walk (S : Type 0) (W : S → List Event → Type 0) : Type 1 where
       May s e.kind (role e.name) e.point × W (next s e.kind (role e.name) e.point) es
   joins : (s : S) (e : Event) (es : List Event) → May s e.kind (role e.name) e.point →
       W (next s e.kind (role e.name) e.point) es → W s (e ∷ es)
-  begins : (s : S) (x : Purpose) (p : Point) → IsPartText x → May s Enter (TextRole x) p → IsText (next s Enter (TextRole x) p)
+  begins : (s : S) (x : Purpose) (p : Point) → IsPartText x → May s Enter (TextRole x) p →
+      IsText (next s Enter (TextRole x) p)
   goes : (s : S) (kind : Kind) (x : Role) (p : Point) → IsText s → QuietOrPrefix x → May s kind x p →
       IsText (next s kind x p)
   keeps : (s : S) (kind : Kind) (x : Role) (p : Point) → IsText s → QuietOrEnding x →
@@ -409,7 +410,8 @@ outlined-filled bytes blocks plain lists stands before each balanced is = record
       (all-walk (λ x p. not (is_told x) || is_between bytes (byte_at p)) (texts-inline bytes)) tt blocks plain lists
       stands before each is.texts;
   parted =
-      walk-filled (Option OpenTextSpan) (λ span es. are_parted bytes span es ≡ true) (parts-walk bytes) None blocks plain lists
+      walk-filled (Option OpenTextSpan) (λ span es. are_parted bytes span es ≡ true) (parts-walk bytes) None
+      blocks plain lists
       stands before each is.parted;
   lists =
       walk-filled Stage (ListsBegin bytes) (lists-walk bytes) AllTold blocks plain lists stands before each is.lists;

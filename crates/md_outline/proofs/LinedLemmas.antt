@@ -1,6 +1,6 @@
 -- Leaf blocks of several lines: an outline shows their lines as they come. Of setext headings `TitledLemmas` has it, of
--- definitions `DefinedLemmas`, and of tables `TabledLemmas`; `LeavesOpen` has what is the same for all, and `LinedSteps`
--- has all of them, event by event.
+-- definitions `DefinedLemmas`, and of tables `TabledLemmas`; `LeavesOpen` has what is the same for all, and
+-- `LinedSteps` has all of them, event by event.
 use Rattle.std.proofs.Common.{◌≡◌, ℕ, ◌+◌, Bool, true, false, cond, ◌==◌, List, [], ◌∷◌, ◌++◌, length}
 use Rattle.std.proofs.Common.{map, refl, sym, ◌∙◌, ap, subst, append_assoc, arith}
 use Rattle.std.specs.Prelude.{None, Option, Some, nat_lt, option_map}
@@ -376,7 +376,8 @@ some-markers [] h = absurd (true≢false h)
 some-markers (b ∷ markers) h = go (length (b ∷ markers) == 0) refl
   where
     go : (x : Bool) → (length (b ∷ markers) == 0) ≡ x → (length (b ∷ markers) == 0) ≡ false
-    go true e = let zero : length (b ∷ markers) ≡ 0 = eqb-true (length (b ∷ markers)) 0 e in absurd (omega (arith, zero))
+    go true e = let zero : length (b ∷ markers) ≡ 0 =
+        eqb-true (length (b ∷ markers)) 0 e in absurd (omega (arith, zero))
     go false e = e
 
 closes-leaf : (kind : LeafKind) (markers : List ℕ) (fenced : Bool) (info meta : Option (List ℕ)) (lines : List Line) →
@@ -393,7 +394,8 @@ is-fenced : (kind : LeafKind) (markers : List ℕ) (fenced : Bool) → HasFences
 is-fenced OfFence markers fenced h m = m.0
 is-fenced _ markers fenced h m = search
 
-closes-word : (kind : LeafKind) (b : ℕ) → HasFences kind → closed_word (lined_word kind b false) ≡ lined_word kind b true
+closes-word : (kind : LeafKind) (b : ℕ) → HasFences kind →
+    closed_word (lined_word kind b false) ≡ lined_word kind b true
 closes-word OfFence b h = refl
 closes-word _ b h = search
 

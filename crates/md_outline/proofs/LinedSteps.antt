@@ -100,7 +100,8 @@ markers_noted bytes q p s = told_leaf note.Markers (line_to bytes q p).text (rec
 -- a text of it ends
 text-agrees : (bytes : List ℕ) (kind : LeafKind) (y x : spelled.Purpose) (p : Point) (s : OutlineState)
     (r : Reading) → SameText y x → InTextOf kind y s r × ((q : Point) × TextFrom q s r) →
-    AgreesWithin (text_site kind y) AllTold (state_exit bytes (shown_as (TextRole x)) p s) (read_exit bytes (TextRole x) p r)
+    AgreesWithin (text_site kind y) AllTold (state_exit bytes (shown_as (TextRole x)) p s)
+    (read_exit bytes (TextRole x) p r)
 text-agrees bytes kind AsInfo AsInfo p s r same is =
     let line : Line = line_to bytes is.1.0 p in
     text-ends (AgreesIn (AtMeta kind)) bytes is.1.0 p AsInfo (purpose.Part word.Info) s r is.1.1
@@ -306,7 +307,8 @@ agrees-site bytes Outside AllTold Enter (LeafRole OfMath) p s r h fresh k d may 
     let begins = leaf-begins bytes OfMath (word.Math false) p s r (no-span bytes OfMath p s.text refl k) is in
     (tt, begins.0, begins.1)
 agrees-site bytes Outside AllTold Enter (LeafRole OfFrontmatter) p s r h fresh k d may stands is =
-    let begins = leaf-begins bytes OfFrontmatter (word.Frontmatter 0) p s r (no-span bytes OfFrontmatter p s.text refl k)
+    let begins =
+    leaf-begins bytes OfFrontmatter (word.Frontmatter 0) p s r (no-span bytes OfFrontmatter p s.text refl k)
     is in
     (tt, begins.0, begins.1)
 agrees-site bytes Outside AllTold Enter (LeafRole OfHeadingSetext) p s r h fresh k d may stands is =

@@ -242,7 +242,8 @@ passes-gap bytes es h = passes-lines bytes BehindTitle es tt h
 pub passes-underline : (bytes : List ℕ) (name : Name) (p q : Point) (es : List Event) →
     role name ≡ TextRole AsMarkers → Roles Quiet es → Passes bytes BehindTitle BehindUnderline (around name p q es)
 passes-underline bytes name p q es is h =
-    passes-around bytes BehindTitle InUnderline InUnderline BehindUnderline (TextRole AsMarkers) name p q es is (tt, refl)
+    passes-around bytes BehindTitle InUnderline InUnderline BehindUnderline (TextRole AsMarkers) name p q es
+    is (tt, refl)
     (passes-quiet bytes InUnderline es h) (tt, refl)
 
 -- all of it

@@ -170,7 +170,8 @@ list-begins bytes shape p s r h k is =
 -- its first item begins
 item-begins : (bytes : List ℕ) (shape : Shape) (m : ℕ) (d : List ℕ) (p : Point) (s : OutlineState) (r : Reading) →
     m ≡ 0 → is_unparted s.text ≡ true → AwaitsItem shape s r →
-    AwaitsMarker shape (state_enter bytes (role.Container word.Item) p s) (read_enter bytes (ContainerRole (ItemShape m d)) p r)
+    AwaitsMarker shape (state_enter bytes (role.Container word.Item) p s)
+    (read_enter bytes (ContainerRole (ItemShape m d)) p r)
 item-begins bytes shape m d p s r zero k is =
     let before : List Entry = shown is.outer is.before in
     let list : Entry = entry (depth_of is.outer) (word.List 0) in
@@ -324,7 +325,8 @@ pub agrees-stage : (bytes : List ℕ) (stage : Stage) (kind : Kind) (x : spelled
 agrees-stage bytes AllTold Enter (ContainerRole OrderedShape) p s r h fresh k d may is =
     list-begins bytes OrderedShape p s r tt (apart bytes Enter (ContainerRole OrderedShape) p s.text (λ t. refl) k) is
 agrees-stage bytes AllTold Enter (ContainerRole UnorderedShape) p s r h fresh k d may is =
-    list-begins bytes UnorderedShape p s r tt (apart bytes Enter (ContainerRole UnorderedShape) p s.text (λ t. refl) k) is
+    list-begins bytes UnorderedShape p s r tt
+    (apart bytes Enter (ContainerRole UnorderedShape) p s.text (λ t. refl) k) is
 agrees-stage bytes AllTold Exit (ContainerRole OrderedShape) p s r h fresh k d may is =
     agrees-left s r r.outer refl (apart bytes Exit (ContainerRole OrderedShape) p s.text (λ t. refl) k) is
 agrees-stage bytes AllTold Exit (ContainerRole UnorderedShape) p s r h fresh k d may is =
@@ -378,7 +380,8 @@ agrees-stage bytes AtLabel Exit (TextRole AsFootnoteLabel) p s r h fresh k d may
 agrees-stage bytes AtLabel _ _ p s r h fresh k d may is = absurd may
 
 -- where no container is open, the lines are those of the tree
-none-opened : (outer : List OpenContainer) (a : OpenContainer) (arounds : List OpenContainer) → outer ≡ a ∷ arounds → outer ≡ [] → ⊥
+none-opened : (outer : List OpenContainer) (a : OpenContainer) (arounds : List OpenContainer) → outer ≡ a ∷ arounds →
+    outer ≡ [] → ⊥
 none-opened outer a arounds h e =
     let same : depth_of arounds + 1 ≡ 0 = ap depth_of (sym h ∙ e) in
     omega (arith, same)

@@ -144,7 +144,8 @@ whole-piece bytes p before depth lines span text h k =
     ∙ ap (λ i. slice_range bytes i p.index) k.0
 
 -- a text that is a block of its own
-agrees-block : (bytes : List ℕ) (x : spelled.Purpose) (p : Point) (s : OutlineState) (r : Reading) (span : Option TextSpan)
+agrees-block : (bytes : List ℕ) (x : spelled.Purpose) (p : Point) (s : OutlineState) (r : Reading)
+    (span : Option TextSpan)
     (text : Option Text) → IsBlock x → TextIs (shown r.outer r.here) s.depth s.lines span text →
     parts_by bytes Exit (TextRole x) p span ≡ true → Agrees s r →
     Agrees (told_at bytes purpose.Block p.index span s) (spelled.told_at bytes x p text r)
@@ -319,8 +320,8 @@ agrees-gone_on p before depth lines (Some span) (Some text) h = (refl, h.1)
 agrees-gone_on p before depth lines _ _ h = absurd h
 
 -- a container ends
-pub agrees-left : (s : OutlineState) (r : Reading) (outer : List OpenContainer) → r.outer ≡ outer → is_unparted s.text ≡ true →
-    Agrees s r → Agrees (record s { depth = s.depth - 1 }) (left outer r)
+pub agrees-left : (s : OutlineState) (r : Reading) (outer : List OpenContainer) → r.outer ≡ outer →
+    is_unparted s.text ≡ true → Agrees s r → Agrees (record s { depth = s.depth - 1 }) (left outer r)
 agrees-left s r [] e h is =
     let none : depth_of r.outer ≡ 0 = ap depth_of e in
     record {
@@ -531,11 +532,13 @@ agrees-exit bytes p = record {
       (agrees-leaf s r r.leaf (apart bytes Exit (LeafRole kind) p s.text (λ t. refl) k) d is);
   block = λ x by may s r k d is. agrees-block bytes x p s r s.text r.text by is.text k is;
   markers = λ may s r k d is.
-      agrees-markers bytes p s r s.text r.text is.text (apart bytes Exit (TextRole AsMarkers) p s.text (λ t. refl) k) is;
+      agrees-markers bytes p s r s.text r.text is.text
+      (apart bytes Exit (TextRole AsMarkers) p s.text (λ t. refl) k) is;
   digits = λ may s r k d is.
       agrees-digits bytes p s r s.text r.text is.text (apart bytes Exit (TextRole AsDigits) p s.text (λ t. refl) k) is;
   marker = λ may s r k d is.
-      agrees-marker bytes p s r s.text r.text is.text (apart bytes Exit (TextRole AsItemMarker) p s.text (λ t. refl) k) is;
+      agrees-marker bytes p s r s.text r.text is.text
+      (apart bytes Exit (TextRole AsItemMarker) p s.text (λ t. refl) k) is;
   label = λ may. absurd may;
   ending = λ may s r k d is. agrees-ending bytes p s r is;
   quote_marker = λ may s r k d is. is;

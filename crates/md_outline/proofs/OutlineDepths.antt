@@ -39,7 +39,8 @@ depth-enter bytes IsQuoteMarker p r =
     (λ kind. depth-renamed (with_kind kind) r.outer)
 depth-enter bytes _ p r = refl
 
-depth-left : (outer : List OpenContainer) (r : Reading) → r.outer ≡ outer → depth_of (left outer r).outer ≡ depth_of outer - 1
+depth-left : (outer : List OpenContainer) (r : Reading) → r.outer ≡ outer →
+    depth_of (left outer r).outer ≡ depth_of outer - 1
 depth-left [] r e = ap depth_of e
 depth-left (around ∷ outer) r e = omega arith
 

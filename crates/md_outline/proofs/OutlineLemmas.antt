@@ -204,7 +204,8 @@ lines-end bytes part span end text x y s lines alone is same epart reads cut =
 -- a run of markers ends
 pub markers-end : (bytes part : List ℕ) (span : TextSpan) (end : ℕ) (text : Option TextSpan) (x : Purpose)
     (s middle next : OutlineState) → text ≡ Some span → x ≡ purpose.Markers →
-    part ≡ slice_range bytes span.from end → (IsUtf8 part → middle ≡ told_leaf note.Markers part (record s { text = None })) →
+    part ≡ slice_range bytes span.from end →
+    (IsUtf8 part → middle ≡ told_leaf note.Markers part (record s { text = None })) →
     next ≡ head_marked middle.lined part middle → IsCutAt bytes text end → next ≡ told_at bytes x end text s
 markers-end bytes part span end text x s middle next is same epart reads marks =
     text-end bytes part span end text x purpose.Markers s next is same epart

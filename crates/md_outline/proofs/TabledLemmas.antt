@@ -342,7 +342,8 @@ agrees-spot bytes BehindHead Exit IsEnding p s r may is =
     gap-line (Filled HeadRow) bytes p s r is.0.1.0 refl (is.0.0, (known-next next_line is.0.1.0 refl, is.0.1.1)) is
 agrees-spot bytes BehindHead Enter (TextRole AsDelimiter) p s r may is = (is.0, (p, from-here p s r))
 agrees-spot bytes InDelimiter Exit (TextRole AsDelimiter) p s r may is = delimiter-ends bytes is.1.0 p s r is.0 is.1.1
-agrees-spot bytes BehindRow Enter IsPrefix p s r may is = prefix-enter Rows bytes p s r (λ s r span spaces text is. is) is
+agrees-spot bytes BehindRow Enter IsPrefix p s r may is =
+    prefix-enter Rows bytes p s r (λ s r span spaces text is. is) is
 agrees-spot bytes BehindRow Exit IsPrefix p s r may is = prefix-exit Rows bytes p s r (λ s r span spaces text is. is) is
 agrees-spot bytes BehindRow Enter IsEnding p s r may is = is
 agrees-spot bytes BehindRow Exit IsEnding p s r may is =

@@ -19,19 +19,21 @@ PassesIn bytes from to es = Passes bytes (InTable from) (InTable to) es
 pub passes-table : (bytes : List ℕ) (name : Name) (p q : Point) (es : List Event) → role name ≡ LeafRole OfTable →
     PassesIn bytes AtHead BehindRow es → Passes bytes Outside Outside (around name p q es)
 passes-table bytes name p q es is h =
-    passes-around bytes Outside (InTable AtHead) (InTable BehindRow) Outside (LeafRole OfTable) name p q es is (tt, refl) h
+    passes-around bytes Outside (InTable AtHead) (InTable BehindRow) Outside (LeafRole OfTable) name p q es is
+    (tt, refl) h
     (tt, refl)
 
 -- What the tree does not show may stand everywhere,
-pub passes-unshown : (bytes : List ℕ) (spot : TablePlace) (es : List Event) → Roles Quiet es → PassesIn bytes spot spot es
+pub passes-unshown : (bytes : List ℕ) (spot : TablePlace) (es : List Event) → Roles Quiet es →
+    PassesIn bytes spot spot es
 passes-unshown bytes spot es h = passes-quiet bytes (InTable spot) es h
 
 -- and endings and prefixes between its rows.
 abbrev pub IsBetweenRows : TablePlace → Type 0
 IsBetweenRows spot = TakesLines (InTable spot)
 
-pub passes-between_rows : (bytes : List ℕ) (spot : TablePlace) (es : List Event) → IsBetweenRows spot → Roles Between es →
-    PassesIn bytes spot spot es
+pub passes-between_rows : (bytes : List ℕ) (spot : TablePlace) (es : List Event) → IsBetweenRows spot →
+    Roles Between es → PassesIn bytes spot spot es
 passes-between_rows bytes spot es between h = passes-lines bytes (InTable spot) es between h
 
 -- Its rows: the head,
@@ -42,8 +44,8 @@ passes-head bytes name p q es is h =
     name p q es is (tt, refl) h (tt, refl)
 
 -- the delimiter row,
-pub passes-delimiter : (bytes : List ℕ) (name : Name) (p q : Point) (es : List Event) → role name ≡ TextRole AsDelimiter →
-    Roles Quiet es → PassesIn bytes BehindHead BehindRow (around name p q es)
+pub passes-delimiter : (bytes : List ℕ) (name : Name) (p q : Point) (es : List Event) →
+    role name ≡ TextRole AsDelimiter → Roles Quiet es → PassesIn bytes BehindHead BehindRow (around name p q es)
 passes-delimiter bytes name p q es is h =
     passes-around bytes (InTable BehindHead) (InTable InDelimiter) (InTable InDelimiter) (InTable BehindRow)
     (TextRole AsDelimiter) name p q es is (tt, refl) (passes-unshown bytes InDelimiter es h) (tt, refl)
@@ -52,7 +54,8 @@ passes-delimiter bytes name p q es is h =
 pub passes-body_row : (bytes : List ℕ) (name : Name) (p q : Point) (es : List Event) → role name ≡ IsRow →
     PassesIn bytes (InRow BodyRow) (InRow BodyRow) es → PassesIn bytes BehindRow BehindRow (around name p q es)
 passes-body_row bytes name p q es is h =
-    passes-around bytes (InTable BehindRow) (InTable (InRow BodyRow)) (InTable (InRow BodyRow)) (InTable BehindRow) IsRow
+    passes-around bytes (InTable BehindRow) (InTable (InRow BodyRow)) (InTable (InRow BodyRow))
+    (InTable BehindRow) IsRow
     name p q es is (tt, refl) h (tt, refl)
 
 -- A cell of a row, around its text,

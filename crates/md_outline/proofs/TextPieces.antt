@@ -55,7 +55,8 @@ pieces-next before begin depth lines false front piece h blank k = (
   full_entries depth piece,
   (
     ap (λ es. (es ++ begin) ++ full_entries depth piece) k.0,
-    λ rest no. ap (λ f. text_entries depth ((f ++ piece) ++ rest)) k.1 ∙ piece-entries word.Line depth piece rest no blank,
+    λ rest no. ap (λ f. text_entries depth ((f ++ piece) ++ rest)) k.1
+        ∙ piece-entries word.Line depth piece rest no blank,
   ),
 )
 pieces-next before begin depth lines true front piece h blank k =

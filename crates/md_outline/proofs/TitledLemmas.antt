@@ -39,7 +39,8 @@ Titled heading marked s r = Known (HeadingSetextLeaf heading) form.Heading marke
 -- and of what was shown of it: its lines, as if it ended here, with this depth
 abbrev pub Headed : ℕ → HeadingSoFar → Bool → OutlineState → Reading → Type 0
 Headed level heading marked s r =
-    Shows (HeadingSetextLeaf heading) form.Heading marked (λ depth. block_entries depth (Heading level heading.text)) s r
+    Shows (HeadingSetextLeaf heading) form.Heading marked
+    (λ depth. block_entries depth (Heading level heading.text)) s r
 
 -- with these lines, in front of its markers
 abbrev pub some_lines : List (List ℕ) → HeadingSoFar
@@ -112,7 +113,8 @@ title-from p before depth lines (Some span) (Some text) h = (refl, h.1)
 title-from p before depth lines _ _ h = absurd h
 
 -- a line ending is a part of it
-line-stays : (bytes : List ℕ) (p : Point) (s : OutlineState) (r : Reading) (before : List Entry) (span : Option TextSpan)
+line-stays : (bytes : List ℕ) (p : Point) (s : OutlineState) (r : Reading) (before : List Entry)
+    (span : Option TextSpan)
     (text : Option Text) → TitleIs before s.depth s.lines span text → InText s r →
     InText (line_ended bytes p.index s.lined span s) (at_ending bytes p text r)
 line-stays bytes p s r before (Some span) (Some text) h is =
@@ -146,8 +148,8 @@ all-shown bytes p s r span text k h =
     ++ block_entries s.depth (Heading 0 (trim_each (split_lines (text.front ++ slice_range bytes i p.index)))))
     (sym h.0)
 
-text-told : (bytes : List ℕ) (p : Point) (s : OutlineState) (r : Reading) (span : Option TextSpan) (text : Option Text) →
-    parts_by bytes Exit (TextRole AsHeading) p span ≡ true → Titled no_heading false s r →
+text-told : (bytes : List ℕ) (p : Point) (s : OutlineState) (r : Reading) (span : Option TextSpan)
+    (text : Option Text) → parts_by bytes Exit (TextRole AsHeading) p span ≡ true → Titled no_heading false s r →
     TitleIs (head_lines s r) s.depth s.lines span text →
     Unmarked (told_at bytes purpose.Title p.index span s) (spelled.told_at bytes AsHeading p text r)
     × NoText (told_at bytes purpose.Title p.index span s) (spelled.told_at bytes AsHeading p text r)

@@ -1,8 +1,8 @@
 -- Leaf blocks of several lines as an outline can show them: each has its parts in the order of the grammar, and one
 -- piece of text a line at the most. Frontmatter is such a leaf block, with the parts of fenced code but `info` and
 -- `meta`. So are setext headings and definitions, of whose texts each line is one piece, and tables (`TableSpots`);
--- what is asked of an ATX heading is that container prefixes stand in front of its text or behind it. A line ending in a
--- text that an inline layer reads is a part of it, and may stand anywhere there. A marker of a quote may be anywhere;
+-- what is asked of an ATX heading is that container prefixes stand in front of its text or behind it. A line ending in
+-- a text that an inline layer reads is a part of it, and may stand anywhere there. A marker of a quote may be anywhere;
 -- in a leaf block it changes nothing.
 --
 -- A walk over the events by their roles, which knows where in such a leaf block it is.

@@ -91,7 +91,8 @@ parts_enter bytes _ p text = not text.is_parted
 
 abbrev pub parts_exit : List ℕ → Role → Point → TextSpan → Bool
 parts_exit bytes IsPrefix p text = is_between bytes (byte_at p)
-parts_exit bytes (TextRole x) p text = if may_part x then begins_line text (piece_to bytes p text) else not text.is_parted
+parts_exit bytes (TextRole x) p text =
+    if may_part x then begins_line text (piece_to bytes p text) else not text.is_parted
 parts_exit bytes IsEnding p text = true
 parts_exit bytes IsQuoteMarker p text = true
 parts_exit bytes IsQuiet p text = true

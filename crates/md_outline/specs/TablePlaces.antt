@@ -1,6 +1,6 @@
--- Tables as an outline can show them (GFM 4.10): a head row, behind that the delimiter row, and then further rows. A row
--- has its cells one behind the other, and a cell has one text at the most. Line endings and container prefixes stand
--- between the rows; a line ending in the text of a cell is a part of it.
+-- Tables as an outline can show them (GFM 4.10): a head row, behind that the delimiter row, and then further rows. A
+-- row has its cells one behind the other, and a cell has one text at the most. Line endings and container prefixes
+-- stand between the rows; a line ending in the text of a cell is a part of it.
 --
 -- Where in a table one is, and what may stand there, is a matter of the roles of the events alone.
 use Rattle.std.specs.Prelude.{Option, Some, None}

@@ -193,7 +193,8 @@ impl<'a> Reading<'a> {
     /// Reads the delimiter row of a table.
     fn end_delimiter(&mut self, text: &'a [u8]) -> Result<(), Message>
         ensures bytes { self.new.bytes ≡ self.old.bytes }
-        ensures read { OnOk result (IsUtf8 text.now → state_of self.new ≡ delimiter_ended text.now (state_of self.old)) }
+        ensures read { OnOk result
+            (IsUtf8 text.now → state_of self.new ≡ delimiter_ended text.now (state_of self.old)) }
     {
         if let Some(lined) = self.lined {
             self.lined = Some(Lined {
@@ -334,7 +335,9 @@ impl<'a> Reading<'a> {
     fn go_on(&mut self, place: usize)
         ensures bytes { self.new.bytes ≡ self.old.bytes }
         ensures read { state_of self.new ≡
-            record (state_of self.old) { text = option_map (λ (t : TextSpan). record t { from = place }) self.old.text } }
+            record (state_of self.old) {
+              text = option_map (λ (t : TextSpan). record t { from = place }) self.old.text;
+            } }
     {
         if let Some(TextSpan { is_parted, .. }) = self.text {
             self.text = Some(TextSpan {

@@ -1,4 +1,5 @@
-// What turns a text into an outline: the part in which the programs that print one differ. The bench also takes its events.
+// What turns a text into an outline: the part in which the programs that print one differ. The bench also takes its
+// events.
 ghost use Rattle.std.specs.Prelude.{◌≡◌, ◌≤◌, List, ℕ, length, IfOk};
 ghost use Rattle.md_engine.specs.declared.configuration.ParseOptions.{ParseOptions};
 ghost use Rattle.md_program.specs.Listing.{Listing, listing_of};

@@ -58,8 +58,8 @@ fn push_line(text: &mut String, line: &OutlineLine) -> Result<(), AllocError>
     text.push('\n')
 }
 
-/// Puts two spaces a depth behind the text, and a word: at once for the lines of blocks that are not deep, which are the
-/// most.
+/// Puts two spaces a depth behind the text, and a word: at once for the lines of blocks that are not deep, which are
+/// the most.
 #[inline(always)]
 fn push_front(text: &mut String, depth: usize, word: Word) -> Result<(), AllocError>
     ensures { OnOk result

@@ -51,7 +51,8 @@ AskedHas w = HasPrefix w.flags.asked w.flags.asked.kind w
 
 pub asked-prefix : (w : World) → (at_once : GoesAtOnce w) → AskedHas (asking_next w)
 asked-prefix w at_once =
-    subst AskedHas (sym (asked w at_once)) ((plain-laws at_once.held.kind).asked w at_once.held at_once.held at_once.prefix)
+    subst AskedHas (sym (asked w at_once))
+    ((plain-laws at_once.held.kind).asked w at_once.held at_once.held at_once.prefix)
 
 -- the prefix of the one that is asked was taken
 abbrev pub asked_taken : World → World

@@ -217,7 +217,8 @@ construct-does name w c at = absurd at
 -- takes one step of its rule,
 pub construct-steps : (feed : Feed) (next : Rule) (name : StateName)
     (w : World) →
-    Sees feed w → w.current ≡ looks w → (construct_owner name).ready name (position w) (after_all flow_table_scheme w.frames) →
+    Sees feed w → w.current ≡ looks w →
+    (construct_owner name).ready name (position w) (after_all flow_table_scheme w.frames) →
     Steps (flow_behaves_by w.setting.bytes w.setting.options next) feed (Next name) w
     (construct_transition name w).to
     (construct_transition name w).world

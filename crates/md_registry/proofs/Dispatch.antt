@@ -1,5 +1,5 @@
--- By the first byte of the rest of a line: the leaves outside its row refuse, so those of the row give what all do, tried
--- in order.
+-- By the first byte of the rest of a line: the leaves outside its row refuse, so those of the row give what all do,
+-- tried in order.
 use Rattle.std.proofs.Common.{◌≡◌, ◌∙◌, ◌<◌, ◌+◌, ◌*◌, ℕ, Bool, true, false, cond, ◌||◌, not, List, [], ◌∷◌, length, ap}
 use Rattle.std.proofs.Common.{arith, nat_eq, refl, subst, sym}
 use Rattle.std.specs.Prelude.{◌==◌, Some}

@@ -78,7 +78,8 @@ own_means options feed document.BeforeFrontmatter w at =
     (resumed options feed Ok w (front_at options (feed w.point) (here w)))
 own_means options feed state w at = absurd at
 
-front-at : (state : DocumentState) (w : World) → stands document_table_scheme w (Next (n.Document state)) → IsFront state
+front-at : (state : DocumentState) (w : World) → stands document_table_scheme w (Next (n.Document state)) →
+    IsFront state
 front-at document.Start w at = tt
 front-at document.BeforeFrontmatter w at = tt
 front-at _ w at = absurd at

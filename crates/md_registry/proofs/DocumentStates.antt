@@ -97,8 +97,8 @@ own_terminates document.Start w r = start_ends w r
 own_terminates document.BeforeFrontmatter w r = front_ends w r
 own_terminates state w r = absurd r
 
-pub document_terminates : (name : StateName) (w : World) → w.current ≡ looks w → stands document_table_scheme w (Next name) →
-    Does document_table_scheme name w (document_transition name w)
+pub document_terminates : (name : StateName) (w : World) → w.current ≡ looks w →
+    stands document_table_scheme w (Next name) → Does document_table_scheme name w (document_transition name w)
 document_terminates (n.Bom state) w c r = bom_terminates document_table_scheme state w bom_fits c r
 document_terminates (n.Frontmatter state) w c r = front_terminates document_table_scheme state w front_fits c r
 document_terminates (n.SpaceOrTab state) w c r = white_terminates document_table_scheme state w white_fits c r

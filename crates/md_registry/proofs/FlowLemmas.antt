@@ -1,5 +1,6 @@
 -- Flow goes line by line.
-use Rattle.std.proofs.Common.{◌≡◌, ℕ, zero, suc, ◌<◌, ◌≤◌, Bool, true, false, cond, nat_eq, List, [], ◌∷◌, length, Option, Some, None}
+use Rattle.std.proofs.Common.{◌≡◌, ℕ, zero, suc, ◌<◌, ◌≤◌, Bool, true, false, cond, nat_eq}
+use Rattle.std.proofs.Common.{List, [], ◌∷◌, length, Option, Some, None}
 use Rattle.md_registry.specs.Registry.{asked_first, bars_containers, begins_at, continues_at, leaf, openers, trials}
 use Rattle.md_registry.specs.FlowRule.{all_on, blank_at_end, inside_by, inside_of, behind_leaf, asking_here}
 use Rattle.md_registry.specs.FlowRule.{behind_containers, blank_ended, ended, ended_to, existing_by, existing_at}
@@ -54,7 +55,8 @@ ended-same n f g agree (c ∷ cs) h le =
     ap (λ (o : Outcome). cond (nat_eq c.byte 10) o (Refuses h.scratch h.flags)) (agree cs _ (omega arith))
 
 line_ended-same : (n : ℕ) (f g : Rule) → Agree n f g → AgreeAt n (line_ended f) (line_ended g)
-line_ended-same n f g agree cells h le = ended-same n f g agree cells (ended_to (kept_containers h.flags) h.flags.line_end h) le
+line_ended-same n f g agree cells h le =
+    ended-same n f g agree cells (ended_to (kept_containers h.flags) h.flags.line_end h) le
 
 blank_ended-same : (n : ℕ) (f g : Rule) → Agree n f g → AgreeAt n (blank_ended f) (blank_ended g)
 blank_ended-same n f g agree cells h le = line_ended-same n f g agree cells (record h { flags = blanked h.flags }) le
@@ -88,7 +90,8 @@ leaves_of-same options f g [] cells h agree =
     tried-same _ (line_ended f) (line_ended g) (line_ended-same _ f g agree) (chunk_at cells h) Refuses Refuses
     (chunk_at-shrinks cells h) (λ s t. refl)
 leaves_of-same options f g (l ∷ ls) cells h agree =
-    tried-same _ (behind_leaf (leaf l).ends f) (behind_leaf (leaf l).ends g) (behind_leaf-same _ f g (leaf l).ends agree)
+    tried-same _ (behind_leaf (leaf l).ends f) (behind_leaf (leaf l).ends g)
+    (behind_leaf-same _ f g (leaf l).ends agree)
     ((leaf l).trial options cells h) _ _
     ((laws l).shrinks options cells h)
     (λ s t. leaves_of-same options f g ls cells (record h { scratch = s; flags = t }) agree)
@@ -136,7 +139,8 @@ unfolding new_from
 new_from-same options f g zero cells h agree =
     behind_containers-same options f g cells h agree
 new_from-same options f g (suc n) cells h agree =
-    opens_of-same options (λ rest k. new_from options f n rest (opened k)) (λ rest k. new_from options g n rest (opened k))
+    opens_of-same options (λ rest k. new_from options f n rest (opened k))
+    (λ rest k. new_from options g n rest (opened k))
     (behind_containers options f) (behind_containers options g) openers cells h
     (λ rest k lt. new_from-same options f g n rest (opened k) (λ cs j less. agree cs j (omega (arith, less, lt))))
     (λ k. behind_containers-same options f g cells k agree)

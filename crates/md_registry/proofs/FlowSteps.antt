@@ -356,7 +356,9 @@ before_content_means B feed w options next has =
 -- behind an ending that is taken here
 abbrev pub behind_ending : World → World
 behind_ending v =
-    record (exited (taken (entered v (ending_name v.flags.blank))) (ending_name v.flags.blank)) { flags = next_line (length v.events) v.flags }
+    record (exited (taken (entered v (ending_name v.flags.blank))) (ending_name v.flags.blank)) {
+      flags = next_line (length v.events) v.flags;
+    }
 
 -- and what is left behind it is what the rule makes of the rest
 pub ending_left : (feed : Feed) (v : World) (next : Rule) (b : ℕ) → nat_eq b 10 ≡ true →

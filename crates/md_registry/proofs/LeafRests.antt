@@ -44,7 +44,8 @@ taken-or-not false o a h is fine took refused = subst RestsAfter (sym (refused r
 
 pub heading-rests : Rests HeadingAtx
 heading-rests options cells h is =
-    taken-or-not ((leaf HeadingAtx).takes options h.flags.leaf cells) _ _ h is tt (heading.trial-took options cells h is)
+    taken-or-not ((leaf HeadingAtx).takes options h.flags.leaf cells) _ _ h is tt
+    (heading.trial-took options cells h is)
     (heading.trial-refused options cells h is)
 
 pub setext-rests : Rests HeadingSetext

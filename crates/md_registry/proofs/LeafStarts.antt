@@ -155,7 +155,8 @@ lost-none options at r depth may some no_table =
 not-small : (options : ParseOptions) (r : Rest) → options.constructs.code_indented ≡ true → nat_le 4 (indent r) ≡ true →
     has_small_indent options r ≡ false
 not-small options r on far =
-    ap (λ (x : Bool). not x || nat_le (indent r) 3) on ∙ (let few : nat_le (indent r) 3 ≡ false = grind (arith, nat_tests) in few)
+    ap (λ (x : Bool). not x || nat_le (indent r) 3) on
+    ∙ (let few : nat_le (indent r) 3 ≡ false = grind (arith, nat_tests) in few)
 
 fence-none : (options : ParseOptions) (r : Rest) → has_small_indent options r ≡ false →
     is_some (fence_at options r) ≡ false

@@ -45,7 +45,8 @@ use Rattle.md_registry.specs.States.{FlowStep, flow_transition}
 use Rattle.md_registry.proofs.ConstructStates.{NextOpener, container-states}
 use Rattle.md_registry.proofs.Openers.{at-opener}
 use Rattle.md_registry.proofs.Dispatch.{common-row}
-use Rattle.md_tables.specs.GfmTable.{begins_code as table_begins, may_begin as may_table, start_transition as table_start}
+use Rattle.md_tables.specs.GfmTable.{begins_code as table_begins, may_begin as may_table}
+use Rattle.md_tables.specs.GfmTable.{start_transition as table_start}
 use Rattle.std.proofs.Math.Bool.{or-true}
 use Rattle.std.proofs.lemmas.List.{take_all}
 use Rattle.md_engine.specs.Run.Runs.{ThenLeaves}
@@ -251,11 +252,16 @@ content-follows is_end s v w e seen within came = go w.current refl e
         let first : looks_behind begun ≡ Some b = looks-dark begun b here dark.0 in
         let refuses : table_start begun ≡ record { to = Nok; world = begun } =
         ap (table_begins begun) (ap (may_with (may_table on)) first ∙ none) in
-        let back = then-fails T is_end s v (leaf GfmTable).start (n.Flow flow.BeforeContent) begun begun f w.frames trial
-        (record { to_is = sym (ap (λ (y : Transition). y.to) refuses); new_is = sym (ap (λ (y : Transition). y.world) refuses) })
+        let back =
+        then-fails T is_end s v (leaf GfmTable).start (n.Flow flow.BeforeContent) begun begun f w.frames trial
+        (record {
+          to_is = sym (ap (λ (y : Transition). y.to) refuses);
+          new_is = sym (ap (λ (y : Transition). y.world) refuses);
+        })
         refl refl (within-one f w.frames (length w.events) (omega arith) within) refl refl refl within in
         subst (λ (x : World). CameTo T is_end s v (n.Flow flow.BeforeContent) x)
-        (reading-same w seen) (subst (λ (es : List Event). CameTo T is_end s v (n.Flow flow.BeforeContent) (reading (record w { events = es })))
+        (reading-same w seen) (subst (λ (es : List Event). CameTo T is_end s v (n.Flow flow.BeforeContent)
+        (reading (record w { events = es })))
         (take_all (length w.events) w.events (omega arith)) back)
 
 -- What a call leaves: where it kept_containers, it has gone nowhere, and the text is the same.

@@ -99,7 +99,10 @@ bullet-opens is_end s v w came seen within plain =
         (record { byte = marker; here = is; none = bullets-refused marker plain.bullet }) seen within came
 
     begun : new_before_transition kind.ListItem a ≡
-        record { to = Retry (n.ListItem its.Start); world = tried b (Next (n.Document document.ContainerNewAfter)) none }
+        record {
+          to = Retry (n.ListItem its.Start);
+          world = tried b (Next (n.Document document.ContainerNewAfter)) none;
+        }
     begun =
         ap
         (λ (o : Option ℕ).

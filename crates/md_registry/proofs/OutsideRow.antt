@@ -81,15 +81,15 @@ fence-outside options column b bytes dark money tick wave =
     rw (parts.1, parts.0, money, tick, wave, or-true (not options.constructs.code_indented))
     (off-third options.constructs.code_fenced _ _ _)
 
-break-outside : (options : ParseOptions) (column b : ℕ) (bytes : List ℕ) → is_white b ≡ false → is_rule_marker b ≡ false →
-    break_at options (begun column b bytes) ≡ None
+break-outside : (options : ParseOptions) (column b : ℕ) (bytes : List ℕ) → is_white b ≡ false →
+    is_rule_marker b ≡ false → break_at options (begun column b bytes) ≡ None
 unfolding break_at
 break-outside options column b bytes dark other =
     let parts = or_parts (b == space) (b == tab) dark in
     rw (parts.1, parts.0, other) (off _ _)
 
-html-outside : (options : ParseOptions) (column b : ℕ) (bytes : List ℕ) → is_white b ≡ false → (b == less_than) ≡ false →
-    (against : ParagraphContext) → html_at options against (begun column b bytes) ≡ None
+html-outside : (options : ParseOptions) (column b : ℕ) (bytes : List ℕ) → is_white b ≡ false →
+    (b == less_than) ≡ false → (against : ParagraphContext) → html_at options against (begun column b bytes) ≡ None
 unfolding html_at html_kind
 html-outside options column b bytes dark other against =
     let parts = or_parts (b == space) (b == tab) dark in

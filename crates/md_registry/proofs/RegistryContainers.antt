@@ -221,7 +221,8 @@ opens-read options interrupting r =
 -- over an empty line a container goes on as it is, or it does not
 pub over-empty : (options : ParseOptions) (c : Container) (column : ℕ) → IsRead c →
     (x : Bool)
-    × (continues options c (rest_at column []) ≡ cond x (Some (record { container = c; rest = rest_at column [] })) None)
+    × (continues options c (rest_at column []) ≡
+    cond x (Some (record { container = c; rest = rest_at column [] })) None)
 over-empty options c column h =
     let k = read-kind c h in
     let held = (container-laws k.0).may_hold c k.1 in

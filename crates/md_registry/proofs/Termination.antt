@@ -24,8 +24,8 @@ pub record InsideFits (T : Scheme) (start : StateName) : Type 1 where
   pub level : own.level start < 3
   pub ready : (x : Position) (K : After) → rest_ready x K → own.ready start x K
 
--- what is known of the position where a container is tried, and of the one where an open one is asked: there the line does
--- not end
+-- what is known of the position where a container is tried, and of the one where an open one is asked: there the line
+-- does not end
 abbrev pub Anywhere : Position → Type 0
 Anywhere x = Unit {0}
 
@@ -37,7 +37,8 @@ pub record ContainerFits (T : Scheme) (Where : Position → Type 0) (start : Sta
   pub own : Scheme
   pub starts : Fits T own start
   pub level : own.level start < 3
-  pub ready : (x : Position) (K : After) → IsRest x.scratch → Where x → EndsLater IsRest IsRest x K → own.ready start x K
+  pub ready : (x : Position) (K : After) → IsRest x.scratch → Where x → EndsLater IsRest IsRest x K →
+      own.ready start x K
 
 -- a state that tries something, and the one in front of what is tried next, are those of flow, and fall
 pub record TrialFits (T : Scheme) (from nok : StateName) : Type 1 where

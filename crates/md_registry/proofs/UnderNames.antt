@@ -9,13 +9,14 @@ use Rattle.md_meaning.specs.Rest.{Rest}
 use Rattle.md_frame.specs.LeafName.{GfmTable, HeadingSetext, LeafName}
 use Rattle.md_registry.specs.Registry.{leaf}
 
-pub further-text : (at : OpenText) (l : LeafName) → (leaf l).further (held_leaf.Text at) ≡ true → (leaf l).heads ≡ false →
-    l ≡ HeadingSetext
+pub further-text : (at : OpenText) (l : LeafName) → (leaf l).further (held_leaf.Text at) ≡ true →
+    (leaf l).heads ≡ false → l ≡ HeadingSetext
 further-text at HeadingSetext f h = refl
 further-text at _ f h = cc
 
 -- no leaf is open behind it
-pub under-shuts : (at : OpenText) (l : LeafName) → (leaf l).further (held_leaf.Text at) ≡ true → (leaf l).heads ≡ false →
+pub under-shuts : (at : OpenText) (l : LeafName) → (leaf l).further (held_leaf.Text at) ≡ true →
+    (leaf l).heads ≡ false →
     (options : ParseOptions) (on : HeldLeaf) (r : Rest) → (leaf l).holds options on r ≡ held_leaf.None
 under-shuts at l f h options on r = ap (λ (l : LeafName). (leaf l).holds options on r) (further-text at l f h)
 

@@ -213,7 +213,8 @@ pub record HasFlow (B : Behaviour) (options : ParseOptions) (next : Rule) : Type
   pub blank : HasBlank B
   pub chunk : (cells : List Cell) (h : Here) → B (s.Content content.ChunkStart) cells h ≡ chunk_at cells h
   pub starts : (l : LeafName) (cells : List Cell) (h : Here) → B (leaf l).start cells h ≡ (leaf l).trial options cells h
-  pub opens : (k : ContainerKind) (cells : List Cell) (h : Here) → B (opens_with k) cells h ≡ begins_at options k cells h
+  pub opens : (k : ContainerKind) (cells : List Cell) (h : Here) →
+      B (opens_with k) cells h ≡ begins_at options k cells h
   pub goes_on : (k : ContainerKind) (cells : List Cell) (h : Here) →
       B (goes_on_with k) cells h ≡ continues_at options k cells h
   pub containers : (state : DocumentState) (cells : List Cell) (h : Here) →

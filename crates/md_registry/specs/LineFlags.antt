@@ -44,8 +44,8 @@ with_container g = record g {
   leaf = held_leaf.None;
 }
 
--- behind the containers of a line: the leaf is what the line meets, so one that has ended with its containers is open no
--- more
+-- behind the containers of a line: the leaf is what the line meets, so one that has ended with its containers is open
+-- no more
 abbrev pub begun_line : Flags → Flags
 begun_line g =
     record g { leaf_before = g.leaf; leaf = met_by (not (nat_lt g.continued (length g.containers))) g.leaf }

@@ -399,7 +399,8 @@ pub fn has_plain_prefix(container: Container, tokenizer: &mut Tokenizer) -> bool
 /// Takes that of the one that is asked, as its states do, and sees what stands behind it.
 #[inline(always)]
 pub fn take_plain_prefix(tokenizer: &mut Tokenizer) -> Result<(), Message>
-    requires { HasPrefix (world tokenizer.old).flags.asked (world tokenizer.old).flags.asked.kind (world tokenizer.old) }
+    requires { HasPrefix (world tokenizer.old).flags.asked (world tokenizer.old).flags.asked.kind
+        (world tokenizer.old) }
     ensures { OnOk result
         (world tokenizer.new ≡
         prefix_taken (world tokenizer.old).flags.asked (world tokenizer.old).flags.asked.kind

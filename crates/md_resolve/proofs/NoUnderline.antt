@@ -1,13 +1,15 @@
 -- Where no underline stands, no setext heading is set.
-use Rattle.std.proofs.Common.{◌≡◌, inl, inr, ℕ, Bool, true, false, cond, not, ◌&&◌, ◌||◌, List, [], ◌∷◌, ◌++◌, refl, ap, sym}
+use Rattle.std.proofs.Common.{◌≡◌, inl, inr, ℕ, Bool, true, false, cond, not, ◌&&◌, ◌||◌}
+use Rattle.std.proofs.Common.{List, [], ◌∷◌, ◌++◌, refl, ap, sym}
 use Rattle.std.specs.Prelude.{Option, Some, None}
 use Rattle.md_engine.specs.declared.event.Event.{Event}
 use Rattle.md_engine.specs.declared.event.Name.TheVariants as n
 use Rattle.md_engine.specs.declared.event.Point.{Point}
-use Rattle.md_containers.specs.Listed.{Begins, Ends, Place as ListPlace, Stays, Turn, given_by, goes_on, list_begin, list_end, list_name}
-use Rattle.md_containers.specs.Listed.{listed, listed_from, marker_ahead, next_item, outside, place_after, turn}
-use Rattle.md_leaves.specs.HeadingText.{Before, Opened, Outside, Place, Within, begins, ends, headings_resolved, is_heading, is_run}
-use Rattle.md_leaves.specs.HeadingText.{is_sequence, resolved, text_between}
+use Rattle.md_containers.specs.Listed.{Begins, Ends, Place as ListPlace, Stays, Turn, given_by, goes_on, list_begin}
+use Rattle.md_containers.specs.Listed.{list_end, list_name, listed, listed_from, marker_ahead}
+use Rattle.md_containers.specs.Listed.{next_item, outside, place_after, turn}
+use Rattle.md_leaves.specs.HeadingText.{Before, Opened, Outside, Place, Within, begins, ends, headings_resolved}
+use Rattle.md_leaves.specs.HeadingText.{is_heading, is_run, is_sequence, resolved, text_between}
 use Rattle.md_leaves.specs.Turned.{HoldNoUnderline, is_underline, turned}
 use Rattle.md_leaves.proofs.TurnedLemmas.{no_underlines-turned}
 use Rattle.md_order.specs.Alone.{MayPass, is_one}

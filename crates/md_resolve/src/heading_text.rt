@@ -117,7 +117,8 @@ fn until_text(events: &[Event]) -> usize
 /// run, or of the one before if the last is of `#`.
 fn text_len(events: &[Event]) -> usize
     requires inside { All IsInside events.now }
-    ensures set { (first : Point) → resolved (Within first None None [] []) events.now ≡ texted first result events.now }
+    ensures set { (first : Point) →
+        resolved (Within first None None [] []) events.now ≡ texted first result events.now }
     ensures within { result ≤ length events.now }
 {
     let mut text = 0;

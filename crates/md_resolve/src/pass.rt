@@ -1,14 +1,15 @@
 // One pass for the resolvers of items, headings and tables.
 //
 // The walk goes over the events from left to right, and writes over those that it has read. Events that are of no block
-// that is set are moved at once, as many as follow one another. Leaf blocks hold no block, so an ATX heading and a table are
-// set from their begin to their end, and nothing else is set there.
+// that is set are moved at once, as many as follow one another. Leaf blocks hold no block, so an ATX heading and a
+// table are set from their begin to their end, and nothing else is set there.
 //
 // It looks ahead from the begin of an item to its marker, from the end of one to the next block, from the begin of a
 // paragraph to the underline behind it, and from the begin of an ATX heading to its end; so no event is
 // looked at more than three times, and the walk is linear.
 
-ghost use Rattle.std.specs.Prelude.{◌≡◌, ◌≤◌, ◌<◌, ◌&&◌, ◌++◌, IfOk, None, OnOk, List, ℕ, [], drop, length, not, take, false, true};
+ghost use Rattle.std.specs.Prelude.{◌≡◌, ◌≤◌, ◌<◌, ◌&&◌, ◌++◌, IfOk, None, OnOk, List, ℕ, []};
+ghost use Rattle.std.specs.Prelude.{drop, length, not, take, false, true};
 ghost use Rattle.std.specs.List.{prefix_len};
 ghost use Rattle.std.specs.Option.{option_map};
 ghost use Rattle.md_engine.specs.Found.{found_in};
@@ -103,7 +104,8 @@ fn until_set(wanted: Wanted, events: &[Event]) -> usize
     passing(&IsPassed { wanted }, events)
 }
 
-/// Whether a table ends here. Few events are of a table itself, and half of all are ends, so the name is looked at first.
+/// Whether a table ends here. Few events are of a table itself, and half of all are ends, so the name is looked at
+/// first.
 fn ends_table(event: &Event) -> bool
     ensures { result ≡ ends_table event.now }
 {
@@ -440,8 +442,9 @@ pub fn is_same(wanted: Wanted, event: &Event) -> bool
         || wanted.tables && begins_table(event))
 }
 
-/// Runs the resolvers of these names in one pass: those of items, of ATX headings, of setext headings and of tables, as if
-/// they ran one behind the other, in this order. Other names change nothing. Where nothing is to be set nothing is moved.
+/// Runs the resolvers of these names in one pass: those of items, of ATX headings, of setext headings and of tables, as
+/// if they ran one behind the other, in this order. Other names change nothing. Where nothing is to be set nothing is
+/// moved.
 ///
 /// Of more than one name it asks that leaf blocks hold no block. Events that nest still do, if what each resolver gets
 /// fits it. After an `Err`, which says that memory ran out, the parse has failed, and the tokenizer is only dropped.

@@ -1,7 +1,8 @@
 // Paragraphs, and the underlines behind them.
 
 ghost use Rattle.std.specs.Prelude.{◌≡◌, ◌&&◌};
-ghost use Rattle.md_leaves.specs.Turned.{has_underline, is_paragraph, is_turned, is_underline, passes, underline_behind};
+ghost use Rattle.md_leaves.specs.Turned.{has_underline, is_paragraph, is_turned};
+ghost use Rattle.md_leaves.specs.Turned.{is_underline, passes, underline_behind};
 ghost use Rattle.md_seam.specs.Events.Inline.{is_line_ending};
 ghost use Rattle.md_seam.specs.Events.Nested.{enter, exit};
 

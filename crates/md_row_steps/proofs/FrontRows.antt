@@ -1,7 +1,8 @@
 -- The containers of a line that flow reads are those of its bytes: which go on and open, what stands in front of the
 -- line, and what is left of it.
 use Rattle.md_engine.specs.declared.tokenizer.held_leaf.HeldLeaf.{HeldLeaf}
-use Rattle.std.proofs.Common.{◌≡◌, ℕ, zero, suc, ◌^◌, ◌<◌, ◌≤◌, Bool, true, false, List, [], ◌∷◌, ◌++◌, length, Option, cond}
+use Rattle.std.proofs.Common.{◌≡◌, ℕ, zero, suc, ◌^◌, ◌<◌, ◌≤◌, Bool, true, false, List}
+use Rattle.std.proofs.Common.{[], ◌∷◌, ◌++◌, length, Option, cond}
 use Rattle.md_rows.specs.Rows.{is_inside, new_behind, Front, Held, held_at, held_behind, held_by, in_front, is_lazy}
 use Rattle.md_rows.specs.Rows.{line_kind, opened_prefixes, no_front, row_kind, continued_prefixes}
 use Rattle.md_rows.specs.Fronted.{prefixes_behind, Contained, Prefixed, contained, contained_behind, contained_by}
@@ -116,7 +117,8 @@ went-is options line text past (c ∷ cs) r stop p read is h k short =
     go (goes_at options c cells p) (continues options c r)
     (goes-agrees options c read.0 line text past r stop p is h k short)
     (λ (s : Rest) (u : Point) (at : RestAt text past s u) (none : NoEnding s.bytes)
-    (few : length (rest_cells line s u ++ stop) < 2 ^ 63). went-is options line text past cs s stop u read.1 at none k few)
+    (few : length (rest_cells line s u ++ stop) < 2 ^ 63). went-is options line text past cs s stop u read.1
+    at none k few)
   where
     cells : List Cell
     cells = rest_cells line r p ++ stop
@@ -204,7 +206,8 @@ new-is : (options : ParseOptions) (interrupting : Bool) (line : Line) (text past
     length (rest_cells line r p ++ stop) < 2 ^ 63 →
     length (rest_cells line r p ++ stop) ≤ room → length r.bytes ≤ size →
     HasNew line text past p (past_rest r p) stop (rest_cells line r p ++ stop)
-    (opened_prefixes options interrupting room (rest_cells line r p ++ stop) p) (prefixes_new options interrupting size r)
+    (opened_prefixes options interrupting room (rest_cells line r p ++ stop) p)
+    (prefixes_new options interrupting size r)
 new-is options interrupting line text past zero zero r stop p built is h k short some few =
     new-none line text past r stop p is h
 new-is options interrupting line text past zero (suc size) r stop p built is h k short some few =
@@ -351,7 +354,8 @@ held-behind options line text past p end stop cells cs still went on built read 
     let more : Prefixed =
     cond inside (no_prefix on.rest) (prefixes_new options interrupting (length on.rest.bytes) on.rest) in
     let opened : HasNew line text past went.point (past_rest on.rest went.point) stop went.cells new more =
-    new-inside line text past went on stop (opened_prefixes options interrupting (length went.cells) went.cells went.point)
+    new-inside line text past went on stop
+    (opened_prefixes options interrupting (length went.cells) went.cells went.point)
     (prefixes_new options interrupting (length on.rest.bytes) on.rest) is.front.fed is.front.stands is.front.no_ending
     inside
     (subst

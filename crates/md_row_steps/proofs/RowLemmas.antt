@@ -310,7 +310,8 @@ next-rows : (options : ParseOptions) (n : ℕ) (bytes : List ℕ) (said : Line) 
     AreRows options bytes cs still q (split_lines (drop q.index bytes)) (rows_at options n cs still more q)) →
     AreRows options bytes open_before still p (split_lines (drop p.index bytes))
     (rows_at options (suc n) open_before still cells p)
-next-rows options n bytes said open_before still line ending rest p q cells more built room read short none before vs one
+next-rows options n bytes said open_before still line ending rest p q cells more built room read short none
+    before vs one
     text left is_ending fed further =
     let stop = cell 10 q said ∷ more in
     let whole = spread said line p ++ stop in

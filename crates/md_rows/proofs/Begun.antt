@@ -215,7 +215,8 @@ pub front-unlisted : (bytes : List ℕ) (p : Point) (front es : List Event) → 
 front-unlisted bytes p front es part is = record {
   names = all-append has_unlisted_name front es part.plain.known.names is.names;
   text = is.text;
-  between = all-append (λ (e : Event). is_between bytes e.point.index) front es (part-between bytes first_point p front part)
+  between =
+      all-append (λ (e : Event). is_between bytes e.point.index) front es (part-between bytes first_point p front part)
       is.between;
   texts =
       all-append (tells_between bytes) front es (all-tell bytes front part.plain.known.texts

@@ -151,8 +151,8 @@ tail-stands leaf s name last gs same ends before on =
         ∙ ends last.end h.0 (groups_with leaf (group ∷ gs)) ∙ k
 
 -- a group in front of further ones
-line-stands : (leaf : Group → List Event) (s : EndingPlace) (name : Name) (last : Row) (es : List Event) (gs : List Group) →
-    Leads line_start s es → is_filled s ≡ s.after_leaf →
+line-stands : (leaf : Group → List Event) (s : EndingPlace) (name : Name) (last : Row) (es : List Event)
+    (gs : List Group) → Leads line_start s es → is_filled s ≡ s.after_leaf →
     ((p q : Point) → Leads s line_start (pair name p q)) → EndsBeforeGroups last gs → Stand leaf gs →
     endings_stand_from line_start ((es ++ tail_events name last) ++ groups_with leaf gs) ≡ true
 line-stands leaf s name last es gs h same ends before on =

@@ -39,7 +39,8 @@ went-shorter options (c ∷ cs) cells p =
 
     go : (x : Option Passed) → goes_at options c cells p ≡ x →
         ((t : Passed) → length (continued_prefixes options cs t.cells t.point).cells ≤ length t.cells) →
-        Shorter (elim x [ None ↦ no_front cells p | Some t ↦ in_front t (continued_prefixes options cs t.cells t.point) ])
+        Shorter
+        (elim x [ None ↦ no_front cells p | Some t ↦ in_front t (continued_prefixes options cs t.cells t.point) ])
     go None e more = omega arith
     go (Some t) e more = omega (arith, more t, goes-within options c cells p t e)
 
@@ -74,7 +75,8 @@ pub record Gone (options : ParseOptions) (next : Rule) (done cs : List Container
     (o : Outcome) : Type 0 where
   pub new : Here
   pub is : o ≡
-      left_of options next (ends_line (first_seen w.cells)) (is_inside h.flags.leaf (others_of cs w.containers)) w.cells new
+      left_of options next (ends_line (first_seen w.cells))
+      (is_inside h.flags.leaf (others_of cs w.containers)) w.cells new
   pub rest : IsRest new.scratch
   pub events : new.events ≡ h.events ++ w.events
   pub point : new.point ≡ w.point
@@ -193,7 +195,8 @@ gone-ended options next done cs cells h o ends is rest at are = record {
     parts : AreOpen (take (length done) h.flags.containers) done × AreOpen (drop (length done) h.flags.containers) cs
     parts = open-parts h.flags.containers done cs are
 
-    over : OverEnd (drop (length done) h.flags.containers) cs cells h.point (continued_prefixes options cs cells h.point)
+    over : OverEnd (drop (length done) h.flags.containers) cs cells h.point
+        (continued_prefixes options cs cells h.point)
     over =
         over-end options (drop (length done) h.flags.containers) cs cells h.point
         (open-parts h.flags.containers done cs are).1 ends
@@ -247,7 +250,8 @@ asked-is options next m further reads done (c ∷ cs) cells h going is some at a
     found : slice_get h.flags.containers h.flags.continued ≡ Some first.held
     found = ap (λ (n : ℕ). slice_get h.flags.containers n) at ∙ first.found
 
-    begins : existing_by options next further (next_container h.flags) cells h ≡ onward (passed_by (goes_at options c cells h.point) asked)
+    begins : existing_by options next further (next_container h.flags) cells h ≡
+        onward (passed_by (goes_at options c cells h.point) asked)
     begins =
         ap (λ (o : Option Known). existing_by options next further o cells h) found
         ∙ ap onward (further-is options first.held c cells asked is refl refl first.is)
@@ -281,9 +285,11 @@ asked-is options next m further reads done (c ∷ cs) cells h going is some at a
         (further_here t first.held h) (further t.cells (further_here t first.held h))
 
     go : Further → (x : Option Passed) → goes_at options c cells h.point ≡ x →
-        Result (elim x [ None ↦ no_front cells h.point | Some t ↦ in_front t (continued_prefixes options cs t.cells t.point) ])
+        Result (elim x
+        [ None ↦ no_front cells h.point | Some t ↦ in_front t (continued_prefixes options cs t.cells t.point) ])
     go more None e =
-        gone-none options next done (c ∷ cs) cells h (existing_by options next further (next_container h.flags) cells h) first.held
+        gone-none options next done (c ∷ cs) cells h
+        (existing_by options next further (next_container h.flags) cells h) first.held
         h.point.column going
         (begins ∙ ap (λ (x : Option Passed). onward (passed_by x asked)) e
         ∙ ap (λ (x : Bool). all_on options next x cells (asked_at first.held h.point.column h))
@@ -309,8 +315,8 @@ asked-is options next m further reads done (c ∷ cs) cells h going is some at a
         }
 
 -- so it is after all containers that continue
-pub existing-is : (options : ParseOptions) (next : Rule) (m : ℕ) (done cs : List Container) (cells : List Cell) (h : Here) →
-    IsRest h.scratch → length cells < m → h.flags.continued ≡ length done →
+pub existing-is : (options : ParseOptions) (next : Rule) (m : ℕ) (done cs : List Container) (cells : List Cell)
+    (h : Here) → IsRest h.scratch → length cells < m → h.flags.continued ≡ length done →
     AreOpen h.flags.containers (done ++ cs) →
     Gone options next done cs (continued_prefixes options cs cells h.point) h (existing_from options next m cells h)
 unfolding existing_from

@@ -1,5 +1,6 @@
 -- Flow takes every text to its end.
-use Rattle.std.proofs.Common.{◌≡◌, ℕ, zero, suc, ◌<◌, ◌≤◌, Bool, true, false, List, [], ◌∷◌, length, Option, Some, None, refl, arith}
+use Rattle.std.proofs.Common.{◌≡◌, ℕ, zero, suc, ◌<◌, ◌≤◌, Bool, true, false, List, [], ◌∷◌}
+use Rattle.std.proofs.Common.{length, Option, Some, None, refl, arith}
 use Rattle.md_registry.specs.Registry.{asked_first, bars_containers, begins_at, continues_at, leaf, openers, trials}
 use Rattle.md_registry.specs.FlowRule.{all_on, blank_at_end, inside_by, inside_of, behind_leaf, asking_here}
 use Rattle.md_registry.specs.FlowRule.{behind_containers, blank_ended, content_of, ended, ended_to, existing_at}

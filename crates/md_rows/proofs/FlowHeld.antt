@@ -94,7 +94,8 @@ ends-none size p e ks keep more q is =
     let none : drop keep ks ≡ [] = drop_of_length-le ks (omega (arith, e, is)) in
     ap (λ (l : List Known). ends_at l (point_of more q)) none ∙ ap (λ (l : List Known). ends_at l p) (sym none)
 
-pub closed-ends : (front tail more es : List Event) (p q : Point) (keep at : ℕ) (ks : List Known) (cs : List Container) →
+pub closed-ends : (front tail more es : List Event) (p q : Point) (keep at : ℕ) (ks : List Known)
+    (cs : List Container) →
     Ends (length ks) tail p → AreOpen (drop keep ks) cs → at ≡ length front → es ≡ front ++ (tail ++ more) →
     closed_events keep at ks es q ≡ front ++ (ends_of cs p ++ (tail ++ more))
 closed-ends front tail more es p q keep at ks cs ends are begin same =
@@ -102,7 +103,8 @@ closed-ends front tail more es p q keep at ks cs ends are begin same =
     ∙ ap₂ (λ (a b : List Event). (a ++ ends_at (drop keep ks) (point_of b q)) ++ b)
     (take-append_seam front (tail ++ more)) (drop-append_seam front (tail ++ more))
     ∙ append_assoc front (ends_at (drop keep ks) (point_of (tail ++ more) q)) (tail ++ more)
-    ∙ ap (λ (xs : List Event). front ++ (xs ++ (tail ++ more))) (ends ks keep more q refl ∙ ends-are (drop keep ks) cs p are)
+    ∙ ap (λ (xs : List Event). front ++ (xs ++ (tail ++ more)))
+    (ends ks keep more q refl ∙ ends-are (drop keep ks) cs p are)
 
 pub closed-none : (keep at : ℕ) (ks : List Known) (es : List Event) (q : Point) → length ks ≤ keep →
     closed_events keep at ks es q ≡ es

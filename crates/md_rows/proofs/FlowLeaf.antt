@@ -196,7 +196,8 @@ inside-is options next cells h few is flag = by (asked_first h.flags.leaf) refl
     onward : Outcome → Outcome
     onward o = tried o (line_ended next) (λ s g. leaf_of options next cells (record h { scratch = s; flags = g }))
 
-    by : (o : Option LeafName) → asked_first h.flags.leaf ≡ o → inside_by options next o cells h ≡ to (inside_or takes o other)
+    by : (o : Option LeafName) → asked_first h.flags.leaf ≡ o →
+        inside_by options next o cells h ≡ to (inside_or takes o other)
     by None e = leaf-is options next cells h few is (λ some. flag)
     by (Some l) e = go (takes l) refl
       where

@@ -162,7 +162,8 @@ done-none options next front tail p cs still w cells h few b = record {
   rest = b.rest;
   events =
       closed-ends front tail
-      (w.events ++ added) leaf.events p leaf.point keep leaf.flags.line_end h.flags.containers c.closes b.ends parts.1 b.line_end
+      (w.events ++ added) leaf.events p leaf.point keep leaf.flags.line_end h.flags.containers c.closes b.ends
+      parts.1 b.line_end
       (ap (λ (es : List Event). es ++ added) b.events ∙ regroup-ends front tail w.events added)
       ∙ ap (λ (es : List Event). front ++ (ends_of c.closes p ++ (tail ++ (es ++ added)))) (sym (append-nil w.events));
   point = refl;
@@ -257,7 +258,8 @@ done-some options next front tail p cs still w f t h out few b o =
     kept =
         ap
         (λ (x : HeldLeaf).
-        cond (takes_lazy x && takes_lazy (leaf_behind options held_leaf.None f.cells o.new.point k)) (length o.new.flags.containers) o.new.flags.continued) o.leaf
+        cond (takes_lazy x && takes_lazy (leaf_behind options held_leaf.None f.cells o.new.point k))
+        (length o.new.flags.containers) o.new.flags.continued) o.leaf
         ∙ o.all
 
     ended : AreOpen (drop h.flags.continued h.flags.containers) (others_of cs w.containers)
@@ -297,10 +299,12 @@ new-done : (options : ParseOptions) (next : Rule) (front tail : List Event) (p :
     (still : HeldLeaf) (interrupting : Bool) (w : Front) (m size : ℕ) (cells : List Cell) (h : Here) →
     length cells ≤ any_size → Between front tail p cs still w h → interrupting ≡ by_flags h.flags →
     length cells ≤ m → length cells ≤ size →
-    Done next options front tail p (held_of options cs still w (opened_prefixes options interrupting size cells h.point))
+    Done next options front tail p
+    (held_of options cs still w (opened_prefixes options interrupting size cells h.point))
     (new_from options next (suc m) cells h)
 new-done options next front tail p cs still interrupting w m zero cells h few b by some most =
-    let r = new-none options next interrupting m cells h b.rest by (opens-none options interrupting cells h.point most) in
+    let r =
+    new-none options next interrupting m cells h b.rest by (opens-none options interrupting cells h.point most) in
     done-same options next front tail p _ _ _ r.is
     (done-none options next front tail p cs still w cells (asked_at r.asked r.column h) few
     (between-asked front tail p cs still w h r.asked r.column b))
@@ -368,7 +372,8 @@ line-done options next front tail p cs still cells h few b =
     (g.is
     ∙ ap
     (λ (x : HeldLeaf).
-    left_of options next (ends_line (first_seen w.cells)) (is_inside x (others_of cs w.containers)) w.cells g.new) b.leaf)
+    left_of options next (ends_line (first_seen w.cells)) (is_inside x (others_of cs w.containers)) w.cells g.new)
+    b.leaf)
     (subst P g.point
     (by (ends_line (first_seen w.cells)) refl (is_inside still (others_of cs w.containers))))
   where
@@ -405,7 +410,8 @@ line-done options next front tail p cs still cells h few b =
         Done next options front tail p
         (held_of options cs still w
         (cond (is_inside still (others_of cs w.containers)) (no_front w.cells q) (opening q)))
-        (left_of options next (ends_line (first_seen w.cells)) (is_inside still (others_of cs w.containers)) w.cells g.new)
+        (left_of options next (ends_line (first_seen w.cells)) (is_inside still (others_of cs w.containers))
+        w.cells g.new)
 
     none : Done next options front tail p (held_of options cs still w (no_front w.cells g.new.point))
         (behind_containers options next w.cells g.new)

@@ -179,8 +179,8 @@ interrupts-none : (g : Flags) → g.leaf ≡ held_leaf.None → false ≡ by_fla
 interrupts-none g shut =
     sym (ap (λ (leaf : HeldLeaf). is_interrupted leaf && (g.continued == length g.containers)) shut)
 
-pub new-more : (options : ParseOptions) (next : Rule) (m size : ℕ) (cs : List Container) (cells : List Cell) (h : Here) →
-    IsRest h.scratch → length cells < m → length cells ≤ size → AreOpen h.flags.containers cs →
+pub new-more : (options : ParseOptions) (next : Rule) (m size : ℕ) (cs : List Container) (cells : List Cell)
+    (h : Here) → IsRest h.scratch → length cells < m → length cells ≤ size → AreOpen h.flags.containers cs →
     h.flags.continued ≡ length h.flags.containers → h.flags.leaf ≡ held_leaf.None →
     Opened options next cs h (opened_prefixes options false size cells h.point) (new_from options next m cells h)
 new-more options next zero size cs cells h is some most are all shut = absurd (omega arith)

@@ -41,7 +41,8 @@ leaving ls row = record row { closed_after = ls }
 
 -- the events of the leaf of a row are those that flow adds
 leaf-added : (options : ParseOptions) (x : Held) (ls : List Container) (below : List Row) (k : RowKind) →
-    leaf_events k (record (row_of options x below) { closed_after = ls; inside = inside_of options x.on x.cells x.point k }) ≡
+    leaf_events k
+    (record (row_of options x below) { closed_after = ls; inside = inside_of options x.on x.cells x.point k }) ≡
     added_by options x.on x.cells x.point k
 leaf-added options x ls below BlankRow = refl
 leaf-added options x ls below (LeafRow l) = refl
@@ -147,7 +148,8 @@ held-shorter options cs still cells p =
   where
     go : (x : Bool) → length (continued_prefixes options cs cells p).cells ≤ length cells →
         let w = continued_prefixes options cs cells p in
-        let f = opened_prefixes options (interrupts still (others_of cs w.containers)) (length w.cells) w.cells w.point in
+        let f =
+        opened_prefixes options (interrupts still (others_of cs w.containers)) (length w.cells) w.cells w.point in
         length f.cells ≤ length w.cells → length (cond x (no_front w.cells w.point) f).cells ≤ length cells
     go true le more = le
     go false le more = omega (arith, le, more)

@@ -120,7 +120,8 @@ leaf-are options bytes line p row l q (LeafLines below rows ∷ gs) is e after e
     go (is_further below.kind below.on) refl
   where
     go : (x : Bool) → is_further below.kind below.on ≡ x →
-        AreBelow options bytes (cond x (LeafLines row (below ∷ rows) ∷ gs) (LeafLines row [] ∷ LeafLines below rows ∷ gs))
+        AreBelow options bytes
+        (cond x (LeafLines row (below ∷ rows) ∷ gs) (LeafLines row [] ∷ LeafLines below rows ∷ gs))
     go true f =
         let met = first.met f in (
           (

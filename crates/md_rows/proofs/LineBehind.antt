@@ -141,7 +141,8 @@ first-line options bytes cs still p lines row rows h = absurd h
 
 line-behind : (options : ParseOptions) (bytes : List ℕ) (cs : List Container) (p : Point) (lines : List (List ℕ))
     (row below : Row) →
-    FirstLine options bytes cs row.behind p lines below → row.closed_after ≡ below.change.closes → IsBehind bytes p row below
+    FirstLine options bytes cs row.behind p lines below → row.closed_after ≡ below.change.closes →
+    IsBehind bytes p row below
 line-behind options bytes cs p [] row below is leaves = absurd is
 line-behind options bytes cs p (line ∷ lines) row below is leaves = record {
   front = is.front;
@@ -253,7 +254,8 @@ pub leaf-fresh : (options : ParseOptions) (bytes line : List ℕ) (row : Row) (l
     IsRow options bytes line row → row.kind ≡ LeafRow l → IsFresh row.behind
 leaf-fresh options bytes line row l is e =
     unlazy-fresh row.behind
-    (ap takes_lazy (is.behind ∙ ap (line_behind options row.on is.rest) e) ∙ ((laws l).not_lazy options row.on).1 is.rest)
+    (ap takes_lazy (is.behind ∙ ap (line_behind options row.on is.rest) e)
+    ∙ ((laws l).not_lazy options row.on).1 is.rest)
 
 -- The first line of a text begins a leaf, if none is open before it that a line may continue.
 pub first-begins : (options : ParseOptions) (bytes : List ℕ) (open_before : List Container) (still : HeldLeaf)

@@ -241,8 +241,8 @@ module _ (options : ParseOptions) (bytes line : List ℕ) (P : List Name → Poi
   }
 
   -- a line of a leaf of several
-  span_row-holds : (l : LeafName) → row.kind ≡ LeafRow l → (leaf l).ends ≡ false → (gs : List Group) → Ended bytes row gs →
-      FirstIs (IsBehind bytes q row) gs → Begun options bytes P kept (behind_row row) gs →
+  span_row-holds : (l : LeafName) → row.kind ≡ LeafRow l → (leaf l).ends ≡ false → (gs : List Group) →
+      Ended bytes row gs → FirstIs (IsBehind bytes q row) gs → Begun options bytes P kept (behind_row row) gs →
       (FirstBegins gs → P kept (behind_row row) gs) → Both_of (onto_leaf false row gs)
   span_row-holds l e k gs ended first below h = go gs ended first below h
     where
@@ -405,7 +405,8 @@ module _ (options : ParseOptions) (bytes line : List ℕ) (P : List Name → Poi
   leaf_row-holds l e false k gs ended first below h = span_row-holds l e k gs ended first below h
   leaf_row-holds l e true k gs ended first below h =
       let ends : EndsOnLine row.kind = leaf-row-ends row.kind l e k in
-      let other : row.kind ≢ TextRow = leaf-other row.kind l e in single-holds other ends gs (fresh-holds gs ends other first h)
+      let other : row.kind ≢ TextRow = leaf-other row.kind l e in
+      single-holds other ends gs (fresh-holds gs ends other first h)
 
   -- any line
   onto-holds : (gs : List Group) → Ended bytes row gs → FirstIs (IsBehind bytes q row) gs →

@@ -25,7 +25,8 @@ use Rattle.md_frame.proofs.ContainerNames.{container-facts}
 -- Events outside of texts.
 
 -- the ends of containers, and an ending
-sits-tail : (bytes : List ℕ) (name : Name) (row : Row) → Still (role name) → PrefixesAtLineStart bytes (tail_events name row)
+sits-tail : (bytes : List ℕ) (name : Name) (row : Row) → Still (role name) →
+    PrefixesAtLineStart bytes (tail_events name row)
 sits-tail bytes name row h =
     sits-still bytes (tail_events name row)
     (roles-append Still (ends_of row.closed_after row.end) (ending_events name row)
@@ -44,7 +45,8 @@ ending-still false = tt
 
 -- what stands in front of it, its leaf, and what stands behind it
 line-sits : (bytes : List ℕ) (name : Name) (front inside : List Event) (row : Row) → Still (role name) →
-    PrefixesAtLineStart bytes front → PrefixesAtLineStart bytes inside → PrefixesAtLineStart bytes (front ++ inside ++ tail_events name row)
+    PrefixesAtLineStart bytes front → PrefixesAtLineStart bytes inside →
+    PrefixesAtLineStart bytes (front ++ inside ++ tail_events name row)
 line-sits bytes name front inside row u h k =
     sits-append bytes (front ++ inside) (tail_events name row) (sits-append bytes front inside h k)
     (sits-tail bytes name row u)

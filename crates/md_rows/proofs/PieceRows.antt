@@ -58,7 +58,8 @@ tail-stood : (bytes : List ℕ) (row : Row) (after : Option Point) → row.after
     Ended bytes row.end after → (name : Name) → ((ending : Ending) → stands_over name (ending_bytes ending) ≡ true) →
     PiecesValid bytes (tail_events name row)
 tail-stood bytes row after same whole ended name named =
-    stood-append bytes (ends_of row.closed_after row.end) (ending_events name row) (ends-stood bytes row.closed_after row.end)
+    stood-append bytes (ends_of row.closed_after row.end) (ending_events name row)
+    (ends-stood bytes row.closed_after row.end)
     (subst (λ (x : Option Point). PiecesValid bytes (elim x [ None ↦ [] | Some q ↦ pair name row.end q ])) (sym same)
     (go after ended))
   where
@@ -109,7 +110,8 @@ group-stood bytes p group front es is h stood =
 
 -- groups of such lines, before texts are read
 abbrev UnreadStood : ParseOptions → List ℕ → List Name → Point → List Group → Type 0
-UnreadStood options bytes names p gs = EachGroup (LineStands bytes) gs → PiecesValid bytes (tabled_groups options bytes gs)
+UnreadStood options bytes names p gs =
+    EachGroup (LineStands bytes) gs → PiecesValid bytes (tabled_groups options bytes gs)
 
 unread-by_groups : (options : ParseOptions) (bytes : List ℕ) → ByGroups options bytes (UnreadStood options bytes)
 unread-by_groups options bytes = record {
@@ -122,7 +124,8 @@ unread-by_groups options bytes = record {
 
 -- and once they are
 abbrev GroupsStood : ParseOptions → List ℕ → List Name → Point → List Group → Type 0
-GroupsStood options bytes names p gs = EachGroup (LineStands bytes) gs → PiecesValid bytes (groups_events options bytes gs)
+GroupsStood options bytes names p gs =
+    EachGroup (LineStands bytes) gs → PiecesValid bytes (groups_events options bytes gs)
 
 stood-by_groups : (options : ParseOptions) (bytes : List ℕ) → ByGroups options bytes (GroupsStood options bytes)
 stood-by_groups options bytes = record {

@@ -68,7 +68,8 @@ plain-tail : (bytes : List ℕ) (name : Name) (row : Row) → Untold (role name)
     ArePlain bytes (tail_events name row)
 plain-tail bytes name row h shown =
     plain-untold bytes (tail_events name row)
-    (roles-append Untold (ends_of row.closed_after row.end) (ending_events name row) (ends-untold row.closed_after row.end shown)
+    (roles-append Untold (ends_of row.closed_after row.end) (ending_events name row)
+    (ends-untold row.closed_after row.end shown)
     (go row.after))
   where
     go : (o : Option Point) → Roles Untold (elim o [ None ↦ [] | Some q ↦ pair name row.end q ])

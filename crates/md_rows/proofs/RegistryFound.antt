@@ -113,7 +113,8 @@ others-found options on against r same unturned no_underline dark =
     (code-found options on against r (free-open on ∙ sym (ap is_free same)) dark)
     (ap₂ (λ (x y : Option LeafResult). option_or x y) (fence-found options r)
     (ap₂ (λ (x y : Option LeafResult). option_or x y) (html-found options on against r same)
-    (ap₂ (λ (x y : Option LeafResult). option_or x y) (heading-found options r) (break-found options on r no_underline))))
+    (ap₂ (λ (x y : Option LeafResult). option_or x y) (heading-found options r)
+    (break-found options on r no_underline))))
     ∙ go (code_leaf.starts options on r) (fence_leaf.starts options on r) (html_leaf.starts options on r)
     (heading_leaf.starts options on r) (break_leaf.starts options on r)
     ∙ ap

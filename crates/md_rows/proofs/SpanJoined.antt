@@ -295,8 +295,8 @@ bare-behind row (next ∷ rows) rest are =
     ∙ ap (λ (l : List Event). white ++ l) (bare-behind next rows rest are.2)))
     ∙ sym (apart ending next.front white S Z)
 
--- Lines behind the begin of one: what is left of them, behind what stands inside of that line, and what is left of a gap
--- behind its end.
+-- Lines behind the begin of one: what is left of them, behind what stands inside of that line, and what is left of a
+-- gap behind its end.
 abbrev Joins : Row → List Row → List Event → Event → List Event → List Event → List Event → Type 0
 Joins row rows inside e gap given rest =
     spanned_from Inside (inside ++ e ∷ (gap ++ (tail_events (ending_at row) row ++ (rows_events rows ++ rest))))

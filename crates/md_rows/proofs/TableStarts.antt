@@ -39,8 +39,8 @@ text-untabled options at r off = go (table_leaf.starts options (held_leaf.Text a
     go false starts = refl
 
 -- Then a line that goes on text takes no line of it as its head.
-pub no-head : (options : ParseOptions) (at : OpenText) (r : Rest) (l : LeafName) → options.constructs.gfm_table ≡ false →
-    (leaf l).starts options (held_leaf.Text at) r ≡ true → (leaf l).heads ≡ false
+pub no-head : (options : ParseOptions) (at : OpenText) (r : Rest) (l : LeafName) →
+    options.constructs.gfm_table ≡ false → (leaf l).starts options (held_leaf.Text at) r ≡ true → (leaf l).heads ≡ false
 no-head options at r l off starts = go (leaf l).heads refl
   where
     go : (x : Bool) → (leaf l).heads ≡ x → x ≡ false

@@ -41,7 +41,8 @@ lines-first Q row (LeafLines first rows ∷ gs) h k =
   where
     go : (x : Bool) → (is_further first.kind first.on && takes_head first.kind) ≡ x → (y : Bool) →
         Q
-        (cond x (Headed row first rows ∷ gs) (cond y (Turned row [] first ∷ gs) (Lines row [] ∷ LeafLines first rows ∷ gs)))
+        (cond x (Headed row first rows ∷ gs)
+        (cond y (Turned row [] first ∷ gs) (Lines row [] ∷ LeafLines first rows ∷ gs)))
     go true heads y = k first rows gs refl heads
     go false heads true = h (Some first) [] gs
     go false heads false = h None [] (LeafLines first rows ∷ gs)
@@ -76,6 +77,7 @@ onto-unheaded row kind gs none = go gs _ (onto row kind gs)
     go _ _ (OfSpan below rows gs) = none
     go _ _ _ = tt
 
-pub groups-unheaded : (row : Row) (rows : List Row) → row.kind ≡ TextRow → NoHeads (row ∷ rows) → HeadsNone (groups rows)
+pub groups-unheaded : (row : Row) (rows : List Row) → row.kind ≡ TextRow → NoHeads (row ∷ rows) →
+    HeadsNone (groups rows)
 groups-unheaded row [] e none = tt
 groups-unheaded row (below ∷ rows) e none = onto-unheaded below below.kind (groups rows) (none.0 e)

@@ -1,5 +1,5 @@
--- How far the definitions at the front of an open text have come, from line to line: what a line meets tells what the line
--- in front of it has left.
+-- How far the definitions at the front of an open text have come, from line to line: what a line meets tells what the
+-- line in front of it has left.
 use Rattle.std.proofs.Common.{◌≡◌, Bool, true, false, cond, ◌&&◌, List, [], ◌∷◌, refl, ap, sym, ◌∙◌}
 use Rattle.std.specs.Prelude.{not}
 use Rattle.std.proofs.lemmas.Bool.{and_parts}
@@ -74,7 +74,8 @@ contained-progress options cs still r =
 
 -- Where containers end in front of a line of text, no text is open in front of it that it goes on.
 lazy-closes : (still : HeldLeaf) (went others opens : List Container) (kind : RowKind) → kind ≡ TextRow →
-    is_none (change_by (is_lazy still opens kind) went others opens).closes ≡ false → takes_lazy still && is_none opens ≡ false
+    is_none (change_by (is_lazy still opens kind) went others opens).closes ≡ false →
+    takes_lazy still && is_none opens ≡ false
 lazy-closes still went others opens kind text some =
     go (takes_lazy still && is_none opens)
     (ap (λ (k : RowKind). is_none (change_by (is_lazy still opens k) went others opens).closes) (sym text) ∙ some)
@@ -88,7 +89,8 @@ pub contained-closed : (options : ParseOptions) (cs : List Container) (still : H
     is_none (contained options cs still r).change.closes ≡ false → IsFresh (contained options cs still r).on
 unfolding contained
 contained-closed options cs still r text some =
-    met-progress still others new.containers ∙ go new.containers (lazy-closes still on.containers others new.containers kind text some)
+    met-progress still others new.containers
+    ∙ go new.containers (lazy-closes still on.containers others new.containers kind text some)
   where
     on : Prefixed
     on = prefixes_on options cs r
@@ -125,5 +127,6 @@ pub setext-may : (options : ParseOptions) (on : HeldLeaf) (r : Rest) → setext_
 setext-may options on r starts =
     let first = (and_parts (may_turn options on && options.constructs.heading_setext && has_small_indent options r)
     (is_underline (trim_start r.bytes)) starts).0 in
-    let second = (and_parts (may_turn options on && options.constructs.heading_setext) (has_small_indent options r) first).0 in
+    let second =
+    (and_parts (may_turn options on && options.constructs.heading_setext) (has_small_indent options r) first).0 in
     (and_parts (may_turn options on) options.constructs.heading_setext second).0

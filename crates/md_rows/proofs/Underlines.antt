@@ -36,8 +36,8 @@ underline-no_content wants line p =
 
 -- so none stands in a line that goes on text, and takes no line of it as a head
 pub further-quiet : (options : ParseOptions) (bytes line : List ℕ) (row : Row) (l : LeafName) (at : OpenText) →
-    IsRow options bytes line row → row.kind ≡ LeafRow l → row.on ≡ held_leaf.Text at → is_further row.kind row.on ≡ true →
-    takes_head row.kind ≡ false → HasNoContent row
+    IsRow options bytes line row → row.kind ≡ LeafRow l → row.on ≡ held_leaf.Text at →
+    is_further row.kind row.on ≡ true → takes_head row.kind ≡ false → HasNoContent row
 further-quiet options bytes line row l at is kind on further heads wants w =
     let name : l ≡ HeadingSetext = further-text at l
     (ap (leaf l).further (sym on) ∙ ap (λ (k : RowKind). is_further k row.on) (sym kind) ∙ further)

@@ -12,7 +12,8 @@ use Rattle.md_meaning.specs.Table.{is_delimiter}
 use Rattle.md_leaves.proofs.TitleTexts.{front-stops, kept-ends, kept-whole, tail, tail-passes}
 use Rattle.md_seam.proofs.RestLines.{count-one, trim-white}
 use Rattle.md_tables.specs.Delimiter.{Aligns, Dash, Divides, Mark, Other, Stops, White, mark_of}
-use Rattle.md_tables.specs.DelimiterRule.{Behind, Counts, Dashes, Fails, Front, Goes, Left, Marks, Move, Open, Place, move}
+use Rattle.md_tables.specs.DelimiterRule.{Behind, Counts, Dashes, Fails, Front, Goes, Left}
+use Rattle.md_tables.specs.DelimiterRule.{Marks, Move, Open, Place, move}
 use Rattle.md_tables.proofs.DelimiterLemmas.{told-as, white-mark}
 
 -- Where no whitespace stands at an end.
@@ -33,7 +34,8 @@ dark-ends (b ∷ c ∷ bs) e = dark-ends (c ∷ bs) (sym less ∙ e)
   where
     less : begins is_white (reverse (b ∷ c ∷ bs)) ≡ begins is_white (reverse (c ∷ bs))
     less =
-        ap (begins is_white) (reverse-append (b ∷ []) (c ∷ bs) ∙ ap (λ (x : List ℕ). x ++ b ∷ []) (reverse-append (c ∷ []) bs))
+        ap (begins is_white)
+        (reverse-append (b ∷ []) (c ∷ bs) ∙ ap (λ (x : List ℕ). x ++ b ∷ []) (reverse-append (c ∷ []) bs))
         ∙ begins-front is_white (reverse bs) c b
         ∙ ap (begins is_white) (sym (reverse-append (c ∷ []) bs))
 
@@ -181,7 +183,8 @@ left-dark (b ∷ bs) h = go (mark_of b) refl
     go Aligns e = let t = told-as b Aligns e in rw (e, t.dash) refl
     go Dash e =
         let t = told-as b Dash e in
-        let same : dashes (b ∷ bs) ≡ dashes bs = ap (λ (x : List ℕ). is_end (after_optional 58 x)) (after-one b bs t.dash) in
+        let same : dashes (b ∷ bs) ≡ dashes bs =
+        ap (λ (x : List ℕ). is_end (after_optional 58 x)) (after-one b bs t.dash) in
         rw (same, e, t.dash) (dashes-dark bs (dark-next b bs h))
     go Other e = let t = told-as b Other e in rw (e, t.dash) refl
 
@@ -197,7 +200,8 @@ open-dark (b ∷ bs) h dark = go (mark_of b) refl
     go Aligns e = let t = told-as b Aligns e in rw (e, t.colon) (left-dark bs (dark-next b bs h))
     go Dash e =
         let t = told-as b Dash e in
-        let same : dashes (b ∷ bs) ≡ dashes bs = ap (λ (x : List ℕ). is_end (after_optional 58 x)) (after-one b bs t.dash) in
+        let same : dashes (b ∷ bs) ≡ dashes bs =
+        ap (λ (x : List ℕ). is_end (after_optional 58 x)) (after-one b bs t.dash) in
         let begun : ends_cell Open (b ∷ bs) ≡ ends_cell Dashes bs = rw e refl in
         let plain : after_optional 58 (b ∷ bs) ≡ b ∷ bs = rw t.colon refl in
         let is : is_delimiter (b ∷ bs) ≡ dashes bs =

@@ -1,6 +1,6 @@
 -- What cells in rows keep of the events, and what stands outside of rows. Each row is told by its own events.
-use Rattle.std.proofs.Common.{◌≡◌, Bool, true, false, cond, ◌&&◌, List, [], ◌∷◌, ◌++◌, drop, Option, Some, None, refl, sym, ◌∙◌}
-use Rattle.std.proofs.Common.{ap}
+use Rattle.std.proofs.Common.{◌≡◌, Bool, true, false, cond, ◌&&◌, List, [], ◌∷◌, ◌++◌, drop}
+use Rattle.std.proofs.Common.{Option, Some, None, refl, sym, ◌∙◌, ap}
 use Rattle.std.specs.List.{All}
 use Rattle.std.proofs.lemmas.Bool.{and_parts}
 use Rattle.std.proofs.lemmas.List.Elements.{All-cons, All-nil}
@@ -11,8 +11,8 @@ use Rattle.md_engine.specs.declared.event.Name.{Name}
 use Rattle.md_engine.specs.declared.event.Name.TheVariants as n
 use Rattle.md_seam.specs.Events.Nested.{enter, exit, is_enter, is_exit}
 use Rattle.md_tables.specs.Cells.{Step, begins_divider, begins_inner, begins_row, cell_name, divider_step}
-use Rattle.md_tables.specs.Cells.{ends_divider, ends_inner, ends_row, ends_with, first_is, front_step, goes_on, has_white}
-use Rattle.md_tables.specs.Cells.{inner_name, inner_step, inside_step, is_divider, is_last, is_row, is_white}
+use Rattle.md_tables.specs.Cells.{ends_divider, ends_inner, ends_row, ends_with, first_is, front_step, goes_on}
+use Rattle.md_tables.specs.Cells.{has_white, inner_name, inner_step, inside_step, is_divider, is_last, is_row, is_white}
 use Rattle.md_tables.specs.Cells.{last_step, outside_step, passed, piece_step, row_ends, row_kind, step, within_step}
 use Rattle.md_tables.specs.declared.cells.RowKind.{RowKind}
 use Rattle.md_tables.specs.declared.cells.RowKind.TheVariants.{Delimiter, Text}
@@ -75,7 +75,8 @@ front-kept P over k e h = go (begins_divider e) (begins_inner k e)
         (record { given = enter (cell_name k) e.point ∷ enter (inner_name k) e.point ∷ e ∷ []; stage = Inner k })
         (passed e (Front k)))).given
     go true y = two-kept P (enter (cell_name k) e.point) e (put-cell P over k Enter e h) h
-    go false true = three-kept P (enter (cell_name k) e.point) (enter (inner_name k) e.point) e (put-cell P over k Enter e h)
+    go false true =
+        three-kept P (enter (cell_name k) e.point) (enter (inner_name k) e.point) e (put-cell P over k Enter e h)
         (put-inner P over k Enter e h) h
     go false false = one-kept P e h
 
@@ -93,7 +94,8 @@ within-kept P over k e es h = go (begins_divider e) (begins_inner k e)
     go : (x y : Bool) →
         All P
         (cond x (divider_step k e (is_last es))
-        (cond y (record { given = enter (inner_name k) e.point ∷ e ∷ []; stage = Inner k }) (passed e (Within k)))).given
+        (cond y (record { given = enter (inner_name k) e.point ∷ e ∷ []; stage = Inner k })
+        (passed e (Within k)))).given
     go true y = divider-kept P over k e (is_last es) h
     go false true = two-kept P (enter (inner_name k) e.point) e (put-inner P over k Enter e h) h
     go false false = one-kept P e h
@@ -103,7 +105,8 @@ piece-kept : (P : Event → Type 0) (over : GoesOver P) (k : RowKind) (e : Event
 piece-kept P over Text e true h = All-nil P
 piece-kept P over Delimiter e true h = one-kept P e h
 piece-kept P over Text e false h = two-kept P e (exit (inner_name Text) e.point) h (put-inner P over Text Exit e h)
-piece-kept P over Delimiter e false h = two-kept P e (exit (inner_name Delimiter) e.point) h (put-inner P over Delimiter Exit e h)
+piece-kept P over Delimiter e false h =
+    two-kept P e (exit (inner_name Delimiter) e.point) h (put-inner P over Delimiter Exit e h)
 
 inner-kept : (P : Event → Type 0) (over : GoesOver P) (k : RowKind) (e : Event) (es : List Event) → P e →
     All P (inner_step k e es).given

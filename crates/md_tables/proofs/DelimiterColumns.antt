@@ -12,8 +12,8 @@ use Rattle.md_meaning.specs.Table.{delimiter_columns, is_delimiter, pieces, row_
 use Rattle.md_leaves.proofs.TitleTexts.{tail}
 use Rattle.md_link_definitions.proofs.Pieces.{Parted, onto-parted, pieces-parted}
 use Rattle.md_tables.specs.Delimiter.{Aligns, Dash, Divides, Mark, Other, Stops, White, mark_of}
-use Rattle.md_tables.specs.DelimiterRule.{Behind, Counts, Dashes, Fails, Front, Goes, Left, Marks, Move, Open, Place, counted}
-use Rattle.md_tables.specs.DelimiterRule.{fits, led, met, move}
+use Rattle.md_tables.specs.DelimiterRule.{Behind, Counts, Dashes, Fails, Front, Goes, Left, Marks, Move}
+use Rattle.md_tables.specs.DelimiterRule.{Open, Place, counted, fits, led, met, move}
 use Rattle.md_tables.specs.GfmTableLine.{are_columns}
 use Rattle.md_tables.proofs.CellLemmas.{cell-is, dark-next, dark-rest, ends_cell, ends_dark, tail-blank, trimmed-begins}
 use Rattle.md_tables.proofs.CellLemmas.{trimmed-dark, trimmed-whole}
@@ -166,7 +166,8 @@ pipe-asked p s b (c ∷ bs) e on to ends none =
     (pieces-pipe b c bs e ∙ ap (λ (row : List (List ℕ)). [] ∷ row) r.is)
     ∙ ap
     (λ (x : Bool).
-    x && (list_all (ends_cell Open) (r.first ∷ r.others) && total s (own p + suc (length r.others)) (has_mark (b ∷ c ∷ bs))))
+    x && (list_all (ends_cell Open) (r.first ∷ r.others)
+    && total s (own p + suc (length r.others)) (has_mark (b ∷ c ∷ bs))))
     ends)
 
 -- what a byte counts: one that is no mark nothing, a mark that it was met, the first dash of a cell that cell
@@ -226,7 +227,8 @@ colon-asked _ s b bs InLeft e on =
     let t = told-as b Aligns e in refused-asked Left s b bs (rw e refl) t.pipe (λ f. rw e refl)
 colon-asked _ s b bs InDashes e on =
     let t = told-as b Aligns e in
-    plain-asked Dashes Behind s (met s) b bs (rw e refl) t.pipe (colon-slash b t.colon) InBehind on refl (λ f. rw e refl)
+    plain-asked Dashes Behind s (met s) b bs (rw e refl) t.pipe (colon-slash b t.colon) InBehind on refl
+    (λ f. rw e refl)
     (marks-total Dashes Behind s b bs t.colon refl)
 colon-asked _ s b bs InBehind e on =
     let t = told-as b Aligns e in refused-asked Behind s b bs (rw e refl) t.pipe (λ f. rw e refl)
@@ -235,11 +237,13 @@ dash-asked : (p : Place) (s : Scratch) (b : ℕ) (bs : List ℕ) → IsIn p → 
     fits p s (b ∷ bs) ≡ asked p s (pieces false (b ∷ bs)) (has_mark (b ∷ bs))
 dash-asked _ s b bs InOpen e on =
     let t = told-as b Dash e in
-    plain-asked Open Dashes s (counted s) b bs (rw e refl) t.pipe (dash-slash b t.dash) InDashes on refl (λ f. rw e refl)
+    plain-asked Open Dashes s (counted s) b bs (rw e refl) t.pipe (dash-slash b t.dash) InDashes on refl
+    (λ f. rw e refl)
     (counts-total Open s b bs t.pipe t.colon refl)
 dash-asked _ s b bs InLeft e on =
     let t = told-as b Dash e in
-    plain-asked Left Dashes s (counted s) b bs (rw e refl) t.pipe (dash-slash b t.dash) InDashes on refl (λ f. rw e refl)
+    plain-asked Left Dashes s (counted s) b bs (rw e refl) t.pipe (dash-slash b t.dash) InDashes on refl
+    (λ f. rw e refl)
     (counts-total Left s b bs t.pipe t.colon refl)
 dash-asked _ s b bs InDashes e on =
     let t = told-as b Dash e in
@@ -336,7 +340,8 @@ start-same (b ∷ bs) h = rw h refl
 end-same : (t : List ℕ) → ends_dark t ≡ true → trim_end t ≡ t
 end-same t h =
     let whole = trimmed-whole t in
-    let none : tail is_white t ≡ [] = no-tail (trim_end t) (tail is_white t) (ap ends_dark (sym whole) ∙ h) (tail-blank t) in
+    let none : tail is_white t ≡ [] =
+    no-tail (trim_end t) (tail is_white t) (ap ends_dark (sym whole) ∙ h) (tail-blank t) in
     sym (whole ∙ ap (λ (ws : List ℕ). trim_end t ++ ws) none ∙ append-nil (trim_end t))
 
 trim-same : (t : List ℕ) → begins is_white t ≡ false → ends_dark t ≡ true → trim t ≡ t
@@ -406,7 +411,8 @@ open-fits s row u seen size is dark some same front marks =
     ∙ sym
     (columns-of row u s.columns_wanted same front
     ∙ ap
-    (λ (ps : List (List ℕ)). (has_mark row && list_all (ends_cell Open) ps) && nat_eq (length ps) s.columns_wanted) r.is)
+    (λ (ps : List (List ℕ)). (has_mark row && list_all (ends_cell Open) ps)
+    && nat_eq (length ps) s.columns_wanted) r.is)
 
 -- an empty row has no cell that is one of a delimiter row
 no-cell : (x : Bool) (n : ℕ) →
@@ -424,7 +430,8 @@ pipe-alone s b begin e same =
     let left : fits Front s (b ∷ []) ≡ nat_eq s.size s.columns_wanted = rw e refl in
     let front : after_optional 124 (b ∷ []) ≡ [] = rw t.pipe refl in
     let right : are_columns (delimiter_columns (b ∷ [])) s.columns_wanted ≡
-    (has_mark (b ∷ []) && list_all (ends_cell Open) (pieces false [])) && nat_eq (length (pieces false [])) s.columns_wanted =
+    (has_mark (b ∷ []) && list_all (ends_cell Open) (pieces false []))
+    && nat_eq (length (pieces false [])) s.columns_wanted =
     columns-of (b ∷ []) [] s.columns_wanted same front in
     left ∙ none ∙ sym (right ∙ no-cell (has_mark (b ∷ [])) s.columns_wanted)
   where
@@ -480,8 +487,8 @@ dark-fits s (b ∷ c ∷ bs) begin dark ends = by (mark_of b) refl
     by Dash e = whole Dash e (told-as b Dash e).pipe refl
     by Other e = whole Other e (told-as b Other e).pipe refl
 
--- A line behind its indent is a delimiter row by the states just if it is one by the line definition, with as many columns
--- as are asked for.
+-- A line behind its indent is a delimiter row by the states just if it is one by the line definition, with as many
+-- columns as are asked for.
 pub delimiter-fits : (s : Scratch) (bytes : List ℕ) → Begins s → begins is_white bytes ≡ false →
     fits Front s bytes ≡ are_columns (delimiter_columns (trim bytes)) s.columns_wanted
 delimiter-fits s bytes begin dark =

@@ -11,8 +11,8 @@ use Rattle.md_seam.specs.Events.Nested.{enter, exit}
 use Rattle.md_seam.proofs.AheadLemmas.{white-no_ending}
 use Rattle.md_tables.specs.Delimiter.{Aligns, Dash, Divides, Mark, Stops, White, mark_of, uncounted}
 use Rattle.md_tables.specs.DelimiterRule.{Apart, Behind, Counts, Dashes, Fails, Goes, Marks, Move, Open}
-use Rattle.md_tables.specs.DelimiterRule.{Place, Run, Space, begun, behind_white, closes, counted, goes_on, in_row, met, move}
-use Rattle.md_tables.specs.DelimiterRule.{opens}
+use Rattle.md_tables.specs.DelimiterRule.{Place, Run, Space, begun, behind_white, closes, counted}
+use Rattle.md_tables.specs.DelimiterRule.{goes_on, in_row, met, move, opens}
 use Rattle.md_tables.proofs.RowMeaning.{white-apart}
 
 -- What a mark says of its byte.
@@ -150,7 +150,9 @@ white-move _ b InBehind e = ap (move Behind) (white-mark b e)
 pub takes-white : (place : Place) → MaySpace place → TakesWhite (λ s. ⊤) (in_row Space place) (behind_white place)
 unfolding behind_white
 takes-white place may = record {
-  more = λ c cs h is s. row-goes Space place c cs h (Goes place) (white-move place c.byte may s) (white-no_ending c.byte s) s;
+  more =
+      λ c cs h is s. row-goes Space place c cs h (Goes place) (white-move place c.byte may s)
+      (white-no_ending c.byte s) s;
   stop = λ c cs h is k. go c cs h k (nat_eq c.byte 10) refl ∙ rw k refl;
   none = λ h is. row-ends_none Space place h;
 }
@@ -172,7 +174,8 @@ apart-white place c cs h may s =
     row-begins place c cs h (Goes place) to ending
     ∙ ap (λ (y : Run). in_row y place cs (record h { events = h.events ++ opens y h.point; point = c.after })) is
     ∙ sym
-    (row-goes Space place c cs (record h { events = h.events ++ enter SpaceOrTab h.point ∷ [] }) (Goes place) to ending s)
+    (row-goes Space place c cs (record h { events = h.events ++ enter SpaceOrTab h.point ∷ [] }) (Goes place)
+    to ending s)
 
 -- where none stands, what is left behind it
 pub apart-none : (place : Place) (cells : List Cell) (h : Here) → begins_white cells ≡ false →

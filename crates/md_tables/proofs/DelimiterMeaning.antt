@@ -28,18 +28,18 @@ use Rattle.md_seam.specs.Transition.{Transition}
 use Rattle.md_seam.proofs.AheadLemmas.{small-some}
 use Rattle.md_seam.proofs.WhiteMeaning.{begins-seen, white-tried}
 use Rattle.md_tables.specs.Delimiter.{Aligns, Dash, Divides, IsCounting, IsOfDelimiter, Mark, Other, Stops, White}
-use Rattle.md_tables.specs.Delimiter.{before_code, cell_after_code, delimiter_transition, ends_code, filled, filler_code}
-use Rattle.md_tables.specs.Delimiter.{is_counted, left_after_code, mark, mark_of, marked, refused, row_entered}
-use Rattle.md_tables.specs.Delimiter.{uncounted, unfilled, value_before_code, white_on}
-use Rattle.md_tables.specs.Delimiter.IsOfDelimiter.{Before, CellAfter, CellBefore, Filler as InFiller, LeftAfter, RightAfter}
-use Rattle.md_tables.specs.Delimiter.IsOfDelimiter.{Refused, Start, ValueBefore}
-use Rattle.md_tables.specs.DelimiterRule.{Apart, Behind, Colon, Counts, Dashes, Fails, Filler, Front, Goes, HasDelimiter}
-use Rattle.md_tables.specs.DelimiterRule.{Left, Marks, Open, Pipe, Place, Run, Space, begun, behind_white, closes}
-use Rattle.md_tables.specs.DelimiterRule.{counted, delimiter_at, goes_on, in_row, may_end, met, move}
-use Rattle.md_tables.specs.DelimiterRule.{opens, row_closes, row_opens}
+use Rattle.md_tables.specs.Delimiter.{before_code, cell_after_code, delimiter_transition, ends_code, filled}
+use Rattle.md_tables.specs.Delimiter.{filler_code, is_counted, left_after_code, mark, mark_of, marked, refused}
+use Rattle.md_tables.specs.Delimiter.{row_entered, uncounted, unfilled, value_before_code, white_on}
+use Rattle.md_tables.specs.Delimiter.IsOfDelimiter.{Before, CellAfter, CellBefore, Filler as InFiller, LeftAfter}
+use Rattle.md_tables.specs.Delimiter.IsOfDelimiter.{RightAfter, Refused, Start, ValueBefore}
+use Rattle.md_tables.specs.DelimiterRule.{Apart, Behind, Colon, Counts, Dashes, Fails, Filler, Front, Goes}
+use Rattle.md_tables.specs.DelimiterRule.{HasDelimiter, Left, Marks, Open, Pipe, Place, Run, Space, begun, behind_white}
+use Rattle.md_tables.specs.DelimiterRule.{closes, counted, delimiter_at, goes_on, in_row, may_end}
+use Rattle.md_tables.specs.DelimiterRule.{met, move, opens, row_closes, row_opens}
 use Rattle.md_tables.proofs.DelimiterLemmas.{InBehind, InOpen, MaySpace, Told, apart-none, apart-white}
-use Rattle.md_tables.proofs.DelimiterLemmas.{one-ends, row-begins, row-ends, row-ends_line, row-ends_none, row-goes, takes-white}
-use Rattle.md_tables.proofs.DelimiterLemmas.{is_dash, is_stop, told, told-as, white-refused}
+use Rattle.md_tables.proofs.DelimiterLemmas.{one-ends, row-begins, row-ends, row-ends_line, row-ends_none, row-goes}
+use Rattle.md_tables.proofs.DelimiterLemmas.{takes-white, is_dash, is_stop, told, told-as, white-refused}
 
 -- What is seen of a mark.
 record SeesMark (feed : Feed) (w : World) (x : Mark) : Type 0 where
@@ -93,12 +93,14 @@ not-stop Other k = refl
 
 -- a byte that may not stand there
 fails-here : (feed : Feed) (w : World) (place : Place) (x : Mark) (h : Here) → Sees feed w → mark w.current ≡ x →
-    is_here x ≡ true → move place x ≡ Fails → in_row Apart place (feed w.point) h ≡ Refuses (uncounted h.scratch) h.flags
+    is_here x ≡ true → move place x ≡ Fails →
+    in_row Apart place (feed w.point) h ≡ Refuses (uncounted h.scratch) h.flags
 fails-here feed w place x h s e some none =
     let saw = sees-mark feed w x s e some in
     let t = told-as saw.byte x saw.is in
     ap (λ (y : List Cell). in_row Apart place y h) saw.next
-    ∙ row-begins place (cell_here feed w saw.byte) (feed (after w.setting w.point)) h Fails (ap (move place) saw.is ∙ none)
+    ∙ row-begins place (cell_here feed w saw.byte) (feed (after w.setting w.point)) h Fails
+    (ap (move place) saw.is ∙ none)
     (t.stop ∙ not-stop x some)
 
 -- the end of the line where the row may not end, and where it may
@@ -165,7 +167,8 @@ white_means B options feed from w place next true has may s r e same next_is =
     begins_only B feed from _ w (white_on w any_size next true).world frame refl refl
     (same ∙ white-here feed w place h may s e
     ∙ white-run _ (in_row Space place) (behind_white place) any_size (feed w.point)
-    (record h { events = h.events ++ enter SpaceOrTab h.point ∷ [] }) (takes-white place may) tt (omega (arith, s.short))
+    (record h { events = h.events ++ enter SpaceOrTab h.point ∷ [] }) (takes-white place may) tt
+    (omega (arith, s.short))
     ∙ ap (behind_white place (white_rest any_size (feed w.point)))
     (behind-joined any_size (feed w.point) h (calm w.scratch r))
     ∙ sym (next_is _ _)
@@ -302,17 +305,21 @@ before_means B options feed w Aligns has s e =
     ∙ sym (dark-here feed w Open Aligns s e (λ k. cc)) ∙ sym (has.each its.HeadDelimiterValueBefore ValueBefore _ _))
 before_means B options feed w Divides has s e =
     mark_means B feed _ w w.events [] Front Open Divides Pipe parts.GfmTableCellDivider its.HeadDelimiterCellBefore
-    OfPipe s e refl (no-events w) (has.each its.HeadDelimiterBefore Before _ _) (has.each its.HeadDelimiterCellBefore CellBefore)
+    OfPipe s e refl (no-events w) (has.each its.HeadDelimiterBefore Before _ _)
+    (has.each its.HeadDelimiterCellBefore CellBefore)
 before_means B options feed w Stops has s e =
     refused_means B feed _ w (has.each its.HeadDelimiterBefore Before _ _ ∙ stops-here feed w Front (here w) s e refl)
 before_means B options feed w White has s e =
-    refused_means B feed _ w (has.each its.HeadDelimiterBefore Before _ _ ∙ fails-here feed w Front White (here w) s e refl refl)
+    refused_means B feed _ w
+    (has.each its.HeadDelimiterBefore Before _ _ ∙ fails-here feed w Front White (here w) s e refl refl)
 before_means B options feed w Other has s e =
-    refused_means B feed _ w (has.each its.HeadDelimiterBefore Before _ _ ∙ fails-here feed w Front Other (here w) s e refl refl)
+    refused_means B feed _ w
+    (has.each its.HeadDelimiterBefore Before _ _ ∙ fails-here feed w Front Other (here w) s e refl refl)
 
 value_before_means : (B : Behaviour) (options : ParseOptions) (feed : Feed) (w : World) (x : Mark) →
     HasDelimiter B options → Sees feed w → mark w.current ≡ x →
-    Steps B feed (Next (n.GfmTable its.HeadDelimiterValueBefore)) w (value_before_code w x).to (value_before_code w x).world
+    Steps B feed (Next (n.GfmTable its.HeadDelimiterValueBefore)) w (value_before_code w x).to
+    (value_before_code w x).world
 value_before_means B options feed w Stops has s e =
     turned_means B feed _ _ w
     (has.each its.HeadDelimiterValueBefore ValueBefore _ _ ∙ dark-here feed w Open Stops s e (λ k. cc)
@@ -326,7 +333,8 @@ value_before_means B options feed w Aligns has s e =
 value_before_means B options feed w Dash has s e =
     turned_means B feed _ _ w
     (has.each its.HeadDelimiterValueBefore ValueBefore _ _ ∙ dark-here feed w Open Dash s e (λ k. cc)
-    ∙ places-meet feed w Open Left Dash (here w) s e refl refl ∙ sym (has.each its.HeadDelimiterLeftAlignmentAfter LeftAfter _ _))
+    ∙ places-meet feed w Open Left Dash (here w) s e refl refl
+    ∙ sym (has.each its.HeadDelimiterLeftAlignmentAfter LeftAfter _ _))
 value_before_means B options feed w White has s e =
     refused_means B feed _ w (has.each its.HeadDelimiterValueBefore ValueBefore _ _ ∙ white-stands feed w Open s e)
 value_before_means B options feed w Divides has s e =
@@ -362,7 +370,8 @@ left_after_means B options feed w Dash has s e =
     })) is
     ∙ sym (has.each its.HeadDelimiterFiller InFiller _ _))
 left_after_means B options feed w Stops has s e =
-    refused_means B feed _ w (has.each its.HeadDelimiterLeftAlignmentAfter LeftAfter _ _ ∙ stops-here feed w Left (here w) s e refl)
+    refused_means B feed _ w
+    (has.each its.HeadDelimiterLeftAlignmentAfter LeftAfter _ _ ∙ stops-here feed w Left (here w) s e refl)
 left_after_means B options feed w White has s e =
     refused_means B feed _ w
     (has.each its.HeadDelimiterLeftAlignmentAfter LeftAfter _ _ ∙ fails-here feed w Left White (here w) s e refl refl)
@@ -379,7 +388,8 @@ left_after_means B options feed w Other has s e =
 -- the dashes of a cell end with what is no dash
 filler-ends : (feed : Feed) (w : World) (h : Here) (o : Option ℕ) → is_dash (mark o) ≡ false →
     in_row Filler Dashes (ahead feed w o) h ≡
-    in_row Apart Dashes (ahead feed w o) (record h { events = h.events ++ exit parts.GfmTableDelimiterFiller h.point ∷ [] })
+    in_row Apart Dashes (ahead feed w o)
+    (record h { events = h.events ++ exit parts.GfmTableDelimiterFiller h.point ∷ [] })
 filler-ends feed w h None e = row-ends_none Filler Dashes h
 filler-ends feed w h (Some b) e = go (nat_eq b 10) refl
   where
@@ -407,7 +417,8 @@ unfilled_means : (B : Behaviour) (options : ParseOptions) (feed : Feed) (w : Wor
     Steps B feed (Next (n.GfmTable its.HeadDelimiterFiller)) w (unfilled w).to (unfilled w).world
 unfilled_means B options feed w x has s e dash same =
     moves B feed _ _ w (unfilled w).world (exit parts.GfmTableDelimiterFiller w.point ∷ []) refl refl
-    (filler-here B options feed w x has s e dash ∙ same ∙ sym (has.each its.HeadDelimiterRightAlignmentAfter RightAfter _ _))
+    (filler-here B options feed w x has s e dash ∙ same
+    ∙ sym (has.each its.HeadDelimiterRightAlignmentAfter RightAfter _ _))
 
 filler_means : (B : Behaviour) (options : ParseOptions) (feed : Feed) (w : World) (x : Mark) → HasDelimiter B options →
     Sees feed w → mark w.current ≡ x →

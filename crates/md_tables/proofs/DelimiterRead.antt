@@ -18,7 +18,8 @@ use Rattle.md_seam.proofs.InlineLemmas.{past-index}
 use Rattle.md_seam.proofs.RestLines.{trim-white}
 use Rattle.md_seam.proofs.SpelledLemmas.{Quiet, Roles, read-from, read-quiet, roles-append}
 use Rattle.md_tables.specs.DelimiterCells.{delimiter_events, delimiter_runs, value_part}
-use Rattle.md_tables.specs.DelimiterRule.{Apart, Colon, Filler, Pipe, Run, Space, begun as run_begun, closes, goes_on, opens}
+use Rattle.md_tables.specs.DelimiterRule.{Apart, Colon, Filler, Pipe, Run, Space}
+use Rattle.md_tables.specs.DelimiterRule.{begun as run_begun, closes, goes_on, opens}
 use Rattle.md_tables.specs.RowCells.{Cells, Divides, Ends, Shut, cell_by, cells_by, first_pipe, line_cells, past_pipe}
 use Rattle.md_tables.specs.RowCells.{pipe_part, row_by, white_back, white_front, white_part}
 
@@ -123,7 +124,8 @@ runs-quiet run (b ∷ bs) p =
     go true on next = on
     go false on next =
         roles-append Quiet (closes run p ++ opens (run_begun b) p) _
-        (roles-append Quiet (closes run p) (opens (run_begun b) p) (closes-quiet run p) (opens-quiet (run_begun b) p)) next
+        (roles-append Quiet (closes run p) (opens (run_begun b) p) (closes-quiet run p) (opens-quiet (run_begun b) p))
+        next
 
 value-quiet : (xs : List ℕ) (p : Point) → Roles Quiet (value_part xs p)
 value-quiet [] p = tt

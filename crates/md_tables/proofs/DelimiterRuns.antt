@@ -45,7 +45,8 @@ pub blank-runs : (bs : List ℕ) (p : Point) → is_blank bs ≡ true → delimi
 blank-runs [] p h = refl
 blank-runs (b ∷ bs) p h =
     let both = and_parts (is_white b) (is_blank bs) h in
-    space-opens b bs p both.0 ∙ ap (λ (es : List Event). enter n.SpaceOrTab p ∷ es) (space-alone bs (past_byte b p) both.1)
+    space-opens b bs p both.0
+    ∙ ap (λ (es : List Event). enter n.SpaceOrTab p ∷ es) (space-alone bs (past_byte b p) both.1)
 
 -- and ends in front of what is none
 pub space-front : (bs : List ℕ) (p : Point) →
@@ -197,7 +198,8 @@ pub record Begun (es : List Event) : Type 0 where
   pub no_row : ends_row first ≡ false
   pub no_white : is_white_name first.name ≡ false
 
-pub run-begun : (b : ℕ) (bs : List ℕ) (p : Point) → is_white b ≡ false → Begun (delimiter_runs Apart (b ∷ bs) p ++ row_end (b ∷ bs) p)
+pub run-begun : (b : ℕ) (bs : List ℕ) (p : Point) → is_white b ≡ false →
+    Begun (delimiter_runs Apart (b ∷ bs) p ++ row_end (b ∷ bs) p)
 run-begun b bs p e = go (nat_eq b 124) refl (nat_eq b 58) refl
   where
     go : (x : Bool) → nat_eq b 124 ≡ x → (y : Bool) → nat_eq b 58 ≡ y →
@@ -256,7 +258,8 @@ pub last-pipe : (bs : List ℕ) (p : Point) → row_ends (delimiter_runs Apart b
 last-pipe [] p = refl
 last-pipe (b ∷ bs) p = go (is_white b) refl
   where
-    go : (x : Bool) → is_white b ≡ x → row_ends (delimiter_runs Apart (b ∷ bs) p ++ row_end (b ∷ bs) p) ≡ is_blank (b ∷ bs)
+    go : (x : Bool) → is_white b ≡ x →
+        row_ends (delimiter_runs Apart (b ∷ bs) p ++ row_end (b ∷ bs) p) ≡ is_blank (b ∷ bs)
     go true e =
         let run = space-run bs (past_byte b p) in
         ap (λ (es : List Event). row_ends (es ++ row_end (b ∷ bs) p)) (space-opens b bs p e)

@@ -17,12 +17,12 @@ use Rattle.md_seam.specs.Spaces.{IsRest, any_size, calmed, small_indent}
 use Rattle.md_seam.specs.Transition.{entered, exited, taken}
 use Rattle.md_seam.proofs.SpacesTermination.{Does, WhiteFits, rest-none, seen-in, white_try}
 use Rattle.md_tables.specs.Delimiter.{IsOfDelimiter}
-use Rattle.md_tables.specs.Delimiter.IsOfDelimiter.{Before, CellAfter, CellBefore, Filler, LeftAfter, Refused, RightAfter}
-use Rattle.md_tables.specs.Delimiter.IsOfDelimiter.{Start, ValueBefore}
+use Rattle.md_tables.specs.Delimiter.IsOfDelimiter.{Before, CellAfter, CellBefore, Filler, LeftAfter}
+use Rattle.md_tables.specs.Delimiter.IsOfDelimiter.{Refused, RightAfter, Start, ValueBefore}
 use Rattle.md_tables.specs.Delimiter.{Aligns, Dash, Divides, IsCounting, Mark, Other, Stops, White, before_code}
-use Rattle.md_tables.specs.Delimiter.{cell_after_code, delimiter_ready, delimiter_scheme, delimiter_transition, ends_code}
-use Rattle.md_tables.specs.Delimiter.{filler_code, left_after_code, mark, marked, refused, row_entered, row_exited}
-use Rattle.md_tables.specs.Delimiter.{uncounted, unfilled, value_before_code, white_on}
+use Rattle.md_tables.specs.Delimiter.{cell_after_code, delimiter_ready, delimiter_scheme, delimiter_transition}
+use Rattle.md_tables.specs.Delimiter.{ends_code, filler_code, left_after_code, mark, marked, refused, row_entered}
+use Rattle.md_tables.specs.Delimiter.{row_exited, uncounted, unfilled, value_before_code, white_on}
 
 pub record DelimiterFits (T : Scheme) : Type 1 where
   pub white : WhiteFits T
@@ -43,16 +43,19 @@ turned_ends : (T : Scheme) (state next : TableState) (w : World) (events : List 
     Does T (n.GfmTable state) w
     (record { to = Retry (n.GfmTable next); world = record w { events = events } })
 turned_ends T state next w events a b has r less = (
-  turns T delimiter_scheme (n.GfmTable state) (n.GfmTable next) w events w.scratch (has.each state a) (has.each next b)
-      (r.0, later IsRest IsRest (position w) (after_all T w.frames) w.point w.scratch (stays w.setting.limit w.point) r.1)
+  turns T delimiter_scheme (n.GfmTable state) (n.GfmTable next) w events w.scratch
+      (has.each state a) (has.each next b) (
+        r.0,
+        later IsRest IsRest (position w) (after_all T w.frames) w.point w.scratch (stays w.setting.limit w.point) r.1,
+      )
       (omega arith) less,
   refl,
 )
 
 -- it takes what stands here
 taken_ends : (T : Scheme) (state next : TableState) (w : World) (events : List Event) (s : Scratch) →
-    IsOfDelimiter state → IsOfDelimiter next → DelimiterFits T → ready w T → w.point.index < w.setting.limit → s.size ≤ w.scratch.size + 1 →
-    uncounted s ≡ uncounted w.scratch →
+    IsOfDelimiter state → IsOfDelimiter next → DelimiterFits T → ready w T → w.point.index < w.setting.limit →
+    s.size ≤ w.scratch.size + 1 → uncounted s ≡ uncounted w.scratch →
     Does T (n.GfmTable state) w
     (record { to = Next (n.GfmTable next); world = record (taken w) { events = events; scratch = s } })
 taken_ends T state next w events s a b has r inside le same = (
@@ -104,10 +107,13 @@ marked_ends T state next w events name a b has r inside =
 
 before_ends : (T : Scheme) (w : World) (x : Mark) → DelimiterFits T → ready w T → mark (seen (position w)) ≡ x →
     Does T (n.GfmTable its.HeadDelimiterBefore) w (before_code w x)
-before_ends T w Dash has r e = turned_ends T its.HeadDelimiterBefore its.HeadDelimiterValueBefore w w.events Before ValueBefore has r (omega arith)
-before_ends T w Aligns has r e = turned_ends T its.HeadDelimiterBefore its.HeadDelimiterValueBefore w w.events Before ValueBefore has r (omega arith)
+before_ends T w Dash has r e =
+    turned_ends T its.HeadDelimiterBefore its.HeadDelimiterValueBefore w w.events Before ValueBefore has r (omega arith)
+before_ends T w Aligns has r e =
+    turned_ends T its.HeadDelimiterBefore its.HeadDelimiterValueBefore w w.events Before ValueBefore has r (omega arith)
 before_ends T w Divides has r e =
-    marked_ends T its.HeadDelimiterBefore its.HeadDelimiterCellBefore w w.events parts.GfmTableCellDivider Before CellBefore has r
+    marked_ends T its.HeadDelimiterBefore its.HeadDelimiterCellBefore w w.events parts.GfmTableCellDivider Before
+    CellBefore has r
     (here-in w Divides e refl)
 before_ends T w Stops has r e = refused_ends T its.HeadDelimiterBefore w r
 before_ends T w White has r e = refused_ends T its.HeadDelimiterBefore w r
@@ -116,12 +122,14 @@ before_ends T w Other has r e = refused_ends T its.HeadDelimiterBefore w r
 value_before_ends : (T : Scheme) (w : World) (x : Mark) → DelimiterFits T → ready w T → mark (seen (position w)) ≡ x →
     Does T (n.GfmTable its.HeadDelimiterValueBefore) w (value_before_code w x)
 value_before_ends T w Stops has r e =
-    turned_ends T its.HeadDelimiterValueBefore its.HeadDelimiterCellAfter w w.events ValueBefore CellAfter has r (omega arith)
+    turned_ends T its.HeadDelimiterValueBefore its.HeadDelimiterCellAfter w w.events ValueBefore CellAfter has r
+    (omega arith)
 value_before_ends T w Aligns has r e =
     marked_ends T its.HeadDelimiterValueBefore its.HeadDelimiterLeftAlignmentAfter w w.events
     parts.GfmTableDelimiterMarker ValueBefore LeftAfter has r (here-in w Aligns e refl)
 value_before_ends T w Dash has r e =
-    turned_ends T its.HeadDelimiterValueBefore its.HeadDelimiterLeftAlignmentAfter w w.events ValueBefore LeftAfter has r (omega arith)
+    turned_ends T its.HeadDelimiterValueBefore its.HeadDelimiterLeftAlignmentAfter w w.events ValueBefore LeftAfter has
+    r (omega arith)
 value_before_ends T w White has r e = refused_ends T its.HeadDelimiterValueBefore w r
 value_before_ends T w Divides has r e = refused_ends T its.HeadDelimiterValueBefore w r
 value_before_ends T w Other has r e = refused_ends T its.HeadDelimiterValueBefore w r
@@ -130,7 +138,8 @@ left_after_ends : (T : Scheme) (w : World) (x : Mark) → DelimiterFits T → re
     Does T (n.GfmTable its.HeadDelimiterLeftAlignmentAfter) w (left_after_code w x)
 left_after_ends T w Dash has r e =
     taken_ends T its.HeadDelimiterLeftAlignmentAfter its.HeadDelimiterFiller w
-    (entered w parts.GfmTableDelimiterFiller).events (record w.scratch { size = w.scratch.size + 1 }) LeftAfter Filler has r
+    (entered w parts.GfmTableDelimiterFiller).events (record w.scratch { size = w.scratch.size + 1 }) LeftAfter
+    Filler has r
     (here-in w Dash e refl) (omega arith) refl
 left_after_ends T w Stops has r e = refused_ends T its.HeadDelimiterLeftAlignmentAfter w r
 left_after_ends T w White has r e = refused_ends T its.HeadDelimiterLeftAlignmentAfter w r
@@ -147,11 +156,13 @@ unfilled_ends T w has r =
 filler_ends : (T : Scheme) (w : World) (x : Mark) → DelimiterFits T → ready w T → mark (seen (position w)) ≡ x →
     Does T (n.GfmTable its.HeadDelimiterFiller) w (filler_code w x)
 filler_ends T w Dash has r e =
-    taken_ends T its.HeadDelimiterFiller its.HeadDelimiterFiller w w.events w.scratch Filler Filler has r (here-in w Dash e refl)
+    taken_ends T its.HeadDelimiterFiller its.HeadDelimiterFiller w w.events w.scratch Filler Filler has r
+    (here-in w Dash e refl)
     (omega arith) refl
 filler_ends T w Aligns has r e =
     marked_ends T its.HeadDelimiterFiller its.HeadDelimiterRightAlignmentAfter w
-    (exited w parts.GfmTableDelimiterFiller).events parts.GfmTableDelimiterMarker Filler RightAfter has r (here-in w Aligns e refl)
+    (exited w parts.GfmTableDelimiterFiller).events parts.GfmTableDelimiterMarker Filler RightAfter has r
+    (here-in w Aligns e refl)
 filler_ends T w Stops has r e = unfilled_ends T w has r
 filler_ends T w White has r e = unfilled_ends T w has r
 filler_ends T w Divides has r e = unfilled_ends T w has r
@@ -166,7 +177,8 @@ cell_after_ends : (T : Scheme) (w : World) (x : Mark) → DelimiterFits T → re
     Does T (n.GfmTable its.HeadDelimiterCellAfter) w (cell_after_code w x)
 cell_after_ends T w Stops has r e = ends_ends T w _ r
 cell_after_ends T w Divides has r e =
-    marked_ends T its.HeadDelimiterCellAfter its.HeadDelimiterCellBefore w w.events parts.GfmTableCellDivider CellAfter CellBefore has r
+    marked_ends T its.HeadDelimiterCellAfter its.HeadDelimiterCellBefore w w.events parts.GfmTableCellDivider CellAfter
+    CellBefore has r
     (here-in w Divides e refl)
 cell_after_ends T w White has r e = refused_ends T its.HeadDelimiterCellAfter w r
 cell_after_ends T w Aligns has r e = refused_ends T its.HeadDelimiterCellAfter w r
@@ -183,13 +195,15 @@ delimiter_terminates T _ w Start has c r =
     (small_indent w.setting.options) _ Start Before has r (λ y. omega arith) (omega arith)
 delimiter_terminates T _ w Before has c r = before_ends T w _ has r (ap mark (sym c))
 delimiter_terminates T _ w CellBefore has c r =
-    white_ends T its.HeadDelimiterCellBefore its.HeadDelimiterValueBefore w w.events any_size _ CellBefore ValueBefore has r (λ y. omega arith)
+    white_ends T its.HeadDelimiterCellBefore its.HeadDelimiterValueBefore w w.events any_size _ CellBefore ValueBefore
+    has r (λ y. omega arith)
     (omega arith)
 delimiter_terminates T _ w ValueBefore has c r = value_before_ends T w _ has r (ap mark (sym c))
 delimiter_terminates T _ w LeftAfter has c r = left_after_ends T w _ has r (ap mark (sym c))
 delimiter_terminates T _ w Filler has c r = filler_ends T w _ has r (ap mark (sym c))
 delimiter_terminates T _ w RightAfter has c r =
-    white_ends T its.HeadDelimiterRightAlignmentAfter its.HeadDelimiterCellAfter w w.events any_size _ RightAfter CellAfter has r
+    white_ends T its.HeadDelimiterRightAlignmentAfter its.HeadDelimiterCellAfter w w.events any_size _ RightAfter
+    CellAfter has r
     (λ y. omega arith) (omega arith)
 delimiter_terminates T _ w CellAfter has c r = cell_after_ends T w _ has r (ap mark (sym c))
 delimiter_terminates T _ w Refused has c r = refused_ends T its.HeadDelimiterNok w r

@@ -14,8 +14,9 @@ use Rattle.md_seam.proofs.InlineLemmas.{past_text-append}
 use Rattle.md_tables.specs.Cells.{celled}
 use Rattle.md_tables.specs.Delimiter.{Aligns, Dash, Divides as Pipes, Mark, Other, Stops, White, mark_of}
 use Rattle.md_tables.specs.DelimiterCells.{delimiter_events, delimiter_runs, value_part}
-use Rattle.md_tables.specs.DelimiterRule.{Apart, Behind as BehindCell, Colon, Dashes, Filler, Front as FrontOfRow, Left, Open}
-use Rattle.md_tables.specs.DelimiterRule.{Place, Run, Space, begun, closes, counted, fits, goes_on, led, met, move, opens}
+use Rattle.md_tables.specs.DelimiterRule.{Apart, Behind as BehindCell, Colon, Dashes, Filler, Front as FrontOfRow, Left}
+use Rattle.md_tables.specs.DelimiterRule.{Open, Place, Run, Space, begun, closes, counted}
+use Rattle.md_tables.specs.DelimiterRule.{fits, goes_on, led, met, move, opens}
 use Rattle.md_tables.specs.RowCells.{Cells, behind_pipe, cell_by, cells_by, cells_of, line_cells}
 use Rattle.md_tables.specs.RowCells.{white_front, white_part}
 use Rattle.md_tables.specs.declared.cells.RowKind.TheVariants.{Delimiter}
@@ -116,8 +117,8 @@ run-pipe run bs p is walks = go run is
         (piped-walk bs p walks) ∙ sym (wanted Filler)
 
 -- in front of whitespace, behind which nothing else stands in the cell,
-run-space : (run : Run) (b : ℕ) (bs : List ℕ) (p : Point) → IsValue run → Told b White → BehindValue bs (past_byte b p) →
-    InRun run (b ∷ bs) p
+run-space : (run : Run) (b : ℕ) (bs : List ℕ) (p : Point) → IsValue run → Told b White →
+    BehindValue bs (past_byte b p) → InRun run (b ∷ bs) p
 unfolding celled
 run-space run b bs p is t more = go run is
   where
@@ -283,7 +284,8 @@ cell-value into b bs p at dark pipe slash same more = record {
     turns into same = ap (λ (r : Run). opens r p ++ delimiter_runs r bs q) same
 
     go : (into : Run) → IsValue into → begun b ≡ into → InRun into bs q →
-        celled (Within Delimiter) (delimiter_runs Apart (b ∷ bs) p ++ end) ≡ cells_left (cells_of false (b ∷ bs)) p ++ end
+        celled (Within Delimiter) (delimiter_runs Apart (b ∷ bs) p ++ end) ≡
+        cells_left (cells_of false (b ∷ bs)) p ++ end
     go _ IsColon same more =
         ap (λ (es : List Event). celled (Within Delimiter) (es ++ end)) (turns Colon same)
         ∙ ap
@@ -295,7 +297,8 @@ cell-value into b bs p at dark pipe slash same more = record {
         (λ (es : List Event). enter n.GfmTableDelimiterCellValue p ∷ enter n.GfmTableDelimiterFiller p ∷ es) more
         ∙ sym (wanted Filler same)
 
-    starts : celled (Within Delimiter) (delimiter_runs Apart (b ∷ bs) p ++ end) ≡ cells_left (cells_of false (b ∷ bs)) p ++ end
+    starts : celled (Within Delimiter) (delimiter_runs Apart (b ∷ bs) p ++ end) ≡
+        cells_left (cells_of false (b ∷ bs)) p ++ end
     starts = go into at same more
 
 -- or with whitespace,
@@ -345,7 +348,8 @@ behind-none p = record {
   space = (cell-none p).space;
 }
 
-behind-space : (b : ℕ) (bs : List ℕ) (p : Point) → Told b White → BehindValue bs (past_byte b p) → BehindValue (b ∷ bs) p
+behind-space : (b : ℕ) (bs : List ℕ) (p : Point) → Told b White → BehindValue bs (past_byte b p) →
+    BehindValue (b ∷ bs) p
 behind-space b bs p t more = record {
   blank =
       ap (λ (c : Cells). is_blank (first_cell c)) (cells-plain b bs t.pipe (white-apart b 92 t.white refl))
@@ -464,7 +468,8 @@ row-starts s (b ∷ bs) p h = go (mark_of b) (told b) h
     Row : ℕ → Type 0
     Row c =
         celled (Front Delimiter) (delimiter_runs Apart (c ∷ bs) p ++ row_end (c ∷ bs) p) ≡
-        cells_by n.GfmTableDelimiterCell value_part (begins_with 124 (c ∷ bs)) (line_cells (c ∷ bs)) p ++ row_end (c ∷ bs) p
+        cells_by n.GfmTableDelimiterCell value_part (begins_with 124 (c ∷ bs)) (line_cells (c ∷ bs)) p
+        ++ row_end (c ∷ bs) p
 
     -- behind a pipe
     piped_row : AtCell bs (past_byte 124 p) → Row 124
@@ -538,10 +543,12 @@ delimiter-celled s line p h =
     end = exit n.GfmTableDelimiterRow (past_text line p) ∷ []
 
     same : past_text line p ≡ past_text (trim_start line) q
-    same = ap (λ (l : List ℕ). past_text l p) (front-whole line) ∙ past_text-append (white_front line) (trim_start line) p
+    same =
+        ap (λ (l : List ℕ). past_text l p) (front-whole line) ∙ past_text-append (white_front line) (trim_start line) p
 
     rest : celled (Front Delimiter) (delimiter_runs Apart (trim_start line) q ++ end) ≡
-        cells_by n.GfmTableDelimiterCell value_part (begins_with 124 (trim_start line)) (line_cells (trim_start line)) q ++ end
+        cells_by n.GfmTableDelimiterCell value_part (begins_with 124 (trim_start line)) (line_cells (trim_start line)) q
+        ++ end
     rest =
         subst
         (λ (r : Point).
@@ -552,7 +559,8 @@ delimiter-celled s line p h =
     go : (w : List ℕ) →
         celled (Front Delimiter) (white_part w p ++ (delimiter_runs Apart (trim_start line) q ++ end)) ≡
         white_part w p
-        ++ (cells_by n.GfmTableDelimiterCell value_part (begins_with 124 (trim_start line)) (line_cells (trim_start line)) q
+        ++ (cells_by n.GfmTableDelimiterCell value_part (begins_with 124 (trim_start line))
+        (line_cells (trim_start line)) q
         ++ end)
     go [] = rest
     go (b ∷ w) = ap (λ (es : List Event). white_part (b ∷ w) p ++ es) rest

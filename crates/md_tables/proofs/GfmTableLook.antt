@@ -62,6 +62,7 @@ table-looked options (held_leaf.Text text) cells b seen e = go (nat_lt 0 text.co
         (off options.constructs.gfm_table (is_small options text.indent))
     go true some e =
         rule-refused is_mark (may_head options text) (is_row_of text.columns) (small_indent options) cells b refl
-        (λ c bytes k. none-mark (asking_columns text.columns REST) c bytes k) (λ c white. grind (arith, nat_tests)) seen e
+        (λ c bytes k. none-mark (asking_columns text.columns REST) c bytes k)
+        (λ c white. grind (arith, nat_tests)) seen e
 table-looked options held_leaf.Table cells b seen e = cc
 table-looked options _ cells b seen e = refl

@@ -15,8 +15,8 @@ use Rattle.md_engine.specs.World.{World}
 use Rattle.md_engine.specs.Sees.{Sees}
 use Rattle.md_engine.proofs.StepOf.{passes, steps-as}
 use Rattle.md_tables.specs.Delimiter.{IsOfDelimiter}
-use Rattle.md_tables.specs.Delimiter.IsOfDelimiter.{Before, CellAfter, CellBefore, Filler, LeftAfter, Refused, RightAfter}
-use Rattle.md_tables.specs.Delimiter.IsOfDelimiter.{Start, ValueBefore}
+use Rattle.md_tables.specs.Delimiter.IsOfDelimiter.{Before, CellAfter, CellBefore, Filler, LeftAfter}
+use Rattle.md_tables.specs.Delimiter.IsOfDelimiter.{Refused, RightAfter, Start, ValueBefore}
 use Rattle.md_tables.specs.DelimiterRule.{HasDelimiter, delimiter_behaves}
 use Rattle.md_tables.specs.GfmTable.{TableInvariant, begins_code, head_code, may_begin, may_head, start_code}
 use Rattle.md_tables.specs.GfmTable.{table_scheme, table_transition}

@@ -16,8 +16,8 @@ use Rattle.md_engine.proofs.Points.{stays}
 use Rattle.md_seam.specs.Spaces.{IsRest, rest_ready}
 use Rattle.md_seam.proofs.SpacesTermination.{Does, WhiteFits, rest-size}
 use Rattle.md_tables.specs.Delimiter.{IsOfDelimiter, delimiter_scheme, uncounted}
-use Rattle.md_tables.specs.Delimiter.IsOfDelimiter.{Before, CellAfter, CellBefore, Filler, LeftAfter, Refused, RightAfter}
-use Rattle.md_tables.specs.Delimiter.IsOfDelimiter.{Start, ValueBefore}
+use Rattle.md_tables.specs.Delimiter.IsOfDelimiter.{Before, CellAfter, CellBefore, Filler, LeftAfter}
+use Rattle.md_tables.specs.Delimiter.IsOfDelimiter.{Refused, RightAfter, Start, ValueBefore}
 use Rattle.md_tables.specs.GfmTable.{asking_columns, begins_code, head_code, head_row_start_transition, may_head}
 use Rattle.md_tables.specs.GfmTable.{start_code, table_owner, table_scheme, table_transition}
 use Rattle.md_tables.specs.Row.{is_text, name_at, piece, row_scheme}
@@ -93,8 +93,10 @@ start_ends : (T : Scheme) (w : World) (leaf : HeldLeaf) → TableFits T → rest
 start_ends T w (held_leaf.Text text) has r = head_ends T w text (may_head w.setting.options text) has r
 start_ends T w held_leaf.Table has r = (
   turns T table_scheme (n.GfmTable its.Start) (n.GfmTable its.BodyRowStart) w w.events w.scratch (has.each its.Start)
-      (has.each its.BodyRowStart)
-      (r.0, later IsRest IsRest (position w) (after_all T w.frames) w.point w.scratch (stays w.setting.limit w.point) r.1)
+      (has.each its.BodyRowStart) (
+        r.0,
+        later IsRest IsRest (position w) (after_all T w.frames) w.point w.scratch (stays w.setting.limit w.point) r.1,
+      )
       (omega arith) (omega arith),
   refl,
 )
@@ -128,13 +130,17 @@ table_terminates T its.HeadRowEscape w has c r = row_terminates T Head place.Esc
 table_terminates T its.HeadRowCellBefore w has c r = row_terminates T Head place.CellBefore w (row-fits T Head has) c r
 table_terminates T its.HeadDelimiterStart w has c r = delimiter_terminates T _ w Start (delimiter-fits T has) c r
 table_terminates T its.HeadDelimiterBefore w has c r = delimiter_terminates T _ w Before (delimiter-fits T has) c r
-table_terminates T its.HeadDelimiterCellBefore w has c r = delimiter_terminates T _ w CellBefore (delimiter-fits T has) c r
-table_terminates T its.HeadDelimiterValueBefore w has c r = delimiter_terminates T _ w ValueBefore (delimiter-fits T has) c r
-table_terminates T its.HeadDelimiterLeftAlignmentAfter w has c r = delimiter_terminates T _ w LeftAfter (delimiter-fits T has) c r
+table_terminates T its.HeadDelimiterCellBefore w has c r =
+    delimiter_terminates T _ w CellBefore (delimiter-fits T has) c r
+table_terminates T its.HeadDelimiterValueBefore w has c r =
+    delimiter_terminates T _ w ValueBefore (delimiter-fits T has) c r
+table_terminates T its.HeadDelimiterLeftAlignmentAfter w has c r =
+    delimiter_terminates T _ w LeftAfter (delimiter-fits T has) c r
 table_terminates T its.HeadDelimiterFiller w has c r = delimiter_terminates T _ w Filler (delimiter-fits T has) c r
 table_terminates T its.HeadDelimiterRightAlignmentAfter w has c r =
     delimiter_terminates T _ w RightAfter (delimiter-fits T has) c r
-table_terminates T its.HeadDelimiterCellAfter w has c r = delimiter_terminates T _ w CellAfter (delimiter-fits T has) c r
+table_terminates T its.HeadDelimiterCellAfter w has c r =
+    delimiter_terminates T _ w CellAfter (delimiter-fits T has) c r
 table_terminates T its.HeadDelimiterNok w has c r = delimiter_terminates T _ w Refused (delimiter-fits T has) c r
 table_terminates T its.BodyRowStart w has c r = row_terminates T Body place.Start w (row-fits T Body has) c r
 table_terminates T its.BodyRowBreak w has c r = row_terminates T Body place.Break w (row-fits T Body has) c r

@@ -39,8 +39,8 @@ unfolding in_row
 head-comes feed w none = rw none (simp append_assoc)
 
 -- a push keeps what a tokenizer comes to, and stands
-head-push : (s s' : State) (w w' : World) (limit : ℕ) → limit < 2 ^ 61 → stands head_scheme (reads_to w limit) (plain s) →
-    Runs HeadStep false s (reads_to w limit) s' w' →
+head-push : (s s' : State) (w w' : World) (limit : ℕ) → limit < 2 ^ 61 →
+    stands head_scheme (reads_to w limit) (plain s) → Runs HeadStep false s (reads_to w limit) s' w' →
     (let feed = text_feed (reads_to w limit).setting in
     (comes_to head_behaves feed s w ≡ comes_to head_behaves feed s' w') × stands head_scheme w' (plain s'))
 head-push s s' w w' limit small at run =

@@ -20,7 +20,8 @@ use Rattle.md_engine.proofs.StepOf.{sees, steps-as}
 use Rattle.md_engine.proofs.Walks.{EachKeeps, Within}
 use Rattle.md_seam.specs.Ahead.{HasWhite}
 use Rattle.md_seam.specs.Stays.{TakesEach}
-use Rattle.md_seam.proofs.SpacesTermination.{Does, WhiteFits, does-fall, does-remain, does-setting, does-stands, white_terminates}
+use Rattle.md_seam.proofs.SpacesTermination.{Does, WhiteFits, does-fall, does-remain}
+use Rattle.md_seam.proofs.SpacesTermination.{does-setting, does-stands, white_terminates}
 use Rattle.md_seam.proofs.StaysLemmas.{stays-on}
 use Rattle.md_seam.proofs.WhiteMeaning.{white_means}
 use Rattle.md_tables.specs.HeadStates.{HeadStep, head_behaves, head_owner, head_scheme, head_transition}
@@ -55,7 +56,8 @@ head_terminates (n.GfmTable its.HeadRowBefore) w c r = row_terminates head_schem
 head_terminates (n.GfmTable its.HeadRowBreak) w c r = row_terminates head_scheme Head place.Break w row_fits c r
 head_terminates (n.GfmTable its.HeadRowData) w c r = row_terminates head_scheme Head place.Data w row_fits c r
 head_terminates (n.GfmTable its.HeadRowEscape) w c r = row_terminates head_scheme Head place.Escape w row_fits c r
-head_terminates (n.GfmTable its.HeadRowCellBefore) w c r = row_terminates head_scheme Head place.CellBefore w row_fits c r
+head_terminates (n.GfmTable its.HeadRowCellBefore) w c r =
+    row_terminates head_scheme Head place.CellBefore w row_fits c r
 head_terminates (n.SpaceOrTab state) w c r = white_terminates head_scheme state w white_fits c r
 head_terminates name w c r = absurd r
 

@@ -1,6 +1,6 @@
 -- The walk over a table goes on with parts of rows.
-use Rattle.std.proofs.Common.{◌≡◌, ◌≤◌, Bool, true, false, cond, ◌&&◌, None, Some, List, [], ◌∷◌, ◌++◌, drop, get_or, length, refl, subst}
-use Rattle.std.proofs.Common.{◌∙◌, ap, append-nil, append_assoc, arith}
+use Rattle.std.proofs.Common.{◌≡◌, ◌≤◌, Bool, true, false, cond, ◌&&◌, None, Some, List, [], ◌∷◌, ◌++◌, drop, get_or}
+use Rattle.std.proofs.Common.{length, refl, subst, ◌∙◌, ap, append-nil, append_assoc, arith}
 use Rattle.std.proofs.lemmas.Bool.{and_parts}
 use Rattle.md_engine.specs.declared.event.Event.{Event}
 use Rattle.md_engine.specs.declared.event.Kind.{Kind}
@@ -27,12 +27,14 @@ one : (section : Section) (stage : Stage) (e : Event) (es : List Event) → in_t
     tabled_from section stage (e ∷ es) ≡ (step stage e es).given ++ tabled_from section (step stage e es).stage es
 one Outside stage e es at other = absurd (cc)
 one Head stage e es at other =
-    rw other (ap (λ (l : List Event). l ++ tabled_from Head (step stage e es).stage es) (append-nil (step stage e es).given))
+    rw other
+    (ap (λ (l : List Event). l ++ tabled_from Head (step stage e es).stage es) (append-nil (step stage e es).given))
 one Between stage e es at other =
     rw other
     (ap (λ (l : List Event). l ++ tabled_from Between (step stage e es).stage es) (append-nil (step stage e es).given))
 one Body stage e es at other =
-    rw other (ap (λ (l : List Event). l ++ tabled_from Body (step stage e es).stage es) (append-nil (step stage e es).given))
+    rw other
+    (ap (λ (l : List Event). l ++ tabled_from Body (step stage e es).stage es) (append-nil (step stage e es).given))
 
 -- The begin and the end of a part.
 
@@ -89,7 +91,8 @@ by-pair P test name only a b h put =
     let both = and_parts (is_enter a.kind && test a.name) (is_exit b.kind && test b.name) h in
     begins (λ (x : Event). P x b) test a both.0
     (only (λ (m : Name). P (is Enter m a) b)
-    (ends (λ (y : Event). P (is Enter name a) y) test b both.1 (only (λ (m : Name). P (is Enter name a) (is Exit m b)) put)))
+    (ends (λ (y : Event). P (is Enter name a) y) test b both.1
+    (only (λ (m : Name). P (is Enter name a) (is Exit m b)) put)))
 
 -- Whitespace in a cell.
 pub white-goes : (section : Section) (k : RowKind) (a b : Event) (es : List Event) → in_table section ≡ true →

@@ -12,7 +12,8 @@ use Rattle.md_seam.proofs.RestLines.{trim-white}
 use Rattle.md_tables.specs.Row.{text_link}
 use Rattle.md_tables.specs.RowCells.{Cells, Divides, Ends, Shut, behind_pipe, cell_by, cell_inside, cells_by, cells_of}
 use Rattle.md_tables.specs.RowCells.{first_pipe}
-use Rattle.md_tables.specs.RowCells.{onto, past_pipe, pipe_part, text_part, unread_text, white_back, white_front, white_part}
+use Rattle.md_tables.specs.RowCells.{onto, past_pipe, pipe_part, text_part, unread_text}
+use Rattle.md_tables.specs.RowCells.{white_back, white_front, white_part}
 use Rattle.md_tables.proofs.RowMeaning.{white-apart}
 use Rattle.md_tables.proofs.WhiteEnds.{blank-first, dark-first, end-blank, end-more, front-none, front-one, start-none}
 
@@ -135,7 +136,8 @@ behind_first name part (Divides cell cells) p = exit name p ∷ cells_by name pa
 
 -- what is left of cells, by what is left of what the first holds
 abbrev pub left_of : Name → (List ℕ → Point → List Event) → (List ℕ → Point → List Event) → Cells → Point → List Event
-left_of name part left cells p = left (first_cell cells) p ++ behind_first name part cells (past_text (first_cell cells) p)
+left_of name part left cells p =
+    left (first_cell cells) p ++ behind_first name part cells (past_text (first_cell cells) p)
 
 -- the first begins
 pub cells-begin : (name : Name) (part : List ℕ → Point → List Event) (piped : Bool) (cells : Cells) (p : Point) →
@@ -143,7 +145,8 @@ pub cells-begin : (name : Name) (part : List ℕ → Point → List Event) (pipe
     enter name p ∷ first_pipe piped p ++ left_of name part (cell_by part) cells (past_pipe piped p)
 cells-begin name part piped (Ends cell) p = ap (λ (es : List Event). enter name p ∷ es) (simp append_assoc refl)
 cells-begin name part piped (Shut cell white) p = ap (λ (es : List Event). enter name p ∷ es) (simp append_assoc refl)
-cells-begin name part piped (Divides cell cells) p = ap (λ (es : List Event). enter name p ∷ es) (simp append_assoc refl)
+cells-begin name part piped (Divides cell cells) p =
+    ap (λ (es : List Event). enter name p ∷ es) (simp append_assoc refl)
 
 -- a byte in front of the first
 pub first-onto : (b : ℕ) (cells : Cells) → first_cell (onto b cells) ≡ b ∷ first_cell cells
@@ -172,11 +175,13 @@ pub cells-escaped : (b : ℕ) (bs : List ℕ) → cells_of true (b ∷ bs) ≡ o
 unfolding cells_of
 cells-escaped b bs = refl
 
-pub cells-other : (b : ℕ) (bs : List ℕ) → nat_eq b 124 ≡ false → cells_of false (b ∷ bs) ≡ onto b (cells_of (nat_eq b 92) bs)
+pub cells-other : (b : ℕ) (bs : List ℕ) → nat_eq b 124 ≡ false →
+    cells_of false (b ∷ bs) ≡ onto b (cells_of (nat_eq b 92) bs)
 unfolding cells_of
 cells-other b bs k = rw k refl
 
-pub cells-white : (escaped : Bool) (b : ℕ) (bs : List ℕ) → is_white b ≡ true → cells_of escaped (b ∷ bs) ≡ onto b (cells_of false bs)
+pub cells-white : (escaped : Bool) (b : ℕ) (bs : List ℕ) → is_white b ≡ true →
+    cells_of escaped (b ∷ bs) ≡ onto b (cells_of false bs)
 cells-white true b bs e = cells-escaped b bs
 cells-white false b bs e =
     cells-other b bs (white-apart b 124 e refl) ∙ ap (λ (x : Bool). onto b (cells_of x bs)) (white-apart b 92 e refl)

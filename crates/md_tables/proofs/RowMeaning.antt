@@ -1,6 +1,6 @@
 -- Each state of a row takes one step of its rule.
-use Rattle.std.proofs.Common.{◌≡◌, ℕ, Bool, true, false, nat_eq, List, [], ◌∷◌, ◌++◌, Option, Some, None, refl, sym, ◌∙◌}
-use Rattle.std.proofs.Common.{◌||◌, ap, arith, append-nil, append_assoc, subst}
+use Rattle.std.proofs.Common.{◌≡◌, ℕ, Bool, true, false, nat_eq, List, [], ◌∷◌, ◌++◌, Option, Some, None, refl, sym}
+use Rattle.std.proofs.Common.{◌∙◌, ◌||◌, ap, arith, append-nil, append_assoc, subst}
 use Rattle.std.proofs.lemmas.Bool.{eqb-true}
 use Rattle.md_engine.specs.declared.event.Event.{Event}
 use Rattle.md_engine.specs.declared.event.Kind.TheVariants.{Enter}
@@ -35,7 +35,8 @@ use Rattle.md_tables.proofs.RowLemmas.{run-ends_line, run-ends_none, run-more, t
 -- a run that does not go on with what stands here ends
 run-stops : (feed : Feed) (w : World) (r : Row) (h : Here) (run : Run) (o : Option ℕ) →
     ((b : ℕ) → o ≡ Some b → nat_eq b 10 ≡ false → goes_on run b ≡ false) →
-    in_row r run (ahead feed w o) h ≡ in_row r Apart (ahead feed w o) (record h { events = h.events ++ closes run h.point })
+    in_row r run (ahead feed w o) h ≡
+    in_row r Apart (ahead feed w o) (record h { events = h.events ++ closes run h.point })
 run-stops feed w r h run None stops = run-ends_none r run h
 run-stops feed w r h run (Some b) stops = go (nat_eq b 10) refl
   where
@@ -53,7 +54,8 @@ white-here feed w r h s e =
     let saw = sees-one feed w sees_white refl s e in
     ap (λ (x : List Cell). in_row r Apart x h) saw.1
     ∙ apart-white r (cell_here feed w saw.0) (feed (after w.setting w.point)) h saw.2
-    ∙ ap (λ (x : List Cell). in_row r White x (record h { events = h.events ++ enter SpaceOrTab h.point ∷ [] })) (sym saw.1)
+    ∙ ap (λ (x : List Cell). in_row r White x (record h { events = h.events ++ enter SpaceOrTab h.point ∷ [] }))
+    (sym saw.1)
 
 -- what is left behind a part, in a step that adds these events
 behind_means : (B : Behaviour) (feed : Feed) (r : Row) (from : State) (w : World) (added : List Event) (x : Bool) →
@@ -85,7 +87,8 @@ start_means : (B : Behaviour) (feed : Feed) (r : Row) (w : World) (x : Bool) →
     IsRest w.scratch → sees_white w.current ≡ x →
     Steps B feed (Next (name_at r place.Start)) w (behind_part r (begun r w) x).to (behind_part r (begun r w) x).world
 start_means B feed Head w x has s rest e =
-    behind_means B feed Head (Next (name_at Head place.Start)) w (row_opens Head w.point) x has s rest e (has.each place.Start _ _)
+    behind_means B feed Head (Next (name_at Head place.Start)) w (row_opens Head w.point) x has s rest e
+    (has.each place.Start _ _)
 start_means B feed Body w x has s rest e =
     let two : begun Body w ≡ record w { events = w.events ++ row_opens Body w.point } =
     ap (λ (es : List Event). record w { events = es }) (append_assoc w.events _ _) in
@@ -154,7 +157,12 @@ told b = go (nat_eq b 10) (is_white b) (nat_eq b 124) (nat_eq b 92) refl refl re
     go false false false true h k l m =
         rw (eqb-true b 92 m) (record { ending = refl; white = refl; pipe = refl; slash = refl })
     go false false false false h k l m =
-        record { ending = rw (h, k, l, m) refl; white = rw (h, k, l, m) refl; pipe = rw (h, k, l, m) refl; slash = rw (h, k, l, m) refl }
+        record {
+          ending = rw (h, k, l, m) refl;
+          white = rw (h, k, l, m) refl;
+          pipe = rw (h, k, l, m) refl;
+          slash = rw (h, k, l, m) refl;
+        }
 
 -- a word has none of the others
 no-space : (x : Piece) → is_text x ≡ true → is_space x ≡ false
@@ -247,7 +255,9 @@ word-here : (feed : Feed) (w : World) (r : Row) (h : Here) (x : Piece) (b : ℕ)
     feed w.point ≡ cell_here feed w b ∷ feed (after w.setting w.point) →
     at_break r (feed w.point) h ≡
     in_row r Text (feed w.point)
-    (record h { events = h.events ++ record { kind = Enter; name = parts.Data; point = h.point; link = Some text_link } ∷ [] })
+    (record h {
+      events = h.events ++ record { kind = Enter; name = parts.Data; point = h.point; link = Some text_link } ∷ [];
+    })
 word-here feed w r h x b t text saw =
     let c : Cell = cell_here feed w b in
     let cs : List Cell = feed (after w.setting w.point) in
@@ -257,7 +267,9 @@ word-here feed w r h x b t text saw =
     ∙ ap
     (λ (y : List Cell).
     in_row r Text y
-    (record h { events = h.events ++ record { kind = Enter; name = parts.Data; point = h.point; link = Some text_link } ∷ [] }))
+    (record h {
+      events = h.events ++ record { kind = Enter; name = parts.Data; point = h.point; link = Some text_link } ∷ [];
+    }))
     (sym saw)
 
 word_means : (B : Behaviour) (feed : Feed) (r : Row) (w : World) (x : Piece) → HasRow B r → Sees feed w →
@@ -283,12 +295,14 @@ break_means B feed r w Other has s e = word_means B feed r w Other has s e refl
 
 word_ends : (B : Behaviour) (feed : Feed) (r : Row) (w : World) (x : Piece) → HasRow B r → Sees feed w →
     IsRest w.scratch → piece w.current ≡ x → is_text x ≡ false →
-    (let left : Transition = behind_part r (record w { events = w.events ++ exit parts.Data w.point ∷ [] }) (is_space x) in
+    (let left : Transition =
+    behind_part r (record w { events = w.events ++ exit parts.Data w.point ∷ [] }) (is_space x) in
     Steps B feed (Next (name_at r place.Data)) w left.to left.world)
 word_ends B feed r w x has s rest e none =
     behind_means B feed r (Next (name_at r place.Data)) w (exit parts.Data w.point ∷ []) (is_space x) has s rest
     (piece-white w.current ∙ ap is_space e)
-    (has.each place.Data _ _ ∙ rw s.next (run-stops feed w r (here w) Text w.current (λ b is ending. stops b is ending)))
+    (has.each place.Data _ _
+    ∙ rw s.next (run-stops feed w r (here w) Text w.current (λ b is ending. stops b is ending)))
   where
     stops : (b : ℕ) → w.current ≡ Some b → nat_eq b 10 ≡ false → goes_on Text b ≡ false
     stops b is ending =
@@ -313,7 +327,8 @@ word_goes B feed r w x q run has s e text to next =
     let cs : List Cell = feed (after w.setting w.point) in
     passes B feed _ _ w (record w { point = after w.setting w.point }) refl refl
     (has.each place.Data _ _ ∙ ap (λ (y : List Cell). in_row r Text y (here w)) saw.next
-    ∙ run-more r Text c cs (here w) (rw (t.white ∙ no-space x text, t.pipe ∙ no-pipe x text) refl) (t.ending ∙ no-end x text)
+    ∙ run-more r Text c cs (here w) (rw (t.white ∙ no-space x text, t.pipe ∙ no-pipe x text) refl)
+    (t.ending ∙ no-end x text)
     ∙ ap (λ (y : Run). in_row r y cs (record (here w) { point = after w.setting w.point })) (to saw.byte t)
     ∙ sym (next _ _))
 
@@ -361,7 +376,8 @@ escape_means B feed r w true has s e =
     ∙ sym (has.each place.Data _ _))
 escape_means B feed r w false has s e =
     passes B feed _ _ w w refl refl
-    (has.each place.Escape _ _ ∙ rw s.next (escaped-stops feed w r (here w) w.current e) ∙ sym (has.each place.Data _ _))
+    (has.each place.Escape _ _ ∙ rw s.next (escaped-stops feed w r (here w) w.current e)
+    ∙ sym (has.each place.Data _ _))
 
 -- Behind a pipe.
 
@@ -369,11 +385,13 @@ cell_before_means : (B : Behaviour) (feed : Feed) (r : Row) (w : World) (x : Boo
     IsRest w.scratch → sees_white w.current ≡ x →
     Steps B feed (Next (name_at r place.CellBefore)) w (behind_part r w x).to (behind_part r w x).world
 cell_before_means B feed r w x has s rest e =
-    let same : record w { events = w.events ++ [] } ≡ w = ap (λ (es : List Event). record w { events = es }) (append-nil w.events) in
+    let same : record w { events = w.events ++ [] } ≡ w =
+    ap (λ (es : List Event). record w { events = es }) (append-nil w.events) in
     let on : goes B (Next (name_at r place.CellBefore)) (feed w.point) (here w) ≡
     in_row r Apart (feed w.point) (record (here w) { events = w.events ++ [] }) =
     has.each place.CellBefore _ _
-    ∙ ap (λ (es : List Event). in_row r Apart (feed w.point) (record (here w) { events = es })) (sym (append-nil w.events)) in
+    ∙ ap (λ (es : List Event). in_row r Apart (feed w.point) (record (here w) { events = es }))
+    (sym (append-nil w.events)) in
     subst
     (λ (v : World).
     Steps B feed (Next (name_at r place.CellBefore)) w (behind_part r v x).to (behind_part r v x).world) same

@@ -17,8 +17,9 @@ use Rattle.md_seam.specs.Events.Places.{past_byte, past_text, same_place}
 use Rattle.md_seam.specs.Events.Spelled.{AsCell, OpenLeaf, Reading, TableLeaf, Text, at_cell, at_row, begun, byte_at}
 use Rattle.md_seam.specs.Events.Spelled.{first_told, on_last, on_leaf, read, role, text_to, told_at}
 use Rattle.md_seam.proofs.SpelledLemmas.{Quiet, QuietOrEnding, Roles, read-from, read-inline, read-quiet, roles-append}
-use Rattle.md_tables.specs.RowCells.{Cells, Divides, Ends, Shut, cell_inside, cells_events, first_pipe, line_cells, past_pipe}
-use Rattle.md_tables.specs.RowCells.{pipe_part, read_text, row_events, text_part, white_back, white_front, white_part}
+use Rattle.md_tables.specs.RowCells.{Cells, Divides, Ends, Shut, cell_inside, cells_events, first_pipe, line_cells}
+use Rattle.md_tables.specs.RowCells.{past_pipe, pipe_part, read_text, row_events, text_part}
+use Rattle.md_tables.specs.RowCells.{white_back, white_front, white_part}
 use Rattle.md_tables.proofs.RowBytes.{Stands, cell-whole, cells_bytes, line-bytes, pipe_bytes, stands-first}
 use Rattle.md_tables.proofs.RowBytes.{stands-line, stands-next}
 use Rattle.md_tables.proofs.RowTexts.{held-cells, held_in}
@@ -60,7 +61,8 @@ cell-begins r delimiter rows row =
 text-told : (bytes : List ℕ) (r : Reading) (delimiter : List ℕ) (rows : List (List (List ℕ))) (row : List (List ℕ))
     (p q : Point) (text : List ℕ) →
     text_to bytes q.index (begun p) ≡ text →
-    told_at bytes AsCell q (Some (begun p)) (record (in_row r delimiter rows (row ++ [] ∷ [])) { text = Some (begun p) }) ≡
+    told_at bytes AsCell q (Some (begun p))
+    (record (in_row r delimiter rows (row ++ [] ∷ [])) { text = Some (begun p) }) ≡
     in_row r delimiter rows (row ++ text ∷ [])
 text-told bytes r delimiter rows row p q text e =
     ap
@@ -146,7 +148,8 @@ cell-read : (bytes : List ℕ) (r : Reading) (delimiter : List ℕ) (rows : List
     (piped : Bool) (cell rest : List ℕ) (p end : Point) (more : List Event) →
     Stands bytes (past_pipe piped p) (cell ++ rest) → Roles Quiet more →
     read bytes (in_row r delimiter rows row)
-    (around n.GfmTableCell p end (first_pipe piped p ++ (cell_inside (read_text bytes) cell (past_pipe piped p) ++ more))) ≡
+    (around n.GfmTableCell p end
+    (first_pipe piped p ++ (cell_inside (read_text bytes) cell (past_pipe piped p) ++ more))) ≡
     in_row r delimiter rows (row ++ trim cell ∷ [])
 cell-read bytes r delimiter rows row piped cell rest p end more is quiet =
     ap (λ (x : Reading). read bytes x (inside ++ exit n.GfmTableCell end ∷ [])) (cell-begins r delimiter rows row)
@@ -179,10 +182,12 @@ cells-read : (bytes : List ℕ) (r : Reading) (delimiter : List ℕ) (rows : Lis
     read bytes (in_row r delimiter rows row) (cells_events (read_text bytes) piped cells p) ≡
     in_row r delimiter rows (row ++ map trim (held_in cells))
 cells-read bytes r delimiter rows row piped (Ends cell) p is =
-    ap (λ (es : List Event). read bytes (in_row r delimiter rows row) (around n.GfmTableCell p (past_text cell q) (first_pipe piped p ++ es)))
+    ap (λ (es : List Event). read bytes (in_row r delimiter rows row)
+    (around n.GfmTableCell p (past_text cell q) (first_pipe piped p ++ es)))
     (sym (append-nil (cell_inside (read_text bytes) cell q)))
     ∙ cell-read bytes r delimiter rows row piped cell [] p (past_text cell q) []
-    (past-pipe bytes piped p (cell ++ []) (subst (λ (x : List ℕ). Stands bytes p (pipe_bytes piped ++ x)) (sym (append-nil cell)) is)) tt
+    (past-pipe bytes piped p (cell ++ [])
+    (subst (λ (x : List ℕ). Stands bytes p (pipe_bytes piped ++ x)) (sym (append-nil cell)) is)) tt
   where
     q : Point
     q = past_pipe piped p
@@ -205,7 +210,8 @@ cells-read bytes r delimiter rows row piped (Shut cell white) p is =
 cells-read bytes r delimiter rows row piped (Divides cell cells) p is =
     read-from bytes (in_row r delimiter rows row) (in_row r delimiter rows (row ++ trim cell ∷ [])) one
     (cells_events (read_text bytes) true cells end)
-    (ap (λ (es : List Event). read bytes (in_row r delimiter rows row) (around n.GfmTableCell p end (first_pipe piped p ++ es)))
+    (ap (λ (es : List Event). read bytes (in_row r delimiter rows row)
+    (around n.GfmTableCell p end (first_pipe piped p ++ es)))
     (sym (append-nil (cell_inside (read_text bytes) cell q)))
     ∙ cell-read bytes r delimiter rows row piped cell (cells_bytes true cells) p end [] here tt)
     ∙ cells-read bytes r delimiter rows (row ++ trim cell ∷ []) true cells end

@@ -209,7 +209,8 @@ text-goes_on bs p q =
 
 -- Whitespace alone is one run.
 
-pub white-alone : (bs : List ℕ) (p : Point) → is_blank bs ≡ true → row_runs White bs p ≡ exit n.SpaceOrTab (past_text bs p) ∷ []
+pub white-alone : (bs : List ℕ) (p : Point) → is_blank bs ≡ true →
+    row_runs White bs p ≡ exit n.SpaceOrTab (past_text bs p) ∷ []
 white-alone [] p h = refl
 white-alone (b ∷ bs) p h =
     let both = and_parts (is_white b) (is_blank bs) h in
@@ -219,4 +220,5 @@ pub blank-runs : (bs : List ℕ) (p : Point) → is_blank bs ≡ true → row_ru
 blank-runs [] p h = refl
 blank-runs (b ∷ bs) p h =
     let both = and_parts (is_white b) (is_blank bs) h in
-    white-opens b bs p both.0 ∙ ap (λ (es : List Event). enter n.SpaceOrTab p ∷ es) (white-alone bs (past_byte b p) both.1)
+    white-opens b bs p both.0
+    ∙ ap (λ (es : List Event). enter n.SpaceOrTab p ∷ es) (white-alone bs (past_byte b p) both.1)

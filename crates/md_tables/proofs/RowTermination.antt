@@ -64,7 +64,8 @@ still-white w t s up e = go (seen (position w)) refl e
     go : (o : Option ℕ) → seen (position w) ≡ o → sees_white o ≡ true →
         is_text (piece (seen (spot_at t w.point s))) ≡ false
     go None is e = cc
-    go (Some b) is e = ap (λ (o : Option ℕ). is_text (piece o)) (seen_grows (position w) t s b up is) ∙ white-no_text (Some b) e
+    go (Some b) is e =
+        ap (λ (o : Option ℕ). is_text (piece o)) (seen_grows (position w) t s b up is) ∙ white-no_text (Some b) e
 
 -- behind a part of the row, from a state whose rank is above that of what follows
 good-behind : (T : Scheme) (r : Row) (p : Place) (w : World) (events : List Event) (x : Bool) → RowFits T r →
@@ -78,11 +79,14 @@ good-behind T r p w events true has rest ends e lt less =
     (has.each p) (has.each place.Break) (rest-none w.scratch rest) (λ some. rest-calm w.scratch rest) ends
     (λ q t up way. (rest-calm w.scratch rest, later_at _ _ (position w) _ q t _ up way ends))
     (omega arith) (omega arith)
-    (λ t up. rw (break-rank r (spot_at t w.point (calmed w.scratch)), still-white w t (calmed w.scratch) up e) (omega arith))
+    (λ t up. rw (break-rank r (spot_at t w.point (calmed w.scratch)), still-white w t (calmed w.scratch) up e)
+    (omega arith))
     lt
 good-behind T r p w events false has rest ends e lt less = (
-  turns T row_scheme (name_at r p) (name_at r place.Break) w events w.scratch (has.each p) (has.each place.Break)
-      (rest, later IsRest IsRest (position w) (after_all T w.frames) w.point w.scratch (stays w.setting.limit w.point) ends)
+  turns T row_scheme (name_at r p) (name_at r place.Break) w events w.scratch (has.each p) (has.each place.Break) (
+    rest,
+    later IsRest IsRest (position w) (after_all T w.frames) w.point w.scratch (stays w.setting.limit w.point) ends,
+  )
       (omega arith) (rw (break-rank r (position w)) less),
   refl,
 )
@@ -95,12 +99,15 @@ before-rank : (r : Row) (x : Position) → (row_scheme.rank (name_at r place.Cel
 before-rank Head x = refl
 before-rank Body x = refl
 
-start_ends : (T : Scheme) (r : Row) (w : World) (x : Bool) → RowFits T r → rest_ready (position w) (after_all T w.frames) →
+start_ends : (T : Scheme) (r : Row) (w : World) (x : Bool) → RowFits T r →
+    rest_ready (position w) (after_all T w.frames) →
     sees_white (seen (position w)) ≡ x → Does T (name_at r place.Start) w (behind_part r (begun r w) x)
 start_ends T Head w x has r e =
-    good-behind T Head place.Start w (begun Head w).events x has r.0 r.1 e (omega arith) (low (is_text (piece (seen (position w)))))
+    good-behind T Head place.Start w (begun Head w).events x has r.0 r.1 e (omega arith)
+    (low (is_text (piece (seen (position w)))))
 start_ends T Body w x has r e =
-    good-behind T Body place.Start w (begun Body w).events x has r.0 r.1 e (omega arith) (low (is_text (piece (seen (position w)))))
+    good-behind T Body place.Start w (begun Body w).events x has r.0 r.1 e (omega arith)
+    (low (is_text (piece (seen (position w)))))
 
 -- the end of the row, and the begin of a word
 ends_ends : (T : Scheme) (r : Row) (w : World) → rest_ready (position w) (after_all T w.frames) →
@@ -113,7 +120,8 @@ word_ends : (T : Scheme) (r : Row) (w : World) → RowFits T r → rest_ready (p
     Does T (name_at r place.Break) w
     (record { to = (at_break_code r w Other).to; world = entered_link w parts.Data text_link })
 word_ends T r w has rest e = (
-  turns T row_scheme (name_at r place.Break) (name_at r place.Data) w (entered_link w parts.Data text_link).events w.scratch
+  turns T row_scheme (name_at r place.Break) (name_at r place.Data) w
+      (entered_link w parts.Data text_link).events w.scratch
       (has.each place.Break) (has.each place.Data) rest (omega arith)
       (rw (break-rank r (position w), data-rank r (position w), e) (omega arith)),
   refl,
@@ -186,17 +194,22 @@ piece-white (Some b) = go (nat_eq b 10) (is_white b) (nat_eq b 124) (nat_eq b 92
     go false false false true h k l m = rw (h, k, l, m) refl
     go false false false false h k l m = rw (h, k, l, m) refl
 
-data_ends : (T : Scheme) (r : Row) (w : World) (x : Piece) → RowFits T r → rest_ready (position w) (after_all T w.frames) →
+data_ends : (T : Scheme) (r : Row) (w : World) (x : Piece) → RowFits T r →
+    rest_ready (position w) (after_all T w.frames) →
     piece (seen (position w)) ≡ x → Does T (name_at r place.Data) w (data_code r w x)
-data_ends T r w AtEnd has rest e = word_end_ends T r w false has rest (rw e refl) (piece-white (seen (position w)) ∙ ap is_space e)
-data_ends T r w White has rest e = word_end_ends T r w true has rest (rw e refl) (piece-white (seen (position w)) ∙ ap is_space e)
-data_ends T r w Divides has rest e = word_end_ends T r w false has rest (rw e refl) (piece-white (seen (position w)) ∙ ap is_space e)
+data_ends T r w AtEnd has rest e =
+    word_end_ends T r w false has rest (rw e refl) (piece-white (seen (position w)) ∙ ap is_space e)
+data_ends T r w White has rest e =
+    word_end_ends T r w true has rest (rw e refl) (piece-white (seen (position w)) ∙ ap is_space e)
+data_ends T r w Divides has rest e =
+    word_end_ends T r w false has rest (rw e refl) (piece-white (seen (position w)) ∙ ap is_space e)
 data_ends T r w Escapes has rest e =
     taken_ends T r place.Data place.Escape w has rest (seen-in (position w) sees_text refl (ap is_text e))
 data_ends T r w Other has rest e =
     taken_ends T r place.Data place.Data w has rest (seen-in (position w) sees_text refl (ap is_text e))
 
-escape_ends : (T : Scheme) (r : Row) (w : World) (x : Bool) → RowFits T r → rest_ready (position w) (after_all T w.frames) →
+escape_ends : (T : Scheme) (r : Row) (w : World) (x : Bool) → RowFits T r →
+    rest_ready (position w) (after_all T w.frames) →
     is_escaped (seen (position w)) ≡ x → Does T (name_at r place.Escape) w (escape_code r w x)
 escape_ends T r w true has rest e =
     taken_ends T r place.Escape place.Data w has rest (seen-in (position w) is_escaped refl e)
@@ -212,7 +225,8 @@ cell_before_ends : (T : Scheme) (r : Row) (w : World) (x : Bool) → RowFits T r
     Does T (name_at r place.CellBefore) w (behind_part r w x)
 cell_before_ends T r w x has rest e =
     good-behind T r place.CellBefore w w.events x has rest.0 rest.1 e
-    (rw (before-rank r (position w)) (omega arith)) (rw (before-rank r (position w)) (low (is_text (piece (seen (position w))))))
+    (rw (before-rank r (position w)) (omega arith))
+    (rw (before-rank r (position w)) (low (is_text (piece (seen (position w))))))
 
 -- each state of a row
 pub row_terminates : (T : Scheme) (r : Row) (p : Place) (w : World) → RowFits T r → w.current ≡ looks w →

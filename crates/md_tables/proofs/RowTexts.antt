@@ -9,7 +9,8 @@ use Rattle.md_seam.proofs.RestLines.{trim-white}
 use Rattle.md_tables.specs.RowCells.{Cells, Divides, Ends, Shut, behind_pipe, cells_of, line_cells, onto, white_back}
 use Rattle.md_tables.proofs.CellLemmas.{dark-next, ends_dark, trimmed-dark}
 use Rattle.md_tables.proofs.RowMeaning.{white-apart}
-use Rattle.md_tables.proofs.WhiteEnds.{back-blank, blank-both, blank-light, end-behind, end-blank, end-whole, start-none}
+use Rattle.md_tables.proofs.WhiteEnds.{back-blank, blank-both, blank-light, end-behind}
+use Rattle.md_tables.proofs.WhiteEnds.{end-blank, end-whole, start-none}
 
 -- what each cell holds
 abbrev pub held_in : Cells → List (List ℕ)
@@ -124,7 +125,8 @@ pieces-held false (b ∷ bs) h = go (nat_eq b 124) refl (λ x. pieces-held x bs 
     wanted : Bool → Bool → List (List ℕ)
     wanted last x = cond last (pieces x bs) ([] ∷ pieces x bs)
 
-    piped : (last : Bool) → is_end bs ≡ last → held_in (cells_of false bs) ≡ pieces false bs → held last ≡ wanted last false
+    piped : (last : Bool) → is_end bs ≡ last → held_in (cells_of false bs) ≡ pieces false bs →
+        held last ≡ wanted last false
     piped true e more = sym (pieces-end false bs e)
     piped false e more = ap (λ (xs : List (List ℕ)). [] ∷ xs) more
 

@@ -32,7 +32,8 @@ use Rattle.md_tables.proofs.RowRuns.{blank-runs}
 -- What the walk gives for what is left of a row, by where it stands.
 record Walks (bs : List ℕ) (p : Point) : Type 0 where
   -- where a cell begins
-  pub start : celled (Within Text) (row_runs Apart bs p ++ row_end bs p) ≡ cells_left (cells_of false bs) p ++ row_end bs p
+  pub start : celled (Within Text) (row_runs Apart bs p ++ row_end bs p) ≡
+      cells_left (cells_of false bs) p ++ row_end bs p
   -- in the whitespace in front of its text
   pub white : celled (Within Text) (row_runs White bs p ++ row_end bs p) ≡
       left_in_white (cells_of false bs) p ++ row_end bs p
@@ -95,7 +96,8 @@ text-walk escaped b bs p e walks =
         ap given (text-goes_on bs q p ∙ ap not h)
         ∙ ap
         (λ (es : List Event). exit n.Data p ∷ exit n.GfmTableCellText p ∷ enter n.SpaceOrTab p ∷ es)
-        (walks.white ∙ ap (λ (es : List Event). (es ++ after) ++ row_end bs q) (white-blank (text_part unread_text) (λ r. refl) (first_cell cells) q h))
+        (walks.white ∙ ap (λ (es : List Event). (es ++ after) ++ row_end bs q)
+        (white-blank (text_part unread_text) (λ r. refl) (first_cell cells) q h))
         ∙ sym
         (ap (λ (es : List Event). (es ++ after) ++ row_end bs q)
         (text-ends (b ∷ first_cell cells) p (blank-first b (first_cell cells) e ∙ h)))
@@ -128,7 +130,8 @@ none-walks p = record {
     ended f escaped = sym (ap f (cells-none escaped))
 
     of : (escaped : Bool) →
-        celled (Inner Text) (row_runs (word escaped) [] p ++ row_end [] p) ≡ left_in_text (cells_of escaped []) p ++ row_end [] p
+        celled (Inner Text) (row_runs (word escaped) [] p ++ row_end [] p) ≡
+        left_in_text (cells_of escaped []) p ++ row_end [] p
     of true = ended (λ (c : Cells). left_in_text c p ++ row_end [] p) true
     of false = ended (λ (c : Cells). left_in_text c p ++ row_end [] p) false
 
@@ -139,18 +142,21 @@ white-walks b bs p e more = record {
       ap (λ (es : List Event). celled (Within Text) (es ++ end)) (white-opens b bs p e)
       ∙ ap (λ (es : List Event). enter n.SpaceOrTab p ∷ es) more.white
       ∙ sym
-      (ap (λ (c : Cells). cells_left c p ++ end) same ∙ ap (λ (es : List Event). es ++ end) (onto-by (cell_inside unread_text) b cells p)
+      (ap (λ (c : Cells). cells_left c p ++ end) same
+      ∙ ap (λ (es : List Event). es ++ end) (onto-by (cell_inside unread_text) b cells p)
       ∙ ap (λ (es : List Event). (es ++ after) ++ end) (white-first (text_part unread_text) b (first_cell cells) p e));
   white =
       ap (λ (es : List Event). celled (Within Text) (es ++ end)) (white-on b bs p e) ∙ more.white
       ∙ sym
-      (ap (λ (c : Cells). left_in_white c p ++ end) same ∙ ap (λ (es : List Event). es ++ end) (onto-by (white_left (text_part unread_text)) b cells p)
+      (ap (λ (c : Cells). left_in_white c p ++ end) same
+      ∙ ap (λ (es : List Event). es ++ end) (onto-by (white_left (text_part unread_text)) b cells p)
       ∙ ap (λ (es : List Event). (es ++ after) ++ end) (white-more (text_part unread_text) b (first_cell cells) p e));
   text = λ escaped. text-walk escaped b bs p e more;
   gap = λ h.
       ap (λ (es : List Event). celled Gap (es ++ end)) (white-on b bs p e) ∙ more.gap (sym (blank-white b bs e) ∙ h)
       ∙ sym
-      (ap (λ (c : Cells). left_in_text c p ++ end) same ∙ ap (λ (es : List Event). es ++ end) (onto-by text_left b cells p)
+      (ap (λ (c : Cells). left_in_text c p ++ end) same
+      ∙ ap (λ (es : List Event). es ++ end) (onto-by text_left b cells p)
       ∙ ap (λ (es : List Event). (es ++ after) ++ end)
       (text-more b (first_cell cells) p
       (blank-first b (first_cell cells) e ∙ sym (blank-white b bs e) ∙ h)));
@@ -176,7 +182,8 @@ pipe-walks bs p more = record {
       ∙ sym (shown (cell_inside unread_text));
   white =
       ap (λ (es : List Event). celled (Within Text) (es ++ end)) (pipe-white bs p)
-      ∙ ap (λ (es : List Event). exit n.SpaceOrTab p ∷ es) (piped-walk bs p more) ∙ sym (shown (white_left (text_part unread_text)));
+      ∙ ap (λ (es : List Event). exit n.SpaceOrTab p ∷ es) (piped-walk bs p more)
+      ∙ sym (shown (white_left (text_part unread_text)));
   text = λ escaped. of escaped;
   gap = λ h. let no : true ≡ false = sym (blank-pipe bs) ∙ h in cc;
 }
@@ -197,7 +204,8 @@ pipe-walks bs p more = record {
         ∙ ap (λ (x : List ℕ). (left x p ++ behind cells (past_text x p)) ++ end) (first-behind bs (cells_of false bs))
 
     of : (escaped : Bool) →
-        celled (Inner Text) (row_runs (word escaped) (124 ∷ bs) p ++ end) ≡ left_in_text (cells_of escaped (124 ∷ bs)) p ++ end
+        celled (Inner Text) (row_runs (word escaped) (124 ∷ bs) p ++ end) ≡
+        left_in_text (cells_of escaped (124 ∷ bs)) p ++ end
     of true =
         ap (λ (es : List Event). celled (Inner Text) (es ++ end)) (escaped-on 124 bs p refl) ∙ more.text false
         ∙ sym
@@ -216,7 +224,8 @@ word-walks b bs p e k more = record {
       ap (λ (es : List Event). celled (Within Text) (es ++ end)) (word-opens b bs p e k)
       ∙ ap (λ (es : List Event). enter n.GfmTableCellText p ∷ enter_link n.Data p text_link ∷ es) inside
       ∙ sym
-      (ap (λ (c : Cells). cells_left c p ++ end) same ∙ ap (λ (es : List Event). es ++ end) (onto-by (cell_inside unread_text) b cells p)
+      (ap (λ (c : Cells). cells_left c p ++ end) same
+      ∙ ap (λ (es : List Event). es ++ end) (onto-by (cell_inside unread_text) b cells p)
       ∙ ap (λ (es : List Event). (es ++ after) ++ end) (text-first b (first_cell cells) p e));
   white =
       ap (λ (es : List Event). celled (Within Text) (es ++ end)) (white-word b bs p e k)
@@ -224,8 +233,10 @@ word-walks b bs p e k more = record {
       (λ (es : List Event).
       exit n.SpaceOrTab p ∷ enter n.GfmTableCellText p ∷ enter_link n.Data p text_link ∷ es) inside
       ∙ sym
-      (ap (λ (c : Cells). left_in_white c p ++ end) same ∙ ap (λ (es : List Event). es ++ end) (onto-by (white_left (text_part unread_text)) b cells p)
-      ∙ ap (λ (es : List Event). (es ++ after) ++ end) (white-ends (text_part unread_text) b (first_cell cells) p e ∙ ap (λ (es : List Event). exit n.SpaceOrTab p ∷ es) (text-first b (first_cell cells) p e)));
+      (ap (λ (c : Cells). left_in_white c p ++ end) same
+      ∙ ap (λ (es : List Event). es ++ end) (onto-by (white_left (text_part unread_text)) b cells p)
+      ∙ ap (λ (es : List Event). (es ++ after) ++ end) (white-ends (text_part unread_text) b (first_cell cells) p e
+      ∙ ap (λ (es : List Event). exit n.SpaceOrTab p ∷ es) (text-first b (first_cell cells) p e)));
   text = λ escaped. of escaped;
   gap = λ h. ap (λ (es : List Event). celled Gap (es ++ end)) (white-word b bs p e k) ∙ inside ∙ sym on;
 }
@@ -253,7 +264,8 @@ word-walks b bs p e k more = record {
         ap (λ (c : Cells). left_in_text c p ++ end) same ∙ ap (λ (es : List Event). es ++ end) (text-on b cells p e)
 
     of : (escaped : Bool) →
-        celled (Inner Text) (row_runs (word escaped) (b ∷ bs) p ++ end) ≡ left_in_text (cells_of escaped (b ∷ bs)) p ++ end
+        celled (Inner Text) (row_runs (word escaped) (b ∷ bs) p ++ end) ≡
+        left_in_text (cells_of escaped (b ∷ bs)) p ++ end
     of true =
         ap (λ (es : List Event). celled (Inner Text) (es ++ end)) (escaped-on b bs p e) ∙ more.text false
         ∙ sym
@@ -301,7 +313,8 @@ row-starts (b ∷ bs) p some dark = go (nat_eq b 124) refl
         enter n.GfmTableCell p ∷ enter n.GfmTableCellDivider p ∷ exit n.GfmTableCellDivider q ∷ es) (walks bs q).start
         ∙ sym
         (ap (λ (t : Bool). wanted t (cond t bs (b ∷ bs))) k
-        ∙ ap₂ (λ (es fs : List Event). es ++ fs) (cells-begin n.GfmTableCell (text_part unread_text) true (cells_of false bs) p) end_is)
+        ∙ ap₂ (λ (es fs : List Event). es ++ fs)
+        (cells-begin n.GfmTableCell (text_part unread_text) true (cells_of false bs) p) end_is)
     go false k =
         let cells = cells_of (nat_eq b 92) bs in
         let first = enter_link n.Data p text_link in
@@ -312,7 +325,8 @@ row-starts (b ∷ bs) p some dark = go (nat_eq b 124) refl
         ∙ sym
         (ap (λ (t : Bool). wanted t (cond t bs (b ∷ bs))) k
         ∙ ap (λ (c : Cells). cells_events unread_text false c p ++ end) (cells-other b bs k)
-        ∙ ap (λ (es : List Event). es ++ end) (cells-begin n.GfmTableCell (text_part unread_text) false (onto b cells) p)
+        ∙ ap (λ (es : List Event). es ++ end)
+        (cells-begin n.GfmTableCell (text_part unread_text) false (onto b cells) p)
         ∙ ap (λ (es : List Event). enter n.GfmTableCell p ∷ es ++ end) (onto-by (cell_inside unread_text) b cells p)
         ∙ ap
         (λ (es : List Event).

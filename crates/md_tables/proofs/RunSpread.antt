@@ -77,7 +77,8 @@ byte-run R white turns F G are run line b p ys bs one = go (b == 9) refl
         ∙ ap (turns run p) (ap (F white ys) (tab_end-stop p one) ∙ more white)
         ∙ sym (are.tab run bs p))
     go false e = λ more.
-        ap (λ (t : Bool). F run (cond t (tab_cells line (columns_more p) 9 p) (cell b (past_byte b p) line ∷ []) ++ ys) p) e
+        ap (λ (t : Bool). F run
+        (cond t (tab_cells line (columns_more p) 9 p) (cell b (past_byte b p) line ∷ []) ++ ys) p) e
         ∙ are.byte run b line ys bs p more
 
 pub bytes-run : (R : Type 0) (white : R) (turns : R → Point → List Event → List Event)

@@ -33,7 +33,8 @@ pub blank-light : (x : ℕ) (ws : List ℕ) → is_blank (x ∷ ws) ≡ true →
 blank-light x [] h = let white = (and_parts (is_white x) true h).0 in rw white refl
 blank-light x (w ∷ ws) h = blank-light w ws (and_parts (is_white x) (is_blank (w ∷ ws)) h).1
 
-blank-dark : (x : ℕ) (xs ys zs : List ℕ) → x ∷ xs ++ ys ≡ zs → is_blank zs ≡ true → ends_dark (x ∷ xs) ≡ true → true ≡ false
+blank-dark : (x : ℕ) (xs ys zs : List ℕ) → x ∷ xs ++ ys ≡ zs → is_blank zs ≡ true → ends_dark (x ∷ xs) ≡ true →
+    true ≡ false
 blank-dark x xs ys zs e blank dark =
     sym dark ∙ blank-light x xs (blank-front (x ∷ xs) ys (ap is_blank e ∙ blank))
 
@@ -78,7 +79,8 @@ back-blank x = ap is_blank (back-tail x) ∙ tail-blank x
 pub end-blank : (x : List ℕ) → is_blank x ≡ true → (trim_end x ≡ []) × (white_back x ≡ x)
 end-blank x h = end-is x [] x refl refl h
 
-dark-onto : (b : ℕ) (k : List ℕ) → ends_dark k ≡ true → (is_end k ≡ true → is_white b ≡ false) → ends_dark (b ∷ k) ≡ true
+dark-onto : (b : ℕ) (k : List ℕ) → ends_dark k ≡ true → (is_end k ≡ true → is_white b ≡ false) →
+    ends_dark (b ∷ k) ≡ true
 dark-onto b [] dark first = rw (first refl) refl
 dark-onto b (c ∷ k) dark first = dark
 

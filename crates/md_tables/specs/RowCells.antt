@@ -1,8 +1,8 @@
 -- A row of a table with its cells, by the bytes of its line (GFM 4.10).
 --
 -- The line is cut at its pipes, as the line definition cuts it: a pipe that a backslash takes does not divide, and one
--- at the end begins no cell. The pipe in front of a cell belongs to it, and the last one to the last cell. In a cell the
--- text reaches from the first word to the last, with whitespace around it, and an empty cell has no text.
+-- at the end begins no cell. The pipe in front of a cell belongs to it, and the last one to the last cell. In a cell
+-- the text reaches from the first word to the last, with whitespace around it, and an empty cell has no text.
 use Rattle.std.specs.Prelude.{ℕ, Bool, true, false, ◌==◌, if◌then◌else◌, List, [], ◌∷◌, ◌++◌, take, drop, length}
 use Rattle.std.specs.List.{prefix_len}
 use Rattle.md_engine.specs.declared.event.Event.{Event}

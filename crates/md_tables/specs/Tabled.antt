@@ -65,7 +65,8 @@ with_cells _ stage e es = step stage e es
 
 abbrev pub given : Section → Stage → Event → List Event → List Event
 given section stage e es =
-    in_front section (bound_of e) e.point ++ (with_cells section stage e es).given ++ behind section (bound_of e) e.point
+    in_front section (bound_of e) e.point ++ (with_cells section stage e es).given
+    ++ behind section (bound_of e) e.point
 
 -- what is given from there on
 abbrev pub tabled_from : Section → Stage → List Event → List Event

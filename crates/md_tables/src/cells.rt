@@ -9,8 +9,8 @@ ghost use Rattle.std.specs.Prelude.{◌≡◌, ◌++◌, ◌∷◌, [], None, On
 ghost use Rattle.md_seam.specs.Events.Nested.{enter, exit};
 ghost use Rattle.md_tables.specs.Cells.{begins_divider, begins_inner, begins_row, cell_name, ends_divider};
 ghost use Rattle.md_tables.specs.Cells.{ends_inner, ends_row, goes_on, has_white, inner_name, is_inner, is_last};
-ghost use Rattle.md_tables.specs.Cells.{divider_step, ends_with, front_step, gap_step, inner_step, inside_step, last_step};
-ghost use Rattle.md_tables.specs.Cells.{outside_step, piece_step, row_ends, step, within_step};
+ghost use Rattle.md_tables.specs.Cells.{divider_step, ends_with, front_step, gap_step, inner_step, inside_step};
+ghost use Rattle.md_tables.specs.Cells.{last_step, outside_step, piece_step, row_ends, step, within_step};
 
 use crate::giving::{give, give_first, give_last};
 use md_engine::event::{Event, Kind, Name, Point};

@@ -3,10 +3,10 @@
 //     delimiter_row ::= small_indent [ '|' ] delimiter *( '|' delimiter ) [ '|' ] *space_or_tab
 //     delimiter     ::= *space_or_tab [ ':' ] 1*'-' [ ':' ] *space_or_tab
 //
-// A row has a colon or a pipe, and as many cells as the head: how many that is, is in the scratch (`columns_wanted`) when it
-// begins. It is a `GfmTable` of its own around `GfmTableDelimiterRow`, and in that `GfmTableCellDivider`, `SpaceOrTab`,
-// `GfmTableDelimiterMarker` and `GfmTableDelimiterFiller`; it is linked to the line before, which is the head. Behind it
-// a table is open. Resolvers join the lines of one, and make cells of these.
+// A row has a colon or a pipe, and as many cells as the head: how many that is, is in the scratch (`columns_wanted`)
+// when it begins. It is a `GfmTable` of its own around `GfmTableDelimiterRow`, and in that `GfmTableCellDivider`,
+// `SpaceOrTab`, `GfmTableDelimiterMarker` and `GfmTableDelimiterFiller`; it is linked to the line before, which is the
+// head. Behind it a table is open. Resolvers join the lines of one, and make cells of these.
 
 ghost use Rattle.std.specs.Prelude.{◌≡◌, ◌≢◌, ◌<◌, IfSome, length};
 ghost use Rattle.md_engine.specs.Full.{IsFull, OnError};
@@ -192,7 +192,8 @@ pub fn head_delimiter_value_before(tokenizer: &mut Tokenizer) -> State
 #[inline(always)]
 #[tactic(auto, using(crate::proofs::GfmTableMeaning::table_rule))]
 pub fn head_delimiter_left_alignment_after(tokenizer: &mut Tokenizer) -> State
-    requires { IsAt DelimiterNeeds (StateName.GfmTable TableState.HeadDelimiterLeftAlignmentAfter) (world tokenizer.old) }
+    requires { IsAt DelimiterNeeds (StateName.GfmTable TableState.HeadDelimiterLeftAlignmentAfter)
+        (world tokenizer.old) }
     ensures to { result ≢ State.Error → result ≡ (left_after_transition (world tokenizer.old)).to }
     ensures world { result ≢ State.Error → world tokenizer.new ≡ (left_after_transition (world tokenizer.old)).world }
     ensures rule { result ≢ State.Error →
@@ -256,7 +257,8 @@ pub fn head_delimiter_filler(tokenizer: &mut Tokenizer) -> State
 #[inline(always)]
 #[tactic(auto, using(crate::proofs::GfmTableMeaning::table_rule))]
 pub fn head_delimiter_right_alignment_after(tokenizer: &mut Tokenizer) -> State
-    requires { IsAt DelimiterNeeds (StateName.GfmTable TableState.HeadDelimiterRightAlignmentAfter) (world tokenizer.old) }
+    requires { IsAt DelimiterNeeds (StateName.GfmTable TableState.HeadDelimiterRightAlignmentAfter)
+        (world tokenizer.old) }
     ensures to { result ≢ State.Error → result ≡ (right_after_transition (world tokenizer.old)).to }
     ensures world { result ≢ State.Error → world tokenizer.new ≡ (right_after_transition (world tokenizer.old)).world }
     ensures rule { result ≢ State.Error →

@@ -3,8 +3,8 @@
 //     gfm_table ::= head_row eol delimiter_row *( eol body_row )
 //
 // The head is the last line of a text: that it is one shows with the delimiter row behind it, which has as many cells.
-// So a line that meets text is tried as a delimiter row, and one that meets a table as a row of the body. The head itself
-// is read again, once all lines are known.
+// So a line that meets text is tried as a delimiter row, and one that meets a table as a row of the body. The head
+// itself is read again, once all lines are known.
 
 ghost use Rattle.std.specs.Prelude.{◌≡◌, ◌≢◌, IfSome, None};
 ghost use Rattle.md_engine.specs.Full.{IsFull, OnError};
@@ -44,8 +44,8 @@ fn may_head(options: &ParseOptions, text: OpenText) -> bool
     options.constructs.gfm_table && 0 < text.columns && is_small(options, text.indent)
 }
 
-/// Whether a line of a table may begin where the line meets this leaf, by what stands first behind its indent, if that is
-/// known.
+/// Whether a line of a table may begin where the line meets this leaf, by what stands first behind its indent, if that
+/// is known.
 pub fn may_begin(leaf: HeldLeaf, first: Option<u8>) -> bool
     ensures { result ≡ may_with (may_begin leaf) first }
 {

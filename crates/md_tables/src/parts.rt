@@ -158,8 +158,8 @@ impl Walk {
         Ok((2, true))
     }
 
-    /// Goes on in a cell, in front of what it holds or behind that. Says with how many events, and whether the walk stays
-    /// there.
+    /// Goes on in a cell, in front of what it holds or behind that. Says with how many events, and whether the walk
+    /// stays there.
     #[inline(always)]
     fn part_within(&mut self, kind: RowKind, events: &[Event]) -> Result<(usize, bool), Message>
         requires section { in_table self.old.section ≡ true }
@@ -186,8 +186,8 @@ impl Walk {
         Ok((0, false))
     }
 
-    /// Goes on in a cell, and in those behind it, as long as it stays in front of what they hold or behind that. Says with
-    /// how many events.
+    /// Goes on in a cell, and in those behind it, as long as it stays in front of what they hold or behind that. Says
+    /// with how many events.
     #[inline(always)]
     fn parts_within(&mut self, kind: RowKind, events: &[Event]) -> Result<usize, Message>
         requires section { in_table self.old.section ≡ true }
@@ -255,8 +255,8 @@ impl Walk {
         Ok(2)
     }
 
-    /// Goes on between two rows with the ending of a line, or with the begin of a row, which may begin the body, and the pipe
-    /// of its first cell.
+    /// Goes on between two rows with the ending of a line, or with the begin of a row, which may begin the body, and
+    /// the pipe of its first cell.
     #[inline(always)]
     fn part_outside(&mut self, events: &[Event]) -> Result<usize, Message>
         requires section { in_table self.old.section ≡ true }

@@ -6,8 +6,8 @@
 //     pair ::= '\' ( '\' | '|' )
 //
 // Any line is a row, of any indent. It adds `GfmTableRow` around `GfmTableCellDivider`, `SpaceOrTab`, and one linked
-// `Data` for each word; a resolver makes cells of them. A row of the body is a `GfmTable` of its own, linked to the line
-// before, as each further line of a leaf of several lines is.
+// `Data` for each word; a resolver makes cells of them. A row of the body is a `GfmTable` of its own, linked to the
+// line before, as each further line of a leaf of several lines is.
 
 ghost use Rattle.std.specs.Prelude.{◌≡◌, ◌≢◌, IfSome, OnOk, is_err, true};
 ghost use Rattle.md_engine.specs.Full.{IsFull, OnError};

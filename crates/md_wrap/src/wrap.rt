@@ -116,8 +116,8 @@ pub fn item(alloc: Global, value: &str, options: &ParseOptions) -> Result<String
     prefixed(alloc, value, "+ ", "  ")
 }
 
-/// A text in a footnote definition (GFM) with the label `x`: `[^x]: ` before the first line, and four spaces before each
-/// other. The empty text stays empty.
+/// A text in a footnote definition (GFM) with the label `x`: `[^x]: ` before the first line, and four spaces before
+/// each other. The empty text stays empty.
 ///
 /// The text has at most `usize::MAX / 8` bytes. The options change no byte: the contract says what the footnote means
 /// with them. An `Err` says that memory ran out; then nothing is handed out.

@@ -1,10 +1,11 @@
-// The program `memory_calls`: it makes one call of the library between two requests for memory of known sizes, so that a test can
-// refuse the requests of that call alone (`scripts/refuse_memory.sh`). Its argument names the call:
+// The program `memory_calls`: it makes one call of the library between two requests for memory of known sizes, so that
+// a test can refuse the requests of that call alone (`scripts/refuse_memory.sh`). Its argument names the call:
 //
 //     parse, parse_with, outline    it prints the outline of the text
 //     quote, item, footnote         it prints the text in that container
 //     run                           it prints what `blocks_body::run::run` prints of its standard input
-//     states                        the states that take no memory, of those that can be called on their own; it prints what they answer
+//     states                        the states that take no memory, of those that can be called on their own;
+//                                   it prints what they answer
 //
 // A call that is refused memory has status 3 and prints nothing.
 #![tactic(auto)]

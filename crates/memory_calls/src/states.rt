@@ -45,9 +45,9 @@ fn seeing<'a>(alloc: Global, text: &'static [u8], options: &'a ParseOptions) -> 
     tokenizer
 }
 
-/// What five states answer, and then whether an event was added: a blank line ends here; the line is not lazy; at the `>` of a tag;
-/// in a line of HTML; in a blank line of code, where a chunk begins and where the line ends. The event finds no memory where none is
-/// given.
+/// What five states answer, and then whether an event was added: a blank line ends here; the line is not lazy; at the
+/// `>` of a tag; in a line of HTML; in a blank line of code, where a chunk begins and where the line ends. The event
+/// finds no memory where none is given.
 pub fn states(alloc: Global, options: &ParseOptions) -> Result<String, Message> {
     let mut blank = seeing(alloc, b"", options);
     let mut lazy = seeing(alloc, b"a", options);

@@ -20,8 +20,8 @@ printed_numbers numbers =
     ++ printed_number (codes "size ") numbers.size
     ++ printed_number (codes "lines ") numbers.lines
 
--- The printed numbers of a parse of the text under what is there of the options: so many events as it answers. What room
--- their list has, and how many lines its outline, is counted alone.
+-- The printed numbers of a parse of the text under what is there of the options: so many events as it answers. What
+-- room their list has, and how many lines its outline, is counted alone.
 pub record PrintsCost (text : List ℕ) (options : ParseOptions) (bytes : List ℕ) : Type 0 where
   pub events : List Event
   pub state : ParseState

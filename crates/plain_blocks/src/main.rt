@@ -1,5 +1,5 @@
-// Prints the outline of the text on standard input, as the plain program of the line definition reads it. It has a limit that the
-// parser has not: more than 2,000 containers in one another count as want of memory.
+// Prints the outline of the text on standard input, as the plain program of the line definition reads it. It has a
+// limit that the parser has not: more than 2,000 containers in one another count as want of memory.
 #![tactic(auto)]
 
 ghost use Rattle.std.specs.Prelude.{codes, map, string_bytes};

@@ -1,5 +1,5 @@
-// The tree of a text, its outline and what is printed of it, by the plain program. Trees, words and labels are tried by the rows of the
-// bench.
+// The tree of a text, its outline and what is printed of it, by the plain program. Trees, words and labels are tried by
+// the rows of the bench.
 
 use md_engine::configuration::ParseOptions;
 use md_engine::message::Message;

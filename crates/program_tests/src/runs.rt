@@ -12,7 +12,8 @@ enum Program {
 }
 
 /// What a program is run on: its arguments, each behind a space; its input, `step` bytes a call, which fails after
-/// `reads` calls; and how its outputs take what it writes, `takes` bytes a call, of which the first fails after `writes` calls.
+/// `reads` calls; and how its outputs take what it writes, `takes` bytes a call, of which the first fails after
+/// `writes` calls.
 #[derive(Clone, Copy)]
 struct Given<'a> {
     words: &'a str,
@@ -187,8 +188,9 @@ fn alerts_are_asked_for(rt: HostRuntime) {
     }
 }
 
-/// Tries a run of which the first read fails, one of which the second does, and so on, and one of which the last does that is made of
-/// an input with so many reads. None of these prints anything; the run after these meets no failed read and prints this.
+/// Tries a run of which the first read fails, one of which the second does, and so on, and one of which the last does
+/// that is made of an input with so many reads. None of these prints anything; the run after these meets no failed read
+/// and prints this.
 fn check_reads(rt: &impl Abort, alloc: Global, given: Given, count: usize, printed: &[u8]) {
     let mut given = given;
     for reads in 0..count {

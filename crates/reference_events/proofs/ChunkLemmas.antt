@@ -1,6 +1,7 @@
 -- What holds of the events of a chunk, whatever the roles of its bytes are.
 use Rattle.std.proofs.Common.{◌≡◌, ℕ, zero, suc, ◌+◌, ◌-◌, ◌<◌, ◌≤◌, ◌⊎◌, inl, inr, Bool, true, false, cond, ◌&&◌, List}
-use Rattle.std.proofs.Common.{[], ◌∷◌, ◌++◌, length, take, drop, refl, ap, sym, ◌∙◌, subst, append_assoc, add-one, arith}
+use Rattle.std.proofs.Common.{[], ◌∷◌, ◌++◌, length, take, drop, refl, ap, sym, ◌∙◌}
+use Rattle.std.proofs.Common.{subst, append_assoc, add-one, arith}
 use Rattle.std.specs.Prelude.{IsTrue, nat_le, nat_lt, None}
 use Rattle.std.specs.List.{list_all}
 use Rattle.std.proofs.lemmas.Bool.{and_from, cases_lt, true≢false}
@@ -23,14 +24,17 @@ use Rattle.md_seam.specs.Events.Places.{are_placed, at_or_before, is_placed, pas
 use Rattle.md_seam.specs.Substituted.{belongs}
 use Rattle.md_seam.proofs.InlineLemmas.{end-before, end-placed, line-no_ending, past-index}
 use Rattle.md_seam.proofs.NestedLemmas.{at_or_before-refl}
-use Rattle.md_seam.proofs.PlacesLemmas.{Placed, all-append, apart-later, drop-next, placed-byte, placed-facts, placed-from}
+use Rattle.md_seam.proofs.PlacesLemmas.{Placed, all-append, apart-later, drop-next}
+use Rattle.md_seam.proofs.PlacesLemmas.{placed-byte, placed-facts, placed-from}
 use Rattle.md_seam.proofs.PlainSteps.{Rests, One, Two, line-and-rest, range-length, rests-of, stops-at}
 use Rattle.reference_events.specs.References.{chunk_events, ending_events, ends_label, line_events}
 use Rattle.reference_events.specs.declared.roles.Role.{Role}
-use Rattle.reference_events.proofs.BalanceLemmas.{AreEndings, Runs, Turns, runs-split, turns-append, turns-ending, turns-line}
+use Rattle.reference_events.proofs.BalanceLemmas.{AreEndings, Runs, Turns, runs-split}
+use Rattle.reference_events.proofs.BalanceLemmas.{turns-append, turns-ending, turns-line}
 use Rattle.reference_events.proofs.FrontLemmas.{covers-chunk}
-use Rattle.reference_events.proofs.LineLemmas.{Along, Goes, Mark, all-line, along-unit, endings-append, goes-append, goes-line}
-use Rattle.reference_events.proofs.LineLemmas.{goes-pair, line-endings, on_bracket, on_label, on_link, on_text}
+use Rattle.reference_events.proofs.LineLemmas.{Along, Goes, Mark, all-line, along-unit, endings-append, goes-append}
+use Rattle.reference_events.proofs.LineLemmas.{goes-line, goes-pair, line-endings}
+use Rattle.reference_events.proofs.LineLemmas.{on_bracket, on_label, on_link, on_text}
 
 -- A chunk of a part: one line of the text, between two of its points.
 pub record Whole (bytes : List ℕ) (chunk : Chunk) : Type 0 where

@@ -14,9 +14,9 @@ use Rattle.md_meaning.specs.Texts.{split_lines}
 use Rattle.md_seam.specs.declared.inline.Chunk.{Chunk}
 use Rattle.md_seam.specs.declared.inline.PartKind.{PartKind}
 use Rattle.md_seam.specs.declared.inline.PartKind.TheVariants as kind
-use Rattle.md_seam.specs.Events.Inline.{Fills, Framed, IsPart, KeepsFrame, Part, are_lines, chunk_placed, chunk_text, cut_at}
-use Rattle.md_seam.specs.Events.Inline.{endings_of, ends_whole, in_order, is_inline, is_line, is_one_line, line_end}
-use Rattle.md_seam.specs.Events.Inline.{line_endings, pair_unless_empty, together}
+use Rattle.md_seam.specs.Events.Inline.{Fills, Framed, IsPart, KeepsFrame, Part, are_lines, chunk_placed, chunk_text}
+use Rattle.md_seam.specs.Events.Inline.{cut_at, endings_of, ends_whole, in_order, is_inline, is_line, is_one_line}
+use Rattle.md_seam.specs.Events.Inline.{line_end, line_endings, pair_unless_empty, together}
 use Rattle.md_seam.specs.Events.Nested.{enter, exit, pair}
 use Rattle.md_seam.specs.Events.Places.{are_placed, at_or_before, first_point, is_placed, same_place}
 use Rattle.md_seam.specs.Substituted.{belongs}
@@ -25,13 +25,14 @@ use Rattle.md_seam.proofs.CutLemmas.{cut-front, cut-last}
 use Rattle.md_seam.proofs.InlineLemmas.{end-behind, plain-framed}
 use Rattle.md_seam.proofs.PlacesLemmas.{all-append}
 use Rattle.md_seam.proofs.PlainSteps.{lines-each}
-use Rattle.reference_events.specs.References.{chunks_events, ending_events, ends_label, line_events, part_text, reference_events}
-use Rattle.reference_events.specs.References.{events_of_kind, roles, text_events}
+use Rattle.reference_events.specs.References.{chunks_events, ending_events, ends_label, line_events, part_text}
+use Rattle.reference_events.specs.References.{reference_events, events_of_kind, roles, text_events}
 use Rattle.reference_events.specs.declared.roles.Place.TheVariants.{Outside}
 use Rattle.reference_events.specs.declared.roles.Role.{Role}
 use Rattle.reference_events.proofs.BalanceLemmas.{Runs, Turns, none, runs-roles, runs-split, turns-append}
-use Rattle.reference_events.proofs.ChunkLemmas.{Whole, chunk-belongs, chunk-covers, chunk-endings, chunk-goes, chunk-inline}
-use Rattle.reference_events.proofs.ChunkLemmas.{chunk-placed, chunk-turns, goes-on, label-apart, read_chunk}
+use Rattle.reference_events.proofs.ChunkLemmas.{Whole, chunk-belongs, chunk-covers, chunk-endings, chunk-goes}
+use Rattle.reference_events.proofs.ChunkLemmas.{chunk-inline, chunk-placed, chunk-turns}
+use Rattle.reference_events.proofs.ChunkLemmas.{goes-on, label-apart, read_chunk}
 use Rattle.reference_events.proofs.FrontLemmas.{front-line}
 use Rattle.reference_events.proofs.LineLemmas.{endings-append}
 

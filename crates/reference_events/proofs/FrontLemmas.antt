@@ -16,8 +16,8 @@ use Rattle.reference_events.specs.References.{closed, ending_events, line_events
 use Rattle.reference_events.specs.declared.roles.Role.{Role}
 use Rattle.reference_events.specs.declared.roles.Role.TheVariants.{Text, Opens, Last, Closes}
 
--- What holds of events that begin with an enter from some byte on, holds where events of a line stand in front of others
--- of which it holds.
+-- What holds of events that begin with an enter from some byte on, holds where events of a line stand in front of
+-- others of which it holds.
 module _ (P : List Event → Type 0) (index : ℕ)
     (entered : (name : Name) (p : Point) (es : List Event) → index ≤ p.index → P (enter name p ∷ es)) where
   front-pair : (name : Name) (p q : Point) (es : List Event) → index ≤ p.index → P es →
@@ -43,13 +43,15 @@ module _ (P : List Event → Type 0) (index : ℕ)
           P (((cond x [] (pair n.Data from at) ++ opened at behind) ++ line_events line roles behind behind) ++ es)
       go true = entered n.Link at _ (omega arith)
       go false = entered n.Data from _ h
-  front-line (b ∷ line) (Last ∷ roles) from at es h k rest = go (same_place from behind) (apart-later from behind (omega arith))
+  front-line (b ∷ line) (Last ∷ roles) from at es h k rest =
+      go (same_place from behind) (apart-later from behind (omega arith))
     where
       behind : Point
       behind = past_byte b at
 
       go : (x : Bool) → x ≡ false →
-          P (((cond x [] (pair n.Data from behind) ++ exit n.LabelText behind ∷ []) ++ line_events line roles behind behind)
+          P (((cond x [] (pair n.Data from behind) ++ exit n.LabelText behind ∷ [])
+          ++ line_events line roles behind behind)
           ++ es)
       go true e = cc
       go false e = entered n.Data from _ h
@@ -100,7 +102,8 @@ assoc a b c d = append_assoc (a ++ b) c d ∙ append_assoc a b (c ++ d)
 
 -- The pieces of a line lie side by side.
 pub covers-line : (line : List ℕ) (roles : List Role) (from at r : Point) (es : List Event) → from.index ≤ at.index →
-    Opening es → Covers (past_text line at) (pieces es) r → Covers from (pieces (line_events line roles from at ++ es)) r
+    Opening es → Covers (past_text line at) (pieces es) r →
+    Covers from (pieces (line_events line roles from at ++ es)) r
 covers-line [] roles from at r es h opening rest = covers-pair n.Data from at r es rest
 covers-line (b ∷ line) [] from at r es h opening rest =
     covers-line line [] from (past_byte b at) r es (omega arith) opening rest
@@ -117,7 +120,8 @@ covers-line (b ∷ line) (Opens ∷ roles) from at r es h opening rest =
       same-refl at,
       subst (λ (ps : List Piece). Covers behind ps r)
           (sym
-          (pieces-enter n.LabelText behind (more ++ es) (opening-line line roles behind behind es (omega arith) opening)))
+          (pieces-enter n.LabelText behind (more ++ es)
+          (opening-line line roles behind behind es (omega arith) opening)))
           next,
     ))
 covers-line (b ∷ line) (Last ∷ roles) from at r es h opening rest =

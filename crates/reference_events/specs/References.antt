@@ -1,6 +1,7 @@
 -- The shortcut references of a text part (CommonMark 6.3), and the events that mark them.
 use Rattle.std.specs.Prelude.{ℕ, zero, suc, Bool, true, false, ◌&&◌, ◌||◌, ◌==◌}
-use Rattle.std.specs.Prelude.{count_by, nat_le, not, if◌then◌else◌, List, [], ◌∷◌, ◌++◌, length, take, drop, map, Option, Some, None}
+use Rattle.std.specs.Prelude.{count_by, nat_le, not, if◌then◌else◌, List, [], ◌∷◌, ◌++◌}
+use Rattle.std.specs.Prelude.{length, take, drop, map, Option, Some, None}
 use Rattle.std.specs.List.{list_all, list_any}
 use Rattle.std.specs.Str.{bytes_eq}
 use Rattle.md_engine.specs.declared.event.Event.{Event}
@@ -54,8 +55,8 @@ defined_len document (Closed label behind) = if is_defined document label then S
 defined_len document Open = None
 defined_len document Broken = None
 
--- How many bytes the label has whose `[` stands in front of a text, up to the first `]` that no backslash takes; none if
--- a `[` stands in it that none takes, or no definition has it.
+-- How many bytes the label has whose `[` stands in front of a text, up to the first `]` that no backslash takes; none
+-- if a `[` stands in it that none takes, or no definition has it.
 abbrev pub label_len : Document → List ℕ → Option ℕ
 label_len document text = defined_len document (enclosed left_bracket right_bracket false text)
 

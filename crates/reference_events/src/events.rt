@@ -75,8 +75,8 @@ fn push_unless_empty(
     push_pair(events, name, first, after)
 }
 
-/// Adds what a byte brings that stands between two points, where the text in front of it began at `from`; and says where
-/// the text begins that is still to be added behind it.
+/// Adds what a byte brings that stands between two points, where the text in front of it began at `from`; and says
+/// where the text begins that is still to be added behind it.
 ///
 /// An `Err` says that memory ran out.
 fn push_byte(

@@ -34,12 +34,15 @@ table_by-head options bs earlier k r (Some columns) = by (is_head_of options k c
         ap
         (λ e.
         Some
-        (record { here = shut_paragraph options bs (texts e); leaf = OpenTable (trim r.bytes) (row_cells k.text ∷ []) }))
+        (record {
+          here = shut_paragraph options bs (texts e);
+          leaf = OpenTable (trim r.bytes) (row_cells k.text ∷ []);
+        }))
         (reverse-reverse earlier)
     by false = refl
 
-pub table_at-head : (options : ParseOptions) (bs : Blocks) (lines earlier : List ParagraphLine) (k : ParagraphLine) (r : Rest) →
-    lines ≡ earlier ++ k ∷ [] →
+pub table_at-head : (options : ParseOptions) (bs : Blocks) (lines earlier : List ParagraphLine) (k : ParagraphLine)
+    (r : Rest) → lines ≡ earlier ++ k ∷ [] →
     table_at options bs lines r ≡ spot_with options bs earlier r (head_of options k r)
 unfolding table_at
 table_at-head options bs lines earlier k r e =

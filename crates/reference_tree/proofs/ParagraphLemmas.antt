@@ -64,8 +64,8 @@ definitions-next bs now next ds x before added =
     ∙ then_definitions_push bs (definitions_of ds) (defined_meaning x))
 
 -- the text of one line more
-pub texts-next : (now next : List (Bor (List ℕ))) (lines : List ParagraphLine) (d : ParagraphLine) (i : ℕ) → i < length lines →
-    next ≡ now ++ (get_or lines i d).text ∷ [] →
+pub texts-next : (now next : List (Bor (List ℕ))) (lines : List ParagraphLine) (d : ParagraphLine) (i : ℕ) →
+    i < length lines → next ≡ now ++ (get_or lines i d).text ∷ [] →
     slices now ≡ texts (kept_meanings (take i lines)) → slices next ≡ texts (kept_meanings (take (i + 1) lines))
 texts-next now next lines d i below added before =
     ap (λ xs. slices xs) added

@@ -168,7 +168,8 @@ continued-next options fs f g c p x y i below reads_f reads_g took =
     within (take i fs) (s.Within (meanings k.before.items) (container_meaning c) (step options inner y))) same
     ∙ sym (ap (λ gs. within gs (step options (within (drop (i + 1) (set fs i h)) p) y)) (take_more_set fs i h below)
     ∙ within-append (take i fs) (h ∷ []) (step options (within (drop (i + 1) (set fs i h)) p) y)
-    ∙ ap (λ gs. within (take i fs) (inside h (step options (within gs p) y))) (drop-set-lt (i + 1) fs i h (omega arith)))
+    ∙ ap (λ gs. within (take i fs) (inside h (step options (within gs p) y)))
+    (drop-set-lt (i + 1) fs i h (omega arith)))
 
 -- the line is read where this container does not continue
 pub continued-not : (options : ParseOptions) (fs : List Frame) (f : Frame) (p : s.Path) (x : r.Rest) (i : ℕ) →

@@ -9,8 +9,8 @@ ghost use Rattle.md_meaning.specs.Rest.{is_blank, is_white, is_parted};
 ghost use Rattle.md_meaning.specs.State.{fence_block, OpenCode, OpenHtml, OpenTable};
 ghost use Rattle.md_grammars.specs.Rests.{rest_meaning};
 ghost use Rattle.md_grammars.specs.Trees.{meaning, line_meanings, slices};
-ghost use Rattle.reference_tree.specs.States.{opening_meaning, came_meaning, came_option, against_meaning, leaf_meaning};
-ghost use Rattle.reference_tree.specs.States.{went_option, HandsBack};
+ghost use Rattle.reference_tree.specs.States.{opening_meaning, came_meaning, came_option, against_meaning};
+ghost use Rattle.reference_tree.specs.States.{leaf_meaning, went_option, HandsBack};
 
 use crate::state::{Leaf, LeafResult, Opening, ParagraphContext};
 use md_engine::configuration::ParseOptions;

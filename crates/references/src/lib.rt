@@ -15,7 +15,8 @@ use md_seam::plain;
 use reference_events::part;
 use std::alloc::Global;
 
-/// Marks the shortcut references of a text whose labels the document defines, and reads all else as the plain layer does.
+/// Marks the shortcut references of a text whose labels the document defines, and reads all else as the plain layer
+/// does.
 pub struct References;
 
 impl Inline for References {

@@ -1,8 +1,9 @@
-// Rows on tabs whose columns several pieces share (CommonMark 2.2): prefixes of containers, indents, and the text of a line.
+// Rows on tabs whose columns several pieces share (CommonMark 2.2): prefixes of containers, indents, and the text of a
+// line.
 //
-// A tab extends to the next multiple of 4 columns. A quote takes one column after its marker, an item as many columns of each line as
-// its marker and the whitespace after it have, a footnote definition four, code four, and a fence as many as the opening fence has
-// before it. What is left of a tab is as many spaces.
+// A tab extends to the next multiple of 4 columns. A quote takes one column after its marker, an item as many columns
+// of each line as its marker and the whitespace after it have, a footnote definition four, code four, and a fence as
+// many as the opening fence has before it. What is left of a tab is as many spaces.
 
 /// Rows on tabs whose columns several pieces share (CommonMark 2.2).
 pub fn rows() -> &'static str {

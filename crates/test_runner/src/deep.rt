@@ -47,11 +47,12 @@ fn try_depth<B: Body>(
     try_events::<B>(alloc, text.as_str(), &Constructs::ALL, report)
 }
 
-/// Markers that open containers, with how many words of the outline are one in another for each, and how many lines it has.
+/// Markers that open containers, with how many words of the outline are one in another for each, and how many lines it
+/// has.
 const MARKERS: [(&str, usize, usize); 3] = [(">", 1, 1), ("- ", 2, 2), ("> - 1. [^a]: ", 6, 7)];
 
-/// Tries a body on markers of containers so many times before an `a`. An outline of such a depth is not printed, since its indents
-/// have more bytes than there is memory: its lines and the depth of the last are counted.
+/// Tries a body on markers of containers so many times before an `a`. An outline of such a depth is not printed, since
+/// its indents have more bytes than there is memory: its lines and the depth of the last are counted.
 pub fn try_levels<B: Body>(
     alloc: Global,
     levels: usize,

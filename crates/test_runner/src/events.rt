@@ -1,10 +1,12 @@
-// Tries whether the events of a text nest and tile it, from the definitions (`docs/definitions-events.md`) and apart from the parser:
+// Tries whether the events of a text nest and tile it, from the definitions (`docs/definitions-events.md`) and apart
+// from the parser:
 //
 // - Enters and exits match by name like brackets.
-// - Points never go back, and each is a point of the text: its line is 1 plus the line endings before it, and its column 1 plus the
-//   columns before it on its line, where a tab extends to the next multiple of 4 (CommonMark 2.2). Virtual spaces are columns of a tab
-//   that is cut there, and no point is between the CR and the LF of one ending.
-// - The pieces, which are the pairs with nothing inside, are side by side from the first byte to the last, and none is empty.
+// - Points never go back, and each is a point of the text: its line is 1 plus the line endings before it, and its
+//   column 1 plus the columns before it on its line, where a tab extends to the next multiple of 4 (CommonMark 2.2).
+//   Virtual spaces are columns of a tab that is cut there, and no point is between the CR and the LF of one ending.
+// - The pieces, which are the pairs with nothing inside, are side by side from the first byte to the last, and none is
+//   empty.
 
 use crate::report::Report;
 use crate::rows::options_of;

@@ -1,5 +1,5 @@
-// Tries bodies of the parser: on the rows of `test_rows`, on long and deep texts, on the laws of nesting, against each other, and
-// whether their events nest and tile.
+// Tries bodies of the parser: on the rows of `test_rows`, on long and deep texts, on the laws of nesting, against each
+// other, and whether their events nest and tile.
 #![tactic(auto)]
 
 pub mod agree;

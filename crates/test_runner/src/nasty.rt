@@ -1,5 +1,5 @@
-// Tries whether two bodies give the same where constructs meet: on all texts of a few letters and fragments that belong to as many
-// constructs as they can, and on long random texts of the fragments. What a task is, by its arguments:
+// Tries whether two bodies give the same where constructs meet: on all texts of a few letters and fragments that belong
+// to as many constructs as they can, and on long random texts of the fragments. What a task is, by its arguments:
 //
 //     letters MOST         all texts of at most so many letters
 //     fragments MOST       all texts of at most so many fragments
@@ -171,7 +171,8 @@ impl Nasty {
     }
 }
 
-/// Tries two bodies on so many random texts of fragments, in turn with about half of the constructs and with most of them.
+/// Tries two bodies on so many random texts of fragments, in turn with about half of the constructs and with most of
+/// them.
 fn try_long<A: Body, B: Body>(
     alloc: Global,
     seed: u64,

@@ -61,8 +61,10 @@ front-some bytes label link p q es is =
 
 -- a marker of one byte of ASCII
 byte-part : (bytes rest : List ℕ) (name : Name) (b : ℕ) (p : Point) → IsFrontName name →
-    PrefixesAtLineStart bytes (pair name p (past_byte b p)) → is_told (role name) ≡ false → stands_over name (b ∷ []) ≡ true →
-    is_low b ≡ true → drop p.index bytes ≡ b ∷ rest → p.vs ≡ 0 → FrontPart bytes p (past_byte b p) (pair name p (past_byte b p))
+    PrefixesAtLineStart bytes (pair name p (past_byte b p)) → is_told (role name) ≡ false →
+    stands_over name (b ∷ []) ≡ true →
+    is_low b ≡ true → drop p.index bytes ≡ b ∷ rest → p.vs ≡ 0 →
+    FrontPart bytes p (past_byte b p) (pair name p (past_byte b p))
 byte-part bytes rest name b p is sits untold over low e whole =
     let q : Point = past_byte b p in
     let here : is_low (slice_index bytes p.index) ≡ true = ap is_low (byte-there bytes rest b p.index e) ∙ low in
@@ -117,7 +119,8 @@ front-part bytes label link p q es is stands alone =
     (part-around n.GfmFootnoteDefinitionPrefix start q (prefix_inside link (same_place behind q) label start q)
     (refl, refl, refl, refl) tt refl refl
     (part-append
-    (part-around n.GfmFootnoteDefinitionLabel start close (label_inside link label start) (refl, refl, refl, refl) tt refl
+    (part-around n.GfmFootnoteDefinitionLabel start close (label_inside link label start)
+    (refl, refl, refl, refl) tt refl
     refl
     (part-append
     (byte-part bytes _ n.GfmFootnoteDefinitionLabelMarker left_bracket start (refl, refl, refl, refl) (λ ys h. h) refl

@@ -1,6 +1,6 @@
 -- The laws of list items, as containers.
-use Rattle.std.proofs.Common.{◌≡◌, ◌+◌, ◌≤◌, ℕ, Bool, true, false, cond, not, ◌&&◌, ◌||◌, refl, sym, ap, subst, ◌∙◌, List}
-use Rattle.std.proofs.Common.{[], length, arith}
+use Rattle.std.proofs.Common.{◌≡◌, ◌+◌, ◌≤◌, ℕ, Bool, true, false, cond, not, ◌&&◌, ◌||◌, refl}
+use Rattle.std.proofs.Common.{sym, ap, subst, ◌∙◌, List, [], length, arith}
 use Rattle.std.specs.Prelude.{Option, Some, None}
 use Rattle.md_engine.specs.declared.configuration.ParseOptions.{ParseOptions}
 use Rattle.md_engine.specs.declared.tokenizer.container.Container.{Container as Held}
@@ -19,7 +19,8 @@ use Rattle.md_frame.specs.ContainerNames.{IsOf}
 use Rattle.md_frame.proofs.ContainerLaws.{ContainerLaws}
 use Rattle.md_container_rooms.proofs.ListItem.Fronts.{item-begins, item-goes}
 use Rattle.md_container_rooms.proofs.ListItem.Trial.{each-held, each-item, further-ended, further-holds, further-passed}
-use Rattle.md_container_rooms.proofs.ListItem.Trial.{further-tried, new-ended, new-holds, new-passed, new-tried, wide-one}
+use Rattle.md_container_rooms.proofs.ListItem.Trial.{further-tried, new-ended, new-holds}
+use Rattle.md_container_rooms.proofs.ListItem.Trial.{new-passed, new-tried, wide-one}
 
 -- By the line definition what opens is an item that is a column wide at least.
 

@@ -13,8 +13,8 @@ use Rattle.md_seam.specs.Events.Places.{same_place}
 use Rattle.md_seam.specs.Events.Spelled.{AsDigits, AsItemMarker, ItemShape, Reading, Text, begun, read, told_at}
 use Rattle.md_seam.proofs.FeedLines.{slice-front}
 use Rattle.md_seam.proofs.SpelledLemmas.{read-append}
-use Rattle.md_container_rooms.proofs.ListItem.Prefix.{IsFront, behind-index, front_by, marker-index, marker-text, marker-whole}
-use Rattle.md_container_rooms.proofs.ListItem.Prefix.{no_digits}
+use Rattle.md_container_rooms.proofs.ListItem.Prefix.{IsFront, behind-index, front_by, marker-index}
+use Rattle.md_container_rooms.proofs.ListItem.Prefix.{marker-text, marker-whole, no_digits}
 use Rattle.md_frame.proofs.PrefixFacts.{begins}
 
 -- a point in no tab is where the text that begins there begins
@@ -30,12 +30,13 @@ item_read r marker digits = record r {
 }
 
 -- its digits are told, if it has some
-digits-told : (bytes digits rest : List ℕ) (r : Reading) (p q : Point) → p.vs ≡ 0 → drop p.index bytes ≡ digits ++ rest →
-    q.index ≡ p.index + length digits →
+digits-told : (bytes digits rest : List ℕ) (r : Reading) (p q : Point) → p.vs ≡ 0 →
+    drop p.index bytes ≡ digits ++ rest → q.index ≡ p.index + length digits →
     read bytes (item_read r 0 []) (cond (no_digits digits) [] (pair n.ListItemValue p q)) ≡ item_read r 0 digits
 digits-told bytes [] rest r p q whole e size = refl
 digits-told bytes (d ∷ ds) rest r p q whole e size =
-    ap (λ (t : Text). told_at bytes AsDigits q (Some t) (record (item_read r 0 []) { text = Some t })) (begun-whole p whole)
+    ap (λ (t : Text). told_at bytes AsDigits q (Some t) (record (item_read r 0 []) { text = Some t }))
+    (begun-whole p whole)
     ∙ ap (λ (l : List ℕ). item_read r 0 l) (slice-front bytes p.index q.index (d ∷ ds) rest e size)
 
 -- and its marker

@@ -154,7 +154,8 @@ label_by f x =
 -- what stands in the definition
 abbrev pub inside_by : (Strand → List Event) → (Point → Point → List Event) → Form → List Event
 inside_by f string x =
-    label_by f x ++ pair n.DefinitionMarker x.c x.d ++ gap_events x.gap ++ target_by string x.target ++ title_by f x.title
+    label_by f x ++ pair n.DefinitionMarker x.c x.d ++ gap_events x.gap ++ target_by string x.target
+    ++ title_by f x.title
     ++ pair_unless_empty n.SpaceOrTab x.e x.last
 
 abbrev pub form_by : (Strand → List Event) → (Point → Point → List Event) → Form → List Event
@@ -208,8 +209,8 @@ abbrev pub IsFilled : Strand → Type 0
 IsFilled (OneLine p e q r text front s) = is_blank text ≡ false
 IsFilled s = Unit {0}
 
--- A text from a point to a point. Nothing may stand on its last line, unless that is its only one; its first line may be
--- blank in front of its ending, and no further one.
+-- A text from a point to a point. Nothing may stand on its last line, unless that is its only one; its first line may
+-- be blank in front of its ending, and no further one.
 abbrev pub IsStrand : List ℕ → Point → Point → Strand → Type 0
 IsStrand bytes p q NoLine = ⊥
 IsStrand bytes p q (LastLine a b text) = (first : a ≡ p) × (last : b ≡ q) × (some : text ≢ []) × IsRun bytes text p q
@@ -226,7 +227,8 @@ IsGap bytes p q (OverLine a e b r s front) =
     × (s ≡ q) × (q.vs ≡ 0)
 
 abbrev pub IsTarget : List ℕ → Point → Point → Target → Type 0
-IsTarget bytes p q (Raw a b text) = (first : a ≡ p) × (last : b ≡ q) × (p.vs ≡ 0) × (some : text ≢ []) × IsRun bytes text p q
+IsTarget bytes p q (Raw a b text) =
+    (first : a ≡ p) × (last : b ≡ q) × (p.vs ≡ 0) × (some : text ≢ []) × IsRun bytes text p q
 IsTarget bytes p q (Literal x a b y text) =
     (first : x ≡ p) × (last : y ≡ q) × (opener : IsByte bytes 60 p a) × (inside : IsRun bytes text a b)
     × IsByte bytes 62 b q

@@ -9,7 +9,8 @@ use Rattle.md_engine.specs.declared.event.Name.TheVariants as n
 use Rattle.md_engine.specs.declared.event.Point.{Point}
 use Rattle.md_engine.specs.Meaning.{Cell}
 use Rattle.md_meaning.specs.Rest.{cut_tab, is_blank, is_white}
-use Rattle.md_link_definitions.specs.GapRule.{ending_end, ending_part, ending_rest, gap_end, gap_part, gap_rest, white_part}
+use Rattle.md_link_definitions.specs.GapRule.{ending_end, ending_part, ending_rest, gap_end}
+use Rattle.md_link_definitions.specs.GapRule.{gap_part, gap_rest, white_part}
 use Rattle.md_link_definitions.proofs.GapLines.{white-over}
 use Rattle.md_seam.specs.Ahead.{begins_white, point_after, white_end, white_rest}
 use Rattle.md_seam.specs.Events.Inline.{pair_unless_empty}

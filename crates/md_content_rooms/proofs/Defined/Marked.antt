@@ -13,7 +13,8 @@ use Rattle.md_engine.specs.declared.event.Point.{Point}
 use Rattle.md_engine.specs.Meaning.{Cell}
 use Rattle.md_link_definitions.specs.CellLines.{cell_lines}
 use Rattle.md_link_definitions.specs.Chunks.{before_mark, chunks, from_mark}
-use Rattle.md_link_definitions.specs.DefinitionRule.{ends_behind, lone, title_behind, titled_end, titled_part, titled_rest}
+use Rattle.md_link_definitions.specs.DefinitionRule.{ends_behind, lone, title_behind}
+use Rattle.md_link_definitions.specs.DefinitionRule.{titled_end, titled_part, titled_rest}
 use Rattle.md_link_definitions.specs.GapRule.{begins_gap, gap_end, gap_part, gap_rest}
 use Rattle.md_link_definitions.specs.Label.{is_bracket}
 use Rattle.md_link_definitions.specs.LabelRule.{LabelParts, has_text, label_events, label_from, label_parts}

@@ -11,9 +11,10 @@ use Rattle.md_engine.specs.declared.event.Name.TheVariants as n
 use Rattle.md_engine.specs.declared.event.Point.{Point}
 use Rattle.md_engine.specs.Meaning.{Cell}
 use Rattle.md_link_definitions.specs.CellLines.{cell_lines}
-use Rattle.md_link_definitions.specs.DefinitionRule.{DefinitionParts, definition_end, definition_events, definition_parts}
-use Rattle.md_link_definitions.specs.DefinitionRule.{definition_rest, destination_begin, destination_end, destination_rest}
-use Rattle.md_link_definitions.specs.DefinitionRule.{ends_behind, is_literal, label_begin, parts_behind, parts_end, parts_labelled}
+use Rattle.md_link_definitions.specs.DefinitionRule.{DefinitionParts, definition_end, definition_events}
+use Rattle.md_link_definitions.specs.DefinitionRule.{definition_parts, definition_rest, destination_begin}
+use Rattle.md_link_definitions.specs.DefinitionRule.{destination_end, destination_rest, ends_behind, is_literal}
+use Rattle.md_link_definitions.specs.DefinitionRule.{label_begin, parts_behind, parts_end, parts_labelled}
 use Rattle.md_link_definitions.specs.DefinitionRule.{parts_rest, parts_with, title_behind, titled_part}
 use Rattle.md_link_definitions.specs.DestinationRule.{destination_left, destination_part}
 use Rattle.md_link_definitions.specs.GapRule.{gap_part, gap_rest, white_part}

@@ -271,13 +271,21 @@ step-stands bytes p c stands is = go (kind bytes p c stands is)
     go : Kind bytes p c → Stands bytes c.after
     go (OfByte k) =
         subst (λ (d : Cell). Stands bytes d.after) (sym k.cell_is)
-        (record { column = omega arith; within = let lt = is.within in omega (arith, lt); tab = λ e. absurd (omega (arith, e)) })
+        (record {
+          column = omega arith;
+          within = let lt = is.within in omega (arith, lt);
+          tab = λ e. absurd (omega (arith, e));
+        })
     go (OfColumn k) =
         subst (λ (d : Cell). Stands bytes d.after) (sym k.cell_is)
         (record { column = omega arith; within = stands.within; tab = λ e. k.tab })
     go (OfLast k) =
         subst (λ (d : Cell). Stands bytes d.after) (sym k.cell_is)
-        (record { column = omega arith; within = let lt = is.within in omega (arith, lt); tab = λ e. absurd (omega (arith, e)) })
+        (record {
+          column = omega arith;
+          within = let lt = is.within in omega (arith, lt);
+          tab = λ e. absurd (omega (arith, e));
+        })
 
 -- and it stays on its line, and does not go back
 pub step-line : (bytes : List ℕ) (p : Point) (c : Cell) → Stands bytes p → IsStep bytes p c →

@@ -211,7 +211,9 @@ strand-next bytes last p line d ds turns rest none ten walk whole further =
     (refl, tt)
     (takes-none bytes last p (line ++ (d ∷ ds ++ rest)) turns
     (subst (λ (l : List Cell). Walk bytes last p l turns) all walk)) refl (omega arith) (omega arith, tt) in
-    let here = takes-then bytes last p turns e (d ∷ ds ++ rest) turns [] [] d.after (ds ++ rest) over.left (exit n.Data d.after ∷ [])
+    let here =
+    takes-then bytes last p turns e (d ∷ ds ++ rest) turns [] [] d.after (ds ++ rest) over.left
+    (exit n.Data d.after ∷ [])
     (exit n.Data b.after ∷ b.front) on.takes over.takes in
     let both = takes-then bytes last p turns d.after (ds ++ rest) over.left (exit n.Data d.after ∷ [])
     (exit n.Data b.after ∷ b.front) (point_after ds d.after) rest more.left (chunks false ds d.after)

@@ -18,29 +18,29 @@ use Rattle.md_engine.specs.declared.event.Point.{Point}
 use Rattle.md_engine.specs.Meaning.{Cell}
 use Rattle.md_engine.specs.Place.{is_ending}
 use Rattle.md_link_definitions.specs.Chunks.{before_mark, from_mark, string_link}
-use Rattle.md_link_definitions.specs.DestinationRule.{begins_literal, destination_last, destination_left, destination_part}
-use Rattle.md_link_definitions.specs.DestinationRule.{text_begin, text_part}
+use Rattle.md_link_definitions.specs.DestinationRule.{begins_literal, destination_last, destination_left}
+use Rattle.md_link_definitions.specs.DestinationRule.{destination_part, text_begin, text_part}
 use Rattle.md_link_definitions.specs.Title.{is_mark}
 use Rattle.md_link_definitions.specs.WholeCells.{AreWhole, whole_cells}
 use Rattle.md_link_definitions.proofs.DefinitionLines.{text_bytes}
 use Rattle.md_link_definitions.proofs.DestinationLemmas.{line-ends, line-more, raw-cons, raw-ends, raw-no_ending}
-use Rattle.md_link_definitions.proofs.DestinationWhole.{found-literal, found-neither, found-none, found-raw, literal_found}
-use Rattle.md_link_definitions.proofs.DestinationWhole.{raw_found}
-use Rattle.md_link_definitions.proofs.LineCells.{bytes-length, enclosed-marks, enclosed_by, line-no_feed, line-split, lines-first}
-use Rattle.md_link_definitions.proofs.LineCells.{mark-split, no_feed-split}
+use Rattle.md_link_definitions.proofs.DestinationWhole.{found-literal, found-neither, found-none}
+use Rattle.md_link_definitions.proofs.DestinationWhole.{found-raw, literal_found, raw_found}
+use Rattle.md_link_definitions.proofs.LineCells.{bytes-length, enclosed-marks, enclosed_by, line-no_feed}
+use Rattle.md_link_definitions.proofs.LineCells.{line-split, lines-first, mark-split, no_feed-split}
 use Rattle.md_link_definitions.proofs.SpreadLines.{spread-whole}
 use Rattle.md_seam.specs.Ahead.{from_ending, line_bytes, line_cells, point_after}
 use Rattle.md_seam.specs.Events.Nested.{around, enter, enter_link, exit, pair}
 use Rattle.md_seam.proofs.FeedLines.{NoFeed, bytes_of, line_cells-append, point_after-append, slice-front}
 use Rattle.md_content_rooms.proofs.Defined.Along.{IsPlain, IsStep, Kind, OfByte, OfColumn, OfLast, Stands, Steps, Turn}
 use Rattle.md_content_rooms.proofs.Defined.Along.{kind, no_line}
-use Rattle.md_content_rooms.proofs.Defined.Form.{IsByte, IsRun, IsTarget, Literal, Raw, Target, string_unread, target_by}
-use Rattle.md_content_rooms.proofs.Defined.Form.{target_text, unless_empty}
+use Rattle.md_content_rooms.proofs.Defined.Form.{IsByte, IsRun, IsTarget, Literal, Raw, Target, string_unread}
+use Rattle.md_content_rooms.proofs.Defined.Form.{target_by, target_text, unless_empty}
 use Rattle.md_content_rooms.proofs.Defined.Runs.{RunOf, drop-here, is-run, run-of, run_text, step-stands}
 use Rattle.md_content_rooms.proofs.Defined.Strands.{last-lines, run-some, uncut}
 use Rattle.md_frame.proofs.PieceFacts.{whole-first}
-use Rattle.md_content_rooms.proofs.Defined.Takes.{OnLine, Takes, Walk, on-line, step-whole, takes-around, takes-end, takes-quiet}
-use Rattle.md_content_rooms.proofs.Defined.Takes.{column-is-white, takes-then}
+use Rattle.md_content_rooms.proofs.Defined.Takes.{OnLine, Takes, Walk, on-line, step-whole, takes-around, takes-end}
+use Rattle.md_content_rooms.proofs.Defined.Takes.{takes-quiet, column-is-white, takes-then}
 
 -- One byte.
 

@@ -293,7 +293,8 @@ around-notes UnorderedShape bs = refl
 around-notes (ItemShape marker digits) bs = refl
 around-notes (FootnoteShape label) bs = refl
 
-container-left : (outer : List OpenContainer) (r : Reading) → r.outer ≡ outer → read_notes r ++ [] ≡ read_notes (left outer r)
+container-left : (outer : List OpenContainer) (r : Reading) → r.outer ≡ outer →
+    read_notes r ++ [] ≡ read_notes (left outer r)
 container-left [] r e = append-nil (read_notes r)
 container-left (a ∷ outer) r e =
     append-nil (read_notes r)
@@ -589,7 +590,8 @@ label-begins bytes name IsQuiet p names span from r e may at =
 label-begins bytes name _ p names span from r e may at = absurd may
 
 -- its end tells it
-label-told : (bytes : List ℕ) (p : Point) (from : ℕ) (r : Reading) (before : Blocks) (outer : List OpenContainer) (t : Text) →
+label-told : (bytes : List ℕ) (p : Point) (from : ℕ) (r : Reading) (before : Blocks) (outer : List OpenContainer)
+    (t : Text) →
     r.outer ≡ record { shape = FootnoteShape []; before = before } ∷ outer → r.here ≡ End → r.text ≡ Some t →
     t.front ≡ [] → t.from ≡ from →
     before_notes r.outer ++ normal_form (slice_range bytes from p.index ∷ []) ∷ [] ≡

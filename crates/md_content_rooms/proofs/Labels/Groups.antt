@@ -13,8 +13,8 @@ use Rattle.md_seam.specs.Events.Places.{same_place}
 use Rattle.md_seam.proofs.PlacesLemmas.{all-append}
 use Rattle.md_engine.specs.declared.event.Name.{Name}
 use Rattle.md_content_rooms.proofs.Defined.Form.{Form, Gap, IsForm, IsGap, IsStrand, IsText, IsTitle, LastLine, Literal}
-use Rattle.md_content_rooms.proofs.Defined.Form.{NoLine, OnLine, OneLine, OverLine, Raw, Strand, Target, Titled, form_block}
-use Rattle.md_content_rooms.proofs.Defined.Form.{form_unread, gap_events, strand_unread, string_of}
+use Rattle.md_content_rooms.proofs.Defined.Form.{NoLine, OnLine, OneLine, OverLine, Raw, Strand, Target, Titled}
+use Rattle.md_content_rooms.proofs.Defined.Form.{form_block, form_unread, gap_events, strand_unread, string_of}
 use Rattle.md_content_rooms.proofs.Defined.Form.{string_unread, target_by, title_by, unless_empty}
 use Rattle.md_frame.proofs.FrontFacts.{LinePrefix}
 use Rattle.md_frame.proofs.FrontNames.{fronts-prefixes}

@@ -3,8 +3,8 @@ use Rattle.std.proofs.Common.{◌≡◌, ℕ, zero, suc, List, [], ◌∷◌, �
 use Rattle.std.specs.Prelude.{Option, Some, None}
 use Rattle.md_meaning.specs.State.{Container}
 use Rattle.md_meaning.specs.Tree.{Block, Blocks}
-use Rattle.md_seam.specs.Events.Spelled.{OpenContainer, FootnoteShape, ItemShape, OrderedShape, QuoteShape, Reading, Shape}
-use Rattle.md_seam.specs.Events.Spelled.{UnorderedShape, add_block, block_around, left}
+use Rattle.md_seam.specs.Events.Spelled.{OpenContainer, FootnoteShape, ItemShape, OrderedShape, QuoteShape, Reading}
+use Rattle.md_seam.specs.Events.Spelled.{Shape, UnorderedShape, add_block, block_around, left}
 use Rattle.md_frame.specs.Closed.{close_containers}
 use Rattle.md_frame.proofs.LeafFacts.{shown}
 use Rattle.md_content_rooms.proofs.Labels.Trees.{defined-then, defined_by, defined_in}

@@ -19,8 +19,8 @@ pub enum HtmlKind {
     Complete,
 }
 
-/// How far the definitions at the front of a text have come behind some lines (CommonMark 4.7). An underline asks whether
-/// anything is left behind them, so this is kept of an open text, and no line of it is read again.
+/// How far the definitions at the front of a text have come behind some lines (CommonMark 4.7). An underline asks
+/// whether anything is left behind them, so this is kept of an open text, and no line of it is read again.
 #[derive(Clone, Copy)]
 pub enum Progress {
     /// The lines are whole definitions.

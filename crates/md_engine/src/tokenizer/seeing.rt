@@ -1,7 +1,8 @@
 // What a tokenizer sees at its point: one byte, or several at once.
 //
-// A state that stays takes byte after byte until it meets one that it does not take. The functions here see and take all of
-// these at once. Each contract says that the tokenizer is then what it would be if the state had been called for each byte.
+// A state that stays takes byte after byte until it meets one that it does not take. The functions here see and take
+// all of these at once. Each contract says that the tokenizer is then what it would be if the state had been called for
+// each byte.
 ghost use Rattle.std.specs.Prelude.{◌≡◌, ◌+◌, ◌^◌, ◌<◌, ◌≤◌, ◌⊎◌, true, false};
 ghost use Rattle.md_engine.specs.Place.{stepped};
 ghost use Rattle.md_engine.specs.Classes.{is_white};
@@ -30,8 +31,8 @@ impl<'a> Tokenizer<'a> {
     ghost use Rattle.md_engine.specs.declared.stay.Stay.{Stay};
     ghost use Rattle.md_engine.specs.World.{world, looks};
 
-    /// Sees what is at the point and returns false. Returns true, and changes nothing, where the text may not be read so far
-    /// and has not ended.
+    /// Sees what is at the point and returns false. Returns true, and changes nothing, where the text may not be read
+    /// so far and has not ended.
     pub fn see_or_wait(&mut self, is_end: bool) -> bool
         ensures waits { result ≡ true →
             (is_end ≡ false) × ((world self.old).setting.limit ≤ (world self.old).point.index) }
@@ -132,8 +133,8 @@ impl<'a> Tokenizer<'a> {
         }
     }
 
-    /// The index where the run of a marker and whitespace that begins at the point ends: that of another byte, or as far as
-    /// the text may be read. With a space for the marker the run is whitespace alone.
+    /// The index where the run of a marker and whitespace that begins at the point ends: that of another byte, or as
+    /// far as the text may be read. With a space for the marker the run is whitespace alone.
     pub fn spread_end(&mut self, marker: u8) -> usize
         ensures ends { EndsRun (world self.old).setting.bytes marker
             (world self.old).point.index (world self.old).setting.limit result }

@@ -36,8 +36,8 @@ use Rattle.md_frame.proofs.Stretch.{Stretch, roles-as, stretch-append, stretch-a
 use Rattle.md_seam.proofs.FeedLines.{IsEnding}
 use Rattle.md_frame.proofs.LeafLines.Cuts.{ending-is}
 
--- What stands between two lines, from the end of one to the begin of the other: the ending of the first, by whether this
--- is blank to its ending, and prefixes.
+-- What stands between two lines, from the end of one to the begin of the other: the ending of the first, by whether
+-- this is blank to its ending, and prefixes.
 pub record GapFacts (bytes : List ℕ) (blank : Bool) (p q : Point) (gap : List Event) : Type 0 where
   -- it stands between blocks
   pub stretch : Stretch Between bytes p q gap gap

@@ -192,7 +192,8 @@ pub fn complete_attribute_value_unquoted(tokenizer: &mut Tokenizer) -> State
     requires { IsAt HtmlNeeds (StateName.HtmlFlow HtmlState.CompleteAttributeValueUnquoted) (world tokenizer.old) }
     ensures to { result ≡ (complete_attribute_value_unquoted_transition (world tokenizer.old)).to }
     ensures world { world tokenizer.new ≡ (complete_attribute_value_unquoted_transition (world tokenizer.old)).world }
-    ensures rule { HtmlMeans HtmlState.CompleteAttributeValueUnquoted (world tokenizer.old) result (world tokenizer.new) }
+    ensures rule { HtmlMeans HtmlState.CompleteAttributeValueUnquoted (world tokenizer.old) result
+        (world tokenizer.new) }
 {
     match tokenizer.current {
         Some(byte) if byte != b'\n' && is_value_byte(byte) => {
@@ -215,7 +216,8 @@ pub fn complete_attribute_value_quoted_after(tokenizer: &mut Tokenizer) -> State
     ensures to { result ≡ (complete_attribute_value_quoted_after_transition (world tokenizer.old)).to }
     ensures world { world tokenizer.new ≡
         (complete_attribute_value_quoted_after_transition (world tokenizer.old)).world }
-    ensures rule { HtmlMeans HtmlState.CompleteAttributeValueQuotedAfter (world tokenizer.old) result (world tokenizer.new) }
+    ensures rule { HtmlMeans HtmlState.CompleteAttributeValueQuotedAfter (world tokenizer.old) result
+        (world tokenizer.new) }
 {
     clear_to(tokenizer, HtmlState::CompleteAttributeNameBefore)
 }

@@ -53,7 +53,8 @@ runs-no_content wants w run (c ∷ cs) p =
 
 -- what a heading adds
 pub heading-no_content : (wants : Content → Bool) → wants content.Text ≡ false →
-    (options : ParseOptions) (cells : List Cell) (p : Point) → NoContent wants (heading_leaf.adds options held_leaf.None cells p)
+    (options : ParseOptions) (cells : List Cell) (p : Point) →
+    NoContent wants (heading_leaf.adds options held_leaf.None cells p)
 heading-no_content wants w options cells p =
     let room = small_indent options in
     let end : Point = white_end room cells p in

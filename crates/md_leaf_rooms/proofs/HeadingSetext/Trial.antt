@@ -50,5 +50,6 @@ before_run-shrinks n (c ∷ cs) h le =
 pub setext-shrinks : (options : ParseOptions) (cells : List Cell) (h : Here) →
     Shrinks (length cells) (setext_at options cells h)
 setext-shrinks options cells h =
-    start-shrinks n.HeadingSetextUnderline (options.constructs.heading_setext && may_turn options h.flags.leaf) before_run
+    start-shrinks n.HeadingSetextUnderline
+    (options.constructs.heading_setext && may_turn options h.flags.leaf) before_run
     options cells h before_run-shrinks

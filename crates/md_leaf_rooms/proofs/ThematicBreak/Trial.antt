@@ -35,7 +35,8 @@ behind_indent cells p = runs Apart (first_cell cells) (line_cells cells) p
 
 -- whether a rule stands on these cells that is no underline with nothing to turn
 abbrev breaks : ParseOptions → HeldLeaf → List Cell → Bool
-breaks options on cells = is_rule (line_bytes cells) && not (turns_nothing options on && is_underline (line_bytes cells))
+breaks options on cells =
+    is_rule (line_bytes cells) && not (turns_nothing options on && is_underline (line_bytes cells))
 
 -- at the marker a rule is taken to the end of the line, and else nothing is
 marked : (options : ParseOptions) (cells : List Cell) (h : Here) → breaks options h.flags.leaf cells ≡ true →
@@ -81,7 +82,8 @@ break-looked options on cells b seen e =
 pub break-took : (options : ParseOptions) (cells : List Cell) (h : Here) → IsRest h.scratch →
     break_leaf.takes options h.flags.leaf cells ≡ true →
     break_at options cells h ≡
-    whole_line (around n.ThematicBreak h.point (line_end cells h.point) (break_inside options cells h.point)) h.flags.leaf
+    whole_line (around n.ThematicBreak h.point (line_end cells h.point) (break_inside options cells h.point))
+    h.flags.leaf
     false cells h
 break-took options cells h is e = go (begins_white cells) refl
   where
@@ -120,7 +122,8 @@ break-took options cells h is e = go (begins_white cells) refl
     go : (x : Bool) → begins_white cells ≡ x →
         break_at options cells h ≡
         whole_line
-        (around n.ThematicBreak h.point (line_end cells h.point) (break_inside options cells h.point)) h.flags.leaf false
+        (around n.ThematicBreak h.point (line_end cells h.point) (break_inside options cells h.point))
+        h.flags.leaf false
         cells h
     go true s =
         let at : Here = behind_white room cells (entered_here n.ThematicBreak h) in

@@ -56,7 +56,8 @@ heading_leaf = record {
   takes = λ options on cells. is_heading_line options cells;
   adds = λ options on cells p. around n.HeadingAtx p (line_end cells p) (heading_inside options cells p);
   keeps = λ options on cells p. held_leaf.None;
-  starts = λ options on r. options.constructs.heading_atx && has_small_indent options r && is_heading (trim_start r.bytes);
+  starts =
+      λ options on r. options.constructs.heading_atx && has_small_indent options r && is_heading (trim_start r.bytes);
   holds = λ options on r. held_leaf.None;
   comes = λ options open_leaf r. Finished (heading_block r);
   block = heading_block;

@@ -22,7 +22,8 @@ pub code-looked : (options : ParseOptions) (on : HeldLeaf) (cells : List Cell) (
 code-looked options on cells b seen e =
     let text : Bool = not (is_blank (line_bytes cells)) in
     let allowed : Bool = options.constructs.code_indented && may_open on in
-    ap (λ (size : ℕ). is_some (cond (allowed && nat_le 4 size && text) (Some held_leaf.Code) None)) (none-size 4 cells e)
+    ap (λ (size : ℕ). is_some (cond (allowed && nat_le 4 size && text) (Some held_leaf.Code) None))
+    (none-size 4 cells e)
     ∙ none allowed text
   where
     none : (x y : Bool) → is_some (cond (x && false && y) (Some held_leaf.Code) None) ≡ false
@@ -53,6 +54,7 @@ code-may w = go w.current
     by b true = any found
     by b false = refl
 
-    go : (o : Option ℕ) → may_with (code_leaf.may_begin w.flags.leaf (sees_white o)) (behind_code o found) ≡ may_with is_white o
+    go : (o : Option ℕ) →
+        may_with (code_leaf.may_begin w.flags.leaf (sees_white o)) (behind_code o found) ≡ may_with is_white o
     go None = refl
     go (Some b) = by b (is_white b)

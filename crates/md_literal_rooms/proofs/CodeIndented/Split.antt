@@ -1,5 +1,5 @@
--- The rows behind the first line of indented code: those up to the last with text are in the code, and the others, which
--- are blank, stand behind it.
+-- The rows behind the first line of indented code: those up to the last with text are in the code, and the others,
+-- which are blank, stand behind it.
 use Rattle.std.proofs.Common.{◌≡◌, ℕ, Bool, true, false, cond, ◌||◌, not, List, [], ◌∷◌, ◌++◌, length, refl, sym, ◌∙◌}
 use Rattle.std.proofs.Common.{ap, arith, append_assoc, append-nil}
 use Rattle.std.specs.Prelude.{nat_lt}
@@ -135,7 +135,8 @@ rows-split options bytes r row (next ∷ rows) are some =
                 (cond x (code_comes (OpenCode lines) s) (Opened (OpenCode lines))))
                 some_text
                 ∙ rest.2
-                ∙ ap (λ (l : List Line). Opened (OpenCode l)) (append_assoc lines (code_line s ∷ []) (behind ++ rest.0)),
+                ∙ ap (λ (l : List Line). Opened (OpenCode l))
+                (append_assoc lines (code_line s ∷ []) (behind ++ rest.0)),
           );
     }
       where
@@ -158,7 +159,8 @@ rows-split options bytes r row (next ∷ rows) are some =
 pub split-shuts : (options : ParseOptions) (bytes : List ℕ) (r : Rest) (row : Row) (rows ins outs : List Row) →
     (are : AreBehind options bytes code_further row rows) →
     (split : AreSplit options bytes r row rows ins outs are) → (bs : Blocks) →
-    shut options (came bs (come_behind options bytes code_further row rows are (Opened (OpenCode (code_line r ∷ []))))) ≡
+    shut options
+    (came bs (come_behind options bytes code_further row rows are (Opened (OpenCode (code_line r ∷ []))))) ≡
     then_block bs (Code (code_line r ∷ lines_behind bytes r row ins split.within))
 split-shuts options bytes r row rows ins outs are split bs =
     let comes = split.comes (code_line r ∷ []) in

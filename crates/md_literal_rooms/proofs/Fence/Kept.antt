@@ -50,8 +50,8 @@ parts-roles inner h m text p =
     (λ x y. each-roles IsPart (inner x y) (h x y)) m text p)
 
 -- with its name around them
-pub inside-parts : (inner : Inner) → ((p q : Point) → Roles IsPart (inner p q)) → (m : ℕ) (text : List ℕ) (p q : Point) →
-    Roles IsPart (around (fence_name m) p q (fence_parts inner m text p))
+pub inside-parts : (inner : Inner) → ((p q : Point) → Roles IsPart (inner p q)) →
+    (m : ℕ) (text : List ℕ) (p q : Point) → Roles IsPart (around (fence_name m) p q (fence_parts inner m text p))
 inside-parts inner h m text p q =
     let part = name-part (fence_name m) (fence-named m) in (
       part,

@@ -4,7 +4,8 @@ use Rattle.std.proofs.Common.{ap, ◌∙◌}
 use Rattle.std.specs.Prelude.{nat_le}
 use Rattle.std.specs.Option.{is_some}
 use Rattle.md_engine.specs.declared.configuration.ParseOptions.{ParseOptions}
-use Rattle.md_meaning.specs.Leaves.{LeafResult, Opened, allows, fence_at, fence_from, is_fence_marker, least_size, opening}
+use Rattle.md_meaning.specs.Leaves.{LeafResult, Opened, allows, fence_at, fence_from}
+use Rattle.md_meaning.specs.Leaves.{is_fence_marker, least_size, opening}
 use Rattle.md_meaning.specs.Rest.{Rest, has_small_indent, indent, run_len, trim_start}
 use Rattle.md_meaning.specs.State.{OpenFence, Opening}
 use Rattle.md_meaning.specs.Texts.{first_byte}

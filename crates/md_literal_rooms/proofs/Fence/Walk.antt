@@ -237,7 +237,8 @@ texts-walk bytes inner read M Q walks m xs rest p mid end at = go (m == 36)
     meta_end = ends-behind left q (prefix_len is_white left) ∙ left_end
 
     white : Q q v (white_part left q) (white_part left q)
-    white = white-walks bytes inner read M Q walks left rest q at_left.stands (whole-first q left at_left.whole) mid_left
+    white =
+        white-walks bytes inner read M Q walks left rest q at_left.stands (whole-first q left at_left.whole) mid_left
 
     info : Q p q (text_part inner n.CodeFencedFenceInfo word p) (text_part read n.CodeFencedFenceInfo word p)
     info =

@@ -191,7 +191,8 @@ first-others options bytes line rest p e is =
     let other : other_names.Other (fence_name m) =
     by-math other_names.Other (m == 36) n.MathFlowFence n.CodeFencedFence refl refl in (
       other_names.others-around (fence_name m) q e (fence_parts linked m (trim_start line) q) other h.unread_others,
-      other_names.others-around (fence_name m) q e (fence_parts (read_inner bytes) m (trim_start line) q) other h.others,
+      other_names.others-around (fence_name m) q e (fence_parts (read_inner bytes) m (trim_start line) q)
+          other h.others,
     )
 
 -- What is read of all of the line fills its texts.
@@ -210,4 +211,5 @@ fence-filled options bytes line rest p is =
     (around (block_name m) q e (around (fence_name m) q e es))
     (white-lead bytes line rest p is.stands is.cut).stretch.filled
     (fill-around bytes (block_name m) q e (around (fence_name m) q e us) (around (fence_name m) q e es) block
-    (fill-around bytes (fence_name m) q e us es (fence-kind m) (fence-inside options bytes line rest p is).stretch.filled))
+    (fill-around bytes (fence_name m) q e us es (fence-kind m)
+    (fence-inside options bytes line rest p is).stretch.filled))

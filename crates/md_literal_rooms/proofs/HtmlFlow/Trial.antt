@@ -60,7 +60,8 @@ html-took options cells h is e = go (kind_at options h.flags.leaf cells) refl e
   where
     go : (o : Option HtmlKind) → kind_at options h.flags.leaf cells ≡ o → is_some o ≡ true →
         html_leaf.trial options cells h ≡
-        whole_line (html_leaf.adds options h.flags.leaf cells h.point) (html_leaf.keeps options h.flags.leaf cells h.point)
+        whole_line (html_leaf.adds options h.flags.leaf cells h.point)
+        (html_leaf.keeps options h.flags.leaf cells h.point)
         false cells h
     go None k e = cc
     go (Some kind) k e = whole.html-took options kind cells h is k
@@ -68,7 +69,8 @@ html-took options cells h is e = go (kind_at options h.flags.leaf cells) refl e
 -- and any other is refused.
 pub html-refused : (options : ParseOptions) (cells : List Cell) (h : Here) → IsRest h.scratch →
     html_leaf.takes options h.flags.leaf cells ≡ false → html_leaf.trial options cells h ≡ Refuses h.scratch h.flags
-html-refused options cells h is e = whole.html-refused options cells h is (none-is (kind_at options h.flags.leaf cells) e)
+html-refused options cells h is e =
+    whole.html-refused options cells h is (none-is (kind_at options h.flags.leaf cells) e)
   where
     none-is : (o : Option HtmlKind) → is_some o ≡ false → o ≡ None
     none-is None e = refl
@@ -99,7 +101,8 @@ leaves-shrinks cells Fails e = absurd e
 
 pub html-shrinks : (options : ParseOptions) (cells : List Cell) (h : Here) →
     Shrinks (length cells) (html_leaf.trial options cells h)
-html-shrinks options cells h = leaves-shrinks cells (html_leaf.trial options cells h) (whole.html-leaves options cells h)
+html-shrinks options cells h =
+    leaves-shrinks cells (html_leaf.trial options cells h) (whole.html-leaves options cells h)
 
 pub further-shrinks : (options : ParseOptions) (cells : List Cell) (h : Here) →
     Shrinks (length cells) (html_further.trial options cells h)

@@ -40,7 +40,8 @@ pub record BeginsText (bytes : List ℕ) (row : Row) : Type 0 where
 
 -- it stands in a text that goes on with a line
 abbrev pub Core : List ℕ → Row → List Event → Type 0
-Core bytes row es = (span : OpenTextSpan) → Fine bytes span → span.from ≤ row.end.index → are_parted bytes (Some span) es ≡ true
+Core bytes row es =
+    (span : OpenTextSpan) → Fine bytes span → span.from ≤ row.end.index → are_parted bytes (Some span) es ≡ true
 
 pub rest-clear : (options : ParseOptions) (bytes line : List ℕ) (row : Row) → IsRow options bytes line row →
     clear bytes row.first ≡ true
@@ -53,7 +54,8 @@ pub text-nonblank : (options : ParseOptions) (on : HeldLeaf) (r : Rest) → line
     is_blank r.bytes ≡ false
 text-nonblank options on r e = go (is_blank r.bytes) (kind-text options on r e)
   where
-    go : (x : Bool) → cond x BlankRow (kind_of (first_of (λ l. (leaf l).starts options on r) trials)) ≡ TextRow → x ≡ false
+    go : (x : Bool) → cond x BlankRow (kind_of (first_of (λ l. (leaf l).starts options on r) trials)) ≡ TextRow →
+        x ≡ false
     go true h = cc
     go false h = refl
 

@@ -16,7 +16,8 @@ use Rattle.md_engine.specs.declared.event.Point.{Point}
 use Rattle.md_engine.specs.declared.tokenizer.Line.{Line}
 use Rattle.md_engine.specs.Meaning.{Cell}
 use Rattle.md_link_definitions.specs.CellLines.{cell_lines}
-use Rattle.md_link_definitions.specs.DefinitionRule.{DefinitionParts, definition_parts, definition_rest, destination_begin}
+use Rattle.md_link_definitions.specs.DefinitionRule.{DefinitionParts, definition_parts}
+use Rattle.md_link_definitions.specs.DefinitionRule.{definition_rest, destination_begin}
 use Rattle.md_link_definitions.specs.GapRule.{gap_rest}
 use Rattle.md_link_definitions.specs.TitleRule.{TitleParts}
 use Rattle.md_link_definitions.specs.WholeCells.{AreWhole, whole_cells}

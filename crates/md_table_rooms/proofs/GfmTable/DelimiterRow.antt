@@ -124,4 +124,5 @@ delimiter-inside bytes line rest p q x rows at are end =
 pub delimiter-others : (bytes line rest : List ℕ) (p q : Point) → RowAt bytes line rest p → AreDelimiters line →
     AreOthers (around n.GfmTableDelimiterRow p q (delimiter_events line p))
 delimiter-others bytes line rest p q at are =
-    others-around n.GfmTableDelimiterRow p q (delimiter_events line p) refl (inner-facts bytes line rest p at are).others
+    others-around n.GfmTableDelimiterRow p q (delimiter_events line p) refl
+    (inner-facts bytes line rest p at are).others

@@ -1,5 +1,5 @@
--- A cell of a delimiter row holds dashes, with a colon perhaps on either side: its bytes, its events, and what is known of
--- them.
+-- A cell of a delimiter row holds dashes, with a colon perhaps on either side: its bytes, its events, and what is known
+-- of them.
 use Rattle.std.proofs.Common.{◌≡◌, ℕ, ◌+◌, Bool, true, false, cond, List, [], ◌∷◌, ◌++◌, take, drop, map, refl, sym}
 use Rattle.std.proofs.Common.{ap, ◌∙◌, subst, append-nil, length, arith}
 use Rattle.std.specs.Prelude.{◌==◌, ◌&&◌, ◌||◌, Some, None}

@@ -66,7 +66,8 @@ delimiter-turns : (P : Event → Type 0) → OfRow P → (run next : delimiter.R
     Each P es → Each P (delimiter.closes run p ++ delimiter.opens next p ++ es)
 delimiter-turns P of run next p es h =
     each-append P (delimiter.closes run p ++ delimiter.opens next p) es
-    (each-append P (delimiter.closes run p) (delimiter.opens next p) (delimiter-closes P of run p) (delimiter-opens P of next p)) h
+    (each-append P (delimiter.closes run p) (delimiter.opens next p) (delimiter-closes P of run p)
+    (delimiter-opens P of next p)) h
 
 -- by cells and by bytes,
 delimiter-cells : (P : Event → Type 0) → OfRow P → (run : delimiter.Run) (cells : List Cell) (p : Point) →

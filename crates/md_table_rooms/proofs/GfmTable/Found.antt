@@ -11,8 +11,8 @@ use Rattle.md_engine.specs.declared.tokenizer.held_leaf.HeldLeaf.TheVariants as 
 use Rattle.md_engine.specs.declared.tokenizer.held_leaf.OpenText.{OpenText}
 use Rattle.md_meaning.specs.Leaves.{NoText, Opened, starts, table_at, table_by, table_goes_on}
 use Rattle.md_meaning.specs.Rest.{Rest, has_small_indent, is_blank, is_small, trim}
-use Rattle.md_meaning.specs.State.{ParagraphLine, Leaf, NoLeaf, OpenCode, OpenFence, OpenHtml, OpenParagraph, OpenTable, Innermost}
-use Rattle.md_meaning.specs.State.{shut_paragraph, texts}
+use Rattle.md_meaning.specs.State.{ParagraphLine, Leaf, NoLeaf, OpenCode, OpenFence, OpenHtml, OpenParagraph}
+use Rattle.md_meaning.specs.State.{OpenTable, Innermost, shut_paragraph, texts}
 use Rattle.md_meaning.specs.Step.{came}
 use Rattle.md_meaning.specs.Table.{delimiter_columns, is_head, pieces, row_cells}
 use Rattle.md_meaning.specs.Bytes.{after_optional}
@@ -50,7 +50,8 @@ pub record KnowsHead (text : OpenText) (k : ParagraphLine) : Type 0 where
   pub indent : text.indent ≡ k.indent
 
 -- So it is by the lines of the text, the last one first.
-found-behind : (options : ParseOptions) (bs : Blocks) (lines : List ParagraphLine) (k : ParagraphLine) (before : List ParagraphLine)
+found-behind : (options : ParseOptions) (bs : Blocks) (lines : List ParagraphLine) (k : ParagraphLine)
+    (before : List ParagraphLine)
     (text : OpenText) (r : Rest) →
     reverse lines ≡ k ∷ before → KnowsHead text k →
     table_at options bs lines r ≡
@@ -121,8 +122,8 @@ found-behind options bs lines k before text r last knows =
 
 -- Where a line meets text, that comes to a table where the leaf starts: its last line is the head, and the lines before
 -- that are closed.
-pub table-found : (options : ParseOptions) (bs : Blocks) (before : List ParagraphLine) (k : ParagraphLine) (text : OpenText) (r : Rest) →
-    KnowsHead text k →
+pub table-found : (options : ParseOptions) (bs : Blocks) (before : List ParagraphLine) (k : ParagraphLine)
+    (text : OpenText) (r : Rest) → KnowsHead text k →
     table_at options bs (before ++ k ∷ []) r ≡
     cond (table_leaf.starts options (held_leaf.Text text) r)
     (Some

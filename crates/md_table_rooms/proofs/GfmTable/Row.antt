@@ -55,13 +55,15 @@ text-kind bytes = record {
 
 -- A row.
 whole-row : (bytes line rest : List ℕ) (p : Point) → RowAt bytes line rest p →
-    RowFacts bytes p (past_text line p) (around n.GfmTableRow p (past_text line p) (row_events cells.unread_text line p))
+    RowFacts bytes p (past_text line p)
+    (around n.GfmTableRow p (past_text line p) (row_events cells.unread_text line p))
     (around n.GfmTableRow p (past_text line p) (row_events (read_text bytes) line p))
 whole-row bytes line rest p at =
     row-around n.GfmTableRow
     (record { part = tt; other = refl; no_part = refl; still = tt; known = refl; untold = refl })
     (row-later line p at.some)
-    (row-facts bytes n.GfmTableCell (text_part cells.unread_text) (text_part (read_text bytes)) AnyText (text-kind bytes)
+    (row-facts bytes n.GfmTableCell (text_part cells.unread_text) (text_part (read_text bytes)) AnyText
+    (text-kind bytes)
     line rest p at (any-fits (line_cells (trim_start line))))
 
 row-lines : (bytes line rest : List ℕ) (p q : Point) (row : Row) → RowAt bytes line rest p →

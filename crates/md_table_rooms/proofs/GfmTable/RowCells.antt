@@ -69,8 +69,8 @@ pub past-pipe : (piped : Bool) (xs : List ℕ) (p : Point) →
 past-pipe true xs p = refl
 past-pipe false xs p = refl
 
-pub at-pipe : (bytes : List ℕ) (piped : Bool) (xs rest : List ℕ) (p : Point) → At bytes (pipe_bytes piped ++ xs) p rest →
-    At bytes xs (past_pipe piped p) rest
+pub at-pipe : (bytes : List ℕ) (piped : Bool) (xs rest : List ℕ) (p : Point) →
+    At bytes (pipe_bytes piped ++ xs) p rest → At bytes xs (past_pipe piped p) rest
 at-pipe bytes true xs rest p at = at-behind bytes (124 ∷ []) xs rest p at
 at-pipe bytes false xs rest p at = at
 
@@ -133,7 +133,8 @@ piped-facts : (bytes : List ℕ) (name : Name) (u d : List ℕ → Point → Lis
     IsCellKind bytes name u d Fits → (piped : Bool) (cell rest : List ℕ) (p : Point) →
     At bytes (pipe_bytes piped ++ cell) p rest → Fits (trim cell) →
     let q = past_pipe piped p in
-    RowFacts bytes p (past_text cell q) (first_pipe piped p ++ cell_by u cell q) (first_pipe piped p ++ cell_by d cell q)
+    RowFacts bytes p (past_text cell q) (first_pipe piped p ++ cell_by u cell q)
+    (first_pipe piped p ++ cell_by d cell q)
 piped-facts bytes name u d Fits is piped cell rest p at fits =
     let q = past_pipe piped p in
     row-append (pipe-front bytes piped cell rest p at)

@@ -1,7 +1,7 @@
 -- What is known of the parts of a row of a table: whitespace, pipes, the texts of its cells, and the cells around them.
 --
--- It is what is asked of the events of a leaf, but for their grammar, how they are read and where an outline goes, which
--- are told of whole cells.
+-- It is what is asked of the events of a leaf, but for their grammar, how they are read and where an outline goes,
+-- which are told of whole cells.
 use Rattle.std.proofs.Common.{◌≡◌, ℕ, ◌<◌, Bool, true, false, ◌||◌, not, List, [], ◌∷◌, ◌++◌, drop, refl, sym}
 use Rattle.std.proofs.Common.{ap, subst, arith}
 use Rattle.std.specs.Prelude.{IsTrue, None}
@@ -148,7 +148,9 @@ row-text bytes b bs rest p at = record {
   stretch =
       stretch-text IsPart bytes n.GfmTableCellText Text text_link b bs rest p
       (record { role_is = tt; piece = tt; kind_is = refl; parted = λ x y ys h. h }) refl at;
-  covers = by_piece (λ (xs : List Event). Covered p q xs) (tiled-around n.GfmTableCellText p q piece (tiled-pair n.Data p q));
+  covers =
+      by_piece (λ (xs : List Event). Covered p q xs)
+      (tiled-around n.GfmTableCellText p q piece (tiled-pair n.Data p q));
   unread_others = refl;
   others = by_piece AreOthers refl;
   known =
@@ -168,4 +170,5 @@ row-text bytes b bs rest p at = record {
     by_piece : (P : List Event → Type 0) → P (around n.GfmTableCellText p q piece) →
         P (text_part (read_text bytes) (b ∷ bs) p)
     by_piece P h =
-        subst (λ (xs : List Event). P (around n.GfmTableCellText p q (xs ++ []))) (sym (chunk-is bytes b bs rest p at)) h
+        subst (λ (xs : List Event). P (around n.GfmTableCellText p q (xs ++ [])))
+        (sym (chunk-is bytes b bs rest p at)) h

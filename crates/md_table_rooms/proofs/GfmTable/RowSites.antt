@@ -12,8 +12,9 @@ use Rattle.md_outline.proofs.TablesPass.{PassesIn, passes-cell, passes-cell_text
 use Rattle.md_seam.specs.Events.Nested.{around}
 use Rattle.md_seam.specs.Events.Places.{past_byte, past_text}
 use Rattle.md_seam.proofs.SpelledLemmas.{Quiet, Roles, roles-append}
-use Rattle.md_tables.specs.RowCells.{Cells, Divides, Ends, Shut, cell_inside, cells_events, first_pipe, line_cells, past_pipe}
-use Rattle.md_tables.specs.RowCells.{pipe_part, read_text, row_events, text_part, white_back, white_front, white_part}
+use Rattle.md_tables.specs.RowCells.{Cells, Divides, Ends, Shut, cell_inside, cells_events, first_pipe, line_cells}
+use Rattle.md_tables.specs.RowCells.{past_pipe, pipe_part, read_text, row_events, text_part}
+use Rattle.md_tables.specs.RowCells.{white_back, white_front, white_part}
 use Rattle.md_tables.proofs.CellData.{data-read}
 use Rattle.md_tables.proofs.RowBytes.{cell-whole, cells_bytes, line-bytes, pipe_bytes}
 use Rattle.md_tables.proofs.RowRead.{pipe-quiet, white-quiet}
@@ -25,7 +26,8 @@ use Rattle.md_table_rooms.proofs.GfmTable.RowCells.{at-pipe, past-pipe}
 cell-passes : (bytes : List ℕ) (row : Row) (piped : Bool) (cell rest : List ℕ) (p end : Point) (more : List Event) →
     At bytes cell (past_pipe piped p) rest → Roles Quiet more →
     PassesIn bytes (InRow row) (InRow row)
-    (around n.GfmTableCell p end (first_pipe piped p ++ (cell_inside (read_text bytes) cell (past_pipe piped p) ++ more)))
+    (around n.GfmTableCell p end
+    (first_pipe piped p ++ (cell_inside (read_text bytes) cell (past_pipe piped p) ++ more)))
 cell-passes bytes row piped cell rest p end more at quiet = go (trim cell) at-text
   where
     q : Point
@@ -63,7 +65,8 @@ cell-passes bytes row piped cell rest p end more at quiet = go (trim cell) at-te
         (white-quiet back q)) quiet))
     go (b ∷ bs) at =
         passes-cell bytes row n.GfmTableCell p end (held (b ∷ bs)) refl
-        (passes-append bytes (InTable (AtCell row)) (InTable (AtCell row)) (InTable (BehindCell row)) (first_pipe piped p) _
+        (passes-append bytes (InTable (AtCell row)) (InTable (AtCell row)) (InTable (BehindCell row))
+        (first_pipe piped p) _
         (passes-unshown bytes (AtCell row) (first_pipe piped p) (pipe-quiet piped p))
         (passes-append bytes (InTable (AtCell row)) (InTable (BehindCell row)) (InTable (BehindCell row))
         (white_part (white_front cell) (past_pipe piped p)

@@ -90,7 +90,8 @@ cells-word text x name part Fits is words piped (Shut cell w) p fits same = reco
         left = maybe true n.GfmTableCellDivider word.left;
         leads =
             subst
-            (λ (es : List Event). Leads text (inside text name ∷ []) (maybe true n.GfmTableCellDivider word.left ∷ []) es)
+            (λ (es : List Event). Leads text (inside text name ∷ [])
+            (maybe true n.GfmTableCellDivider word.left ∷ []) es)
             (append_assoc (first_pipe piped p) (cell_by part cell (past_pipe piped p)) (pipe_part mid))
             (leads-append text (inside text name ∷ []) (word.left ∷ [])
             (maybe true n.GfmTableCellDivider word.left ∷ [])

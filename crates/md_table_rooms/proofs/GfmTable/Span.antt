@@ -90,7 +90,8 @@ table-span = record {
       λ options bytes row is begins. absurd (table-begins options row.on is.rest is.starts begins);
   further_spanned =
       λ options bytes row is further.
-      inl (subst (IsSpanned IsNone IsFurther) (sym is.inside) (line-spanned row.on options (rest_line is.rest) row.first));
+      inl (subst (IsSpanned IsNone IsFurther) (sym is.inside)
+      (line-spanned row.on options (rest_line is.rest) row.first));
   block = λ options bytes row rows is are. Break;
   facts = λ options bytes row rows is begins are. absurd (table-begins options row.on is.rest is.starts begins);
   shuts = λ options bytes row rows is begins are bs. absurd (table-begins options row.on is.rest is.starts begins);

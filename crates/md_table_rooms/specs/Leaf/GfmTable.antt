@@ -1,5 +1,5 @@
--- Tables (GFM 4.10), as a leaf on one line that goes on the one in front of it: a delimiter row goes on text, whose last
--- line it makes a head, and with that it comes to a table; a row of the body goes on a table.
+-- Tables (GFM 4.10), as a leaf on one line that goes on the one in front of it: a delimiter row goes on text, whose
+-- last line it makes a head, and with that it comes to a table; a row of the body goes on a table.
 use Rattle.std.specs.Prelude.{ℕ, Bool, true, false, ◌&&◌, List, [], ◌∷◌, ◌++◌, reverse}
 use Rattle.md_engine.specs.declared.configuration.ParseOptions.{ParseOptions}
 use Rattle.md_engine.specs.declared.state.Name.TheVariants as s

@@ -96,8 +96,8 @@ marker-low bytes kind p q es m =
     let some = known.2 in
     let past = m.past in (omega arith, same.1, omega arith)
 
-pub bytes-stand : (bytes : List ℕ) (kind : AlertKind) (p q : Point) (es : List Event) → (m : IsMarker bytes kind p q es) →
-    piece_stands bytes (span n.BlockQuoteMarker m.opens m.closes) ≡ true
+pub bytes-stand : (bytes : List ℕ) (kind : AlertKind) (p q : Point) (es : List Event) →
+    (m : IsMarker bytes kind p q es) → piece_stands bytes (span n.BlockQuoteMarker m.opens m.closes) ≡ true
 bytes-stand bytes kind p q es m =
     let line : List ℕ = slice_range bytes m.opens.index m.closes.index in
     let some = (marker-low bytes kind p q es m).2 in

@@ -20,7 +20,8 @@ use Rattle.md_content_rooms.proofs.Defined.Form.{IsBreak, IsRun, IsStrand, LastL
 use Rattle.md_frame.proofs.LineTexts.{one-next, without-none, without-one}
 use Rattle.md_frame.proofs.PieceFacts.{Starts, PiecesValid, chunk-stands, stood-append, stood-unless_empty}
 
--- These lines of a text, or what is left of it behind a line, stand from a point to a point. So it is told line by line.
+-- These lines of a text, or what is left of it behind a line, stand from a point to a point. So it is told line by
+-- line.
 pub data AreLines (bytes : List ℕ) : Point → Point → Strand → Type 0 where
   NoneLeft : (q : Point) → q.vs ≡ 0 → AreLines bytes q q NoLine
   Last : (p q : Point) (text : List ℕ) → text ≢ [] → IsRun bytes text p q → AreLines bytes p q (LastLine p q text)
@@ -105,7 +106,8 @@ ending-alone bytes p b whole end ending = record {
       (record { some = grows; whole = ending.whole; slice = ending.text }) refl
       (one-next [] ending.ending tt true);
   read =
-      subst (λ (x : Point). PiecesValid bytes (pair_unless_empty n.Data p x ++ pair_unless_empty n.LineEnding x b)) (sym end)
+      subst (λ (x : Point). PiecesValid bytes (pair_unless_empty n.Data p x ++ pair_unless_empty n.LineEnding x b))
+      (sym end)
       (stood-append bytes (pair_unless_empty n.Data p p) (pair_unless_empty n.LineEnding p b)
       (stood-unless_empty bytes n.Data p p (λ apart. absurd (true≢false (sym (same-refl p) ∙ apart))))
       (stood-unless_empty bytes n.LineEnding p b

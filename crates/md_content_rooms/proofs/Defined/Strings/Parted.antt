@@ -88,7 +88,8 @@ first-fine bytes (b ∷ here) i j slice size filled none =
 
 -- the text ends
 exit-parted : (bytes : List ℕ) (name : Name) (purpose : Purpose) (q : Point) (span : OpenTextSpan) (ys : List Event) →
-    role name ≡ TextRole purpose → MayPart bytes purpose → begins_line span (slice_range bytes span.from q.index) ≡ true →
+    role name ≡ TextRole purpose → MayPart bytes purpose →
+    begins_line span (slice_range bytes span.from q.index) ≡ true →
     are_parted bytes None ys ≡ true → are_parted bytes (Some span) (exit name q ∷ ys) ≡ true
 exit-parted bytes name purpose q span ys tells may begins h =
     ap (λ (x : Role). parts_by bytes Exit x q (Some span) && are_parted bytes (span_by Exit x q (Some span)) ys) tells
@@ -190,7 +191,8 @@ line-sits bytes name purpose p q tells ys h =
     ∙ ap (λ (x : Role). are_parted bytes (span_by Enter x p None) (events ++ exit name q ∷ ys)) tells
     ∙ passes-chunk bytes (Some span) chunk (exit name q ∷ ys)
     ∙ ap (λ (x : Role). parts_by bytes Exit x q (Some span) && are_parted bytes (span_by Exit x q (Some span)) ys) tells
-    ∙ and_from (parts_by bytes Exit (TextRole purpose) q (Some span)) (are_parted bytes None ys) (whole (may_part purpose)) h
+    ∙ and_from (parts_by bytes Exit (TextRole purpose) q (Some span)) (are_parted bytes None ys)
+    (whole (may_part purpose)) h
   where
     whole : (x : Bool) → cond x true true ≡ true
     whole true = refl

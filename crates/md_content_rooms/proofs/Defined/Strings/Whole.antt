@@ -119,7 +119,8 @@ string-facts bytes name purpose p q tells s named whole has lines parted says = 
 -- A label.
 
 label-name : IsString n.DefinitionLabelString AsLabel
-label-name = record { tells = refl; leaf = λ line r. refl; kind = refl; inside_is = λ text. refl; other = refl; part = tt }
+label-name =
+    record { tells = refl; leaf = λ line r. refl; kind = refl; inside_is = λ text. refl; other = refl; part = tt }
 
 -- All that is asked of the text of a label.
 pub label-facts : (bytes : List ℕ) (p q : Point) (s : Strand) → p.vs ≡ 0 → IsStrand bytes p q s → FurtherFilled s →
@@ -136,7 +137,8 @@ label-facts bytes p q s whole is filled =
 -- A title.
 
 title-name : IsString n.DefinitionTitleString AsTitle
-title-name = record { tells = refl; leaf = λ line r. refl; kind = refl; inside_is = λ text. refl; other = refl; part = tt }
+title-name =
+    record { tells = refl; leaf = λ line r. refl; kind = refl; inside_is = λ text. refl; other = refl; part = tt }
 
 pub title-facts : (bytes : List ℕ) (p q : Point) (s : Strand) → p.vs ≡ 0 → IsStrand bytes p q s → FurtherFilled s →
     StringFacts bytes n.DefinitionTitleString AsTitle p q (title_told (strand_lines s)) (strand_unread s)
@@ -151,7 +153,8 @@ title-facts bytes p q s whole is filled =
 -- A destination, which is on one line.
 
 target-name : IsString n.DefinitionDestinationString AsDestination
-target-name = record { tells = refl; leaf = λ line r. refl; kind = refl; inside_is = λ text. refl; other = refl; part = tt }
+target-name =
+    record { tells = refl; leaf = λ line r. refl; kind = refl; inside_is = λ text. refl; other = refl; part = tt }
 
 pub target-facts : (bytes : List ℕ) (p q : Point) (text : List ℕ) → p.vs ≡ 0 → text ≢ [] → IsRun bytes text p q →
     StringFacts bytes n.DefinitionDestinationString AsDestination p q (target_told text)

@@ -27,7 +27,8 @@ returns-in_default g c = record {
       came-runs g.T.Table.step c.args.is_end c.args.first c.loop-next.name (world c.args.tokenizer.now)
       (world c.loop-next.tokenizer) c.call_here-state.result (world c.call_here-state.new.tokenizer)
       c.loop-next.invariant.came (c.call_here-state.ensures.runs fine c.args.is_end);
-  waits = not_waiting c.args.is_end c.call_here-state.result (world c.call_here-state.new.tokenizer) c.in_default.not-Next;
+  waits =
+      not_waiting c.args.is_end c.call_here-state.result (world c.call_here-state.new.tokenizer) c.in_default.not-Next;
   stands = λ fine. c.call_here-state.ensures.stands fine;
   falls = λ fine.
       let less = c.call_here-state.ensures.falls fine in
@@ -61,7 +62,8 @@ loop-next-preserved g c =
     let sees : w ≡ reading u = c.if-see_or_wait.ensures.sees refl in
     let P : World → Type 0 = λ x. x.current ≡ looks x in
     let same : work S w (Next next) ≡ work S u (Next next) = ap (λ (x : World). work S x (Next next)) sees in
-    let below : work S u (Next next) ≤ work S (world c.call_here-state.new.tokenizer) (Next next) = c.stay.ensures.falls in
+    let below : work S u (Next next) ≤ work S (world c.call_here-state.new.tokenizer) (Next next) =
+    c.stay.ensures.falls in
     let less : work S (world c.call_here-state.new.tokenizer) (Next next) <
     work S (world c.loop-next.tokenizer) (Next c.loop-next.name) = c.in-Next.ensures.falls fine in
     let before : work S (world c.loop-next.tokenizer) (Next c.loop-next.name) ≤

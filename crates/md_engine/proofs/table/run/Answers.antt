@@ -22,7 +22,8 @@ loop-state-preserved-in-Some g c =
     let fine = end_not_error _ end in
     record {
       runs = λ _. ThenLeaves _ _ _ _ (c.loop-state.invariant.runs fine) c.in-Some.ensures.leaves;
-      stands = λ _. leaves_stands g.T.Table.scheme _ _ _ _ c.in-Some.ensures.leaves (c.loop-state.invariant.stands fine);
+      stands =
+          λ _. leaves_stands g.T.Table.scheme _ _ _ _ c.in-Some.ensures.leaves (c.loop-state.invariant.stands fine);
       setting = λ _. c.leave.ensures.setting ∙ c.loop-state.invariant.setting fine;
     }
 

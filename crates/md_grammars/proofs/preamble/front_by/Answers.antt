@@ -25,7 +25,8 @@ returns-in_ok-lines-in-Some-clause-front c =
     c.in_ok-lines-in-Some.ensures
     ∙ front_by-some c.args.marker c.lines_before_fence.result c.args.rests.now c.split_at.result.0.now
     c.in-Some.after.now c.lines_before_fence.ensures.value
-    (drop-below c.lines_before_fence.result c.args.rests.now c.in-Some.after.now c.in-Some.field-0-0.now behind) c.split_at.ensures.front
+    (drop-below c.lines_before_fence.result c.args.rests.now c.in-Some.after.now c.in-Some.field-0-0.now behind)
+    c.split_at.ensures.front
     (drop-next c.lines_before_fence.result c.args.rests.now c.in-Some.after.now c.in-Some.field-0-0.now behind)
 
 pub returns-in_ok-lines-in-Some-clause-after : goal.returns-in_ok-lines-in-Some-clause-after

@@ -9,7 +9,8 @@ pieces-init c = rw (c.new-cells.ensures.items, c.after_optional-rest.ensures, c.
 
 pub returns-then-behind-le1 : goal.returns-then-behind-le1
 returns-then-behind-le1 c =
-    let pushes : PushesCell c.pieces.cells.items c.push.new.items.items c.pieces.rest.now c.split_at.result.1.now = record {
+    let pushes : PushesCell c.pieces.cells.items c.push.new.items.items c.pieces.rest.now c.split_at.result.1.now =
+    record {
       cell = c.trim-in-pieces.result;
       pushed = c.in_ok-push.ensures;
       text = cc;
@@ -19,7 +20,8 @@ returns-then-behind-le1 c =
 
 pub pieces-preserved : goal.pieces-preserved
 pieces-preserved c =
-    let pushes : PushesCell c.pieces.cells.items c.push.new.items.items c.pieces.rest.now c.split_at.result.1.now = record {
+    let pushes : PushesCell c.pieces.cells.items c.push.new.items.items c.pieces.rest.now c.split_at.result.1.now =
+    record {
       cell = c.trim-in-pieces.result;
       pushed = c.in_ok-push.ensures;
       text = cc;

@@ -5,4 +5,5 @@ use Rattle.md_html.proofs.HtmlMeaning.{html_rule}
 use Rattle.md_html.proofs.html_flow.cdata_open_inside.Goals as goal
 
 pub returns-then-tokenizer-lt5-clause-rule : goal.returns-then-tokenizer-lt5-clause-rule
-returns-then-tokenizer-lt5-clause-rule c = html_rule its.CdataOpenInside _ _ _ (grind (arith, common_steps)) (search rules)
+returns-then-tokenizer-lt5-clause-rule c =
+    html_rule its.CdataOpenInside _ _ _ (grind (arith, common_steps)) (search rules)

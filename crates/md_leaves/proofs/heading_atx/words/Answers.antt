@@ -49,7 +49,8 @@ returns-then-see_or_wait-clause-runs c = λ fine is_end s v named sees may.
     let seen : w1.current ≡ looks w1 =
     subst (λ (x : World). x.current ≡ looks x) (sym e) c.loop-tokenizer.invariant.current in
     let inside : w1.point.index < w1.setting.limit =
-    subst (λ (x : World). x.point.index < x.setting.limit) (sym e) (begins-inside w c.loop-tokenizer.invariant.current is) in
+    subst (λ (x : World). x.point.index < x.setting.limit) (sym e)
+    (begins-inside w c.loop-tokenizer.invariant.current is) in
     let begun : CameTo HeadingStep is_end s v (n.HeadingAtx its.Data) w1 =
     subst (λ (x : World). CameTo HeadingStep is_end s v (n.HeadingAtx its.Data) x) (sym e)
     (word-begins is_end s v w (c.loop-tokenizer.invariant.came is_end s v named sees may) is

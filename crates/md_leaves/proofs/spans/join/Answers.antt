@@ -8,13 +8,14 @@ use Rattle.md_leaves.specs.SpannedWalk.{given_of, passing, rest_of}
 use Rattle.md_leaves.specs.Turned.{HoldNoUnderline, is_underline}
 use Rattle.md_seam.specs.Rewritten.{held_of, left_of, written_of}
 use Rattle.md_seam.specs.Parts.{ArePlaced}
-use Rattle.md_leaves.proofs.SpannedLemmas.{passing-on, plain-append, plain-given, plain-passed, spanned-placed, spanned-some}
-use Rattle.md_leaves.proofs.SpannedLemmas.{walk-done, walk-passed, walk-stepped}
+use Rattle.md_leaves.proofs.SpannedLemmas.{passing-on, plain-append, plain-given, plain-passed, spanned-placed}
+use Rattle.md_leaves.proofs.SpannedLemmas.{spanned-some, walk-done, walk-passed, walk-stepped}
 use Rattle.md_leaves.proofs.spans.join.Goals as goal
 
 pub hold_many-requires : goal.hold_many-requires
 hold_many-requires c =
-    let le = prefix_len-le-length (passes_on Outside) c.args.events.items in rw c.new.ensures.left (omega (arith, le, c.requires))
+    let le = prefix_len-le-length (passes_on Outside) c.args.events.items in
+    rw c.new.ensures.left (omega (arith, le, c.requires))
 
 pub loop-event-init : goal.loop-event-init
 loop-event-init c =
@@ -55,10 +56,12 @@ loop-event-preserved c =
     let all = spanned c.args.events.items in
     let left : List Event = drop 1 (rest_of old) in
     record {
-      whole = walk-passed new.place past.place (given_of new) (rest_of new) (given_of past) (rest_of past) all (passing new)
+      whole =
+          walk-passed new.place past.place (given_of new) (rest_of new) (given_of past) (rest_of past) all (passing new)
           (passing-on new.place (rest_of new)) c.pass-in-Some.ensures.given c.pass-in-Some.ensures.rest
           c.pass-in-Some.ensures.place
-          (walk-stepped old.place new.place (given_of old) (rest_of old) (given_of new) (rest_of new) all c.in-Some.event
+          (walk-stepped old.place new.place (given_of old) (rest_of old) (given_of new) (rest_of new) all
+          c.in-Some.event
           c.in-Some.ensures.some c.in_ok-step.ensures.given c.in_ok-step.ensures.rest c.in_ok-step.ensures.place
           c.loop-event.invariant.whole);
       plain = λ none.

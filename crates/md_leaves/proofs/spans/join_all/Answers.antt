@@ -12,4 +12,5 @@ set_events-requires-clause-placed c =
 pub returns-clause-underlines : goal.returns-clause-underlines
 returns-clause-underlines c = λ none.
     subst HoldNoUnderline
-    (c.in_ok-joined.ensures.events ∙ ap spanned c.take_events-events.ensures.events) (c.in_ok-joined.ensures.underlines none)
+    (c.in_ok-joined.ensures.events ∙ ap spanned c.take_events-events.ensures.events)
+    (c.in_ok-joined.ensures.underlines none)

@@ -1,4 +1,5 @@
-use Rattle.std.proofs.Common.{◌≡◌, ◌<◌, ◌∷◌, ◌++◌, [], cond, List, ℕ, Result, Ok, Err, ap, arith, encode_utf8, string_bytes, sym, ◌∙◌}
+use Rattle.std.proofs.Common.{◌≡◌, ◌<◌, ◌∷◌, ◌++◌, [], cond, List, ℕ, Result, Ok, Err, ap}
+use Rattle.std.proofs.Common.{arith, encode_utf8, string_bytes, sym, ◌∙◌}
 use Rattle.std.specs.Prelude.{OnOk}
 use Rattle.std.specs.Result.{is_ok}
 use Rattle.std.specs.Fmt.{decimal}
@@ -16,4 +17,5 @@ returns-then-number-lt10 c =
     let low : c.from.result < 128 = omega (arith, c.from.ensures) in
     pushed c.push.result (string_bytes c.push.new.self) (string_bytes c.args.text.now) (encode_utf8 c.from.result)
     (decimal c.args.number) c.push.ensures.bytes
-    (c.push.ensures.ascii low ∙ ap (λ n. n ∷ []) c.from.ensures ∙ sym (decimal_digit c.args.number c.if-number-lt10.true))
+    (c.push.ensures.ascii low ∙ ap (λ n. n ∷ []) c.from.ensures
+    ∙ sym (decimal_digit c.args.number c.if-number-lt10.true))

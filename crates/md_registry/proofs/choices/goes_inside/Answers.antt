@@ -11,4 +11,5 @@ mapped (Some l) = refl
 
 pub returns : goal.returns
 returns c =
-    c.is_some.ensures ∙ ap (λ (o : Option StateName). is_some o) c.inside_start.ensures ∙ mapped (asked_first c.args.leaf)
+    c.is_some.ensures ∙ ap (λ (o : Option StateName). is_some o) c.inside_start.ensures
+    ∙ mapped (asked_first c.args.leaf)

@@ -22,7 +22,8 @@ returns-in_default-clause-goes c =
     let u = world c.take_to.new.tokenizer in
     goes-on r name w (name_at r place.Escape) u name c.pass_escape.result (world c.pass_escape.new.tokenizer)
     (takes-goes r name place.Escape w None u c.requires.at.current (within-world c.args.tokenizer.now)
-    (text-step r w true c.requires.text (sym c.is_backslash.ensures ∙ c.if-is_backslash.true)) c.in_default.ensures.takes)
+    (text-step r w true c.requires.text (sym c.is_backslash.ensures ∙ c.if-is_backslash.true))
+    c.in_default.ensures.takes)
     c.pass_escape.ensures.goes
 
 pub returns-else-is_backslash-clause-goes : goal.returns-else-is_backslash-clause-goes

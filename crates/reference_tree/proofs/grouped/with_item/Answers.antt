@@ -8,7 +8,8 @@ use Rattle.reference_tree.proofs.grouped.with_item.Goals as goal
 pub returns-then-joins : goal.returns-then-joins
 returns-then-joins c bs =
     with_items-push c.args.groups.marker
-    (meanings c.args.groups.done.items) bs c.args.groups.items.items c.push.new.items.items c.args.item c.in_ok-push.ensures
+    (meanings c.args.groups.done.items) bs c.args.groups.items.items c.push.new.items.items c.args.item
+    c.in_ok-push.ensures
     ∙ ap (λ m. then_groups c.args.groups (with_item m (meaning c.args.item) bs))
     (eqb-true c.args.groups.marker c.args.marker (sym c.joins.ensures ∙ c.if-joins.true))
 

@@ -35,7 +35,8 @@ returns-in-Some-2 c =
     (kept_meanings c.in-Some.earlier.now) (kept_meaning c.in-Some.head.now) (rest_meaning c.args.rest.now) split
     ∙ ap (spot_with c.args.options.now (meanings c.args.here.items) (kept_meanings c.in-Some.earlier.now)
     (rest_meaning c.args.rest.now)) headed) in
-    subst (λ (x : state.Innermost). IfOk c.with_table.result (λ s. spot_meaning s ≡ x)) (sym turned) c.with_table.ensures
+    subst (λ (x : state.Innermost). IfOk c.with_table.result (λ s. spot_meaning s ≡ x)) (sym turned)
+    c.with_table.ensures
 
 pub returns : goal.returns
 returns c =

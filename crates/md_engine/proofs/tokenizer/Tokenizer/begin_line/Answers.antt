@@ -11,7 +11,8 @@ returns-then-point-skip-clause-placed c =
 pub returns-else-point-skip-clause-value : goal.returns-else-point-skip-clause-value
 returns-else-point-skip-clause-value c =
     begun-before
-    (setting_of c.args.self.now) c.args.point c.saturating_sub-at.result c.index-skip.result.now c.saturating_sub-at.ensures
+    (setting_of c.args.self.now) c.args.point c.saturating_sub-at.result c.index-skip.result.now
+    c.saturating_sub-at.ensures
     (omega arith) c.index-skip.ensures c.if-point-skip.false
 
 pub returns-else-at-len-clause-value : goal.returns-else-at-len-clause-value

@@ -15,7 +15,11 @@ invariant_of-self c =
     let some : 0 < c.span-count.result = c.if-count-gt0.true in
     let q = placed-behind c.args.class c.span-count.result w.setting.bytes c.args.end w.point
     c.args.self.now.sound.placed c.requires at some c.span-count.ensures in
-    record { sound = sound-moved _ _ _ _ _ _ _ c.args.self.now.sound (rw c.further-self.ensures q); spread = c.args.self.now.spread; passed = c.args.self.now.passed }
+    record {
+      sound = sound-moved _ _ _ _ _ _ _ c.args.self.now.sound (rw c.further-self.ensures q);
+      spread = c.args.self.now.spread;
+      passed = c.args.self.now.passed;
+    }
 
 pub returns-then-count-gt0 : goal.returns-then-count-gt0
 returns-then-count-gt0 c =

@@ -5,7 +5,12 @@ use Rattle.md_engine.proofs.Sound.{outer-popped, placed-popped, same-popped, sou
 use Rattle.md_engine.proofs.tokenizer.Tokenizer.innermost.Goals as goal
 
 pub invariant_of-self : goal.invariant_of-self
-invariant_of-self c = record { sound = sound-popped _ _ _ _ _ _ _ _ c.args.self.now.sound c.pop.ensures.items; spread = c.args.self.now.spread; passed = c.args.self.now.passed }
+invariant_of-self c =
+    record {
+      sound = sound-popped _ _ _ _ _ _ _ _ c.args.self.now.sound c.pop.ensures.items;
+      spread = c.args.self.now.spread;
+      passed = c.args.self.now.passed;
+    }
 
 pub returns-clause-placed : goal.returns-clause-placed
 returns-clause-placed c = placed-popped _ _ _ _ _ _ _ _ c.args.self.now.sound c.pop.ensures.items

@@ -6,7 +6,8 @@ use Rattle.md_engine.proofs.tokenizer.Tokenizer.see_columns.Given as goal
 
 abbrev pub invariant-loop-count : goal.invariant-loop-count
 invariant-loop-count l = record {
-  some : TookColumns (world l.initial.self) l.count (record (world l.initial.self) { point = l.point; current = l.seen });
+  some : TookColumns (world l.initial.self) l.count
+      (record (world l.initial.self) { point = l.point; current = l.seen });
   within : l.count ≤ l.most;
   placed : IsPlaced l.initial.self.bytes.now l.point;
 }

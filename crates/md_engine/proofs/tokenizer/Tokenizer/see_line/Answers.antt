@@ -37,5 +37,6 @@ pub returns-after-loop-self : goal.returns-after-loop-self
 returns-after-loop-self c = record {
   some = c.loop-self.invariant.some;
   ends =
-      line-ends (world c.loop-self.self) c.loop-self.invariant.ends (λ lt. absurd (omega (arith, lt, c.loop-self-test.false)));
+      line-ends (world c.loop-self.self) c.loop-self.invariant.ends
+      (λ lt. absurd (omega (arith, lt, c.loop-self-test.false)));
 }

@@ -7,6 +7,7 @@ use Rattle.md_engine.proofs.tokenizer.Tokenizer.see_word.Goals as goal
 
 pub returns : goal.returns
 returns c = record {
-  some = span-sees stay.Word class.Word (world c.args.self.now) (world c.see_span.new.self) word-spans c.see_span.ensures;
+  some =
+      span-sees stay.Word class.Word (world c.args.self.now) (world c.see_span.new.self) word-spans c.see_span.ensures;
   ends = span-ends stay.Word class.Word (world c.see_span.new.self) (λ s b h. h) refl c.see_span.ensures.ends;
 }

@@ -5,7 +5,9 @@ use Rattle.md_html.proofs.HtmlMeaning.{html_rule}
 use Rattle.md_html.proofs.html_flow.tag.complete_attribute_value_quoted.Goals as goal
 
 pub returns-then-byte-tokenizer-clause-rule : goal.returns-then-byte-tokenizer-clause-rule
-returns-then-byte-tokenizer-clause-rule c = html_rule its.CompleteAttributeValueQuoted _ _ _ (grind (arith, common_steps)) (grind (arith, common_steps))
+returns-then-byte-tokenizer-clause-rule c =
+    html_rule its.CompleteAttributeValueQuoted _ _ _ (grind (arith, common_steps)) (grind (arith, common_steps))
 
 pub returns-else-byte-tokenizer-clause-rule : goal.returns-else-byte-tokenizer-clause-rule
-returns-else-byte-tokenizer-clause-rule c = html_rule its.CompleteAttributeValueQuoted _ _ _ (search rules) (search rules)
+returns-else-byte-tokenizer-clause-rule c =
+    html_rule its.CompleteAttributeValueQuoted _ _ _ (search rules) (search rules)

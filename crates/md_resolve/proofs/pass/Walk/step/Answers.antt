@@ -1,4 +1,5 @@
-use Rattle.std.proofs.Common.{◌≡◌, ◌<◌, arith, length, List, Bool, false, true, not, refl, sym, subst, ap, ◌∙◌, ◌&&◌, ◌∷◌, []}
+use Rattle.std.proofs.Common.{◌≡◌, ◌<◌, arith, length, List, Bool, false, true, not}
+use Rattle.std.proofs.Common.{refl, sym, subst, ap, ◌∙◌, ◌&&◌, ◌∷◌, []}
 use Rattle.md_engine.specs.declared.event.Event.{Event}
 use Rattle.md_order.specs.Left.{MayStay, heading_len, is_passed, table_len}
 use Rattle.md_order.proofs.Stay.{stay-drop}
@@ -6,10 +7,14 @@ use Rattle.md_resolve.proofs.Unset.{off, passed-by}
 use Rattle.md_resolve.proofs.PassLaws.{Now, held-given, item-whole, now_of, one-whole, rest_of, table-whole, text-whole}
 use Rattle.md_resolve.proofs.PassLaws.{heading-fewer, heading-whole}
 use Rattle.md_resolve.proofs.pass.Walk.step.Goals as goal
-use Rattle.md_resolve.proofs.pass.Walk.step.Goals.{else-wanted-2-via-else-wanted-2, else-wanted-2-via-then-wanted-2+else-begins_heading}
-use Rattle.md_resolve.proofs.pass.Walk.step.Goals.{else-wanted-3-via-else-wanted-3, else-wanted-3-via-then-wanted-3+else-not-passes}
-use Rattle.md_resolve.proofs.pass.Walk.step.Goals.{else-wanted-4-via-else-wanted-4, else-wanted-4-via-then-wanted-4+else-begins_table}
-use Rattle.md_resolve.proofs.pass.Walk.step.Goals.{else-wanted-via-else-wanted, else-wanted-via-then-wanted+else-is_item}
+use Rattle.md_resolve.proofs.pass.Walk.step.Goals.{else-wanted-2-via-else-wanted-2}
+use Rattle.md_resolve.proofs.pass.Walk.step.Goals.{else-wanted-2-via-then-wanted-2+else-begins_heading}
+use Rattle.md_resolve.proofs.pass.Walk.step.Goals.{else-wanted-3-via-else-wanted-3}
+use Rattle.md_resolve.proofs.pass.Walk.step.Goals.{else-wanted-3-via-then-wanted-3+else-not-passes}
+use Rattle.md_resolve.proofs.pass.Walk.step.Goals.{else-wanted-4-via-else-wanted-4}
+use Rattle.md_resolve.proofs.pass.Walk.step.Goals.{else-wanted-4-via-then-wanted-4+else-begins_table}
+use Rattle.md_resolve.proofs.pass.Walk.step.Goals.{else-wanted-via-else-wanted}
+use Rattle.md_resolve.proofs.pass.Walk.step.Goals.{else-wanted-via-then-wanted+else-is_item}
 
 pub returns-then-is_item-clause-whole : goal.returns-then-is_item-clause-whole
 returns-then-is_item-clause-whole c =
@@ -69,7 +74,8 @@ is-passed : (c : goal.After-hold) → is_passed c.args.wanted c.args.event ≡ t
 is-passed c =
     passed-by c.args.wanted c.args.event
     (elim c.else-wanted.branch [
-      | else-wanted-via-then-wanted+else-is_item w ↦ other c.args.wanted.items _ (sym w.is_item.ensures ∙ w.if-is_item.false)
+      | else-wanted-via-then-wanted+else-is_item w ↦ other c.args.wanted.items _
+          (sym w.is_item.ensures ∙ w.if-is_item.false)
       | else-wanted-via-else-wanted w ↦ off c.args.wanted.items _ w.if-wanted.false
     ])
     (elim c.else-wanted-2.branch [
