@@ -6,7 +6,7 @@ use Rattle.md_engine.specs.declared.event.Event.{Event}
 use Rattle.md_content.specs.ContentRule.{definition_in}
 use Rattle.md_content_rooms.specs.Defined.{defined_unread}
 use Rattle.md_frame.specs.Laid.{LineBreak, laid}
-use Rattle.md_frame.specs.Row.{Row, breaks_of, chunks_of, last_row}
+use Rattle.md_frame.specs.Row.{Row, breaks_of, last_row}
 use Rattle.md_link_definitions.specs.DefinitionRule.{DefinitionParts, definition_events}
 use Rattle.md_rows.specs.BlockList.{heading_unread, lines_unread, text_unread, turned_unread}
 use Rattle.md_rows.specs.Rows.{behind_cut, cut_at_most, cut_by, further_lines, lines_cells}

@@ -29,7 +29,7 @@ use Rattle.md_seam.proofs.InlineLemmas.{past-index}
 use Rattle.md_frame.specs.LineColumns.{part_over}
 use Rattle.md_front_rooms.specs.Front.{FrontRead, behind_these, ending_of, ending_part, fence_part, line_part}
 use Rattle.md_front_rooms.specs.Front.{lines_read}
-use Rattle.md_front_rooms.specs.Front.{events_of, front_from, front_read, mark_point, past_ending, text_front}
+use Rattle.md_front_rooms.specs.Front.{events_of, front_from, front_read, past_ending, text_front}
 use Rattle.md_front_rooms.specs.Front as rooms
 use Rattle.md_front_rooms.proofs.FullLines.{IsLines, LastLine, NextLine, NoLines, ending-is, full-lines}
 use Rattle.md_front_rooms.proofs.Frontmatter.Found.{first-here, first-later, marker-marks}

@@ -24,7 +24,7 @@ use Rattle.md_seam.proofs.RestCells.{rest_cells}
 use Rattle.md_frame.specs.Laid.{LineBreak, laid}
 use Rattle.md_frame.specs.LineColumns.{rest_of}
 use Rattle.md_frame.specs.RestLine.{rest_line}
-use Rattle.md_frame.specs.Row.{Row as FrameRow, behind_row, breaks_of, ending_events, last_row}
+use Rattle.md_frame.specs.Row.{Row as FrameRow, behind_row, ending_events, last_row}
 use Rattle.md_frame.proofs.IndentRemoved.Columns.{rest-again}
 use Rattle.md_frame.proofs.LeafLines.Cuts.{ending-is}
 use Rattle.md_content_rooms.specs.Defined.{defined_unread}
@@ -34,7 +34,7 @@ use Rattle.md_content_rooms.proofs.Defined.Takes as Line
 use Rattle.md_rows.specs.Rows.{behind_cut, cut_at_most, cut_by, further_lines, lines_cells}
 use Rattle.md_rows.proofs.ContentCut.{lines-split}
 use Rattle.md_rows.proofs.Defined.Cells.{lines-are, lines-walk, lines_are, turns_of, uncut-no_ending}
-use Rattle.md_rows.proofs.Defined.Cut.{IsBehind, IsCut, lines-cut}
+use Rattle.md_rows.proofs.Defined.Cut.{IsBehind, IsCut, Taken, lines-cut, taken}
 use Rattle.md_rows.proofs.GroupLemmas.{row-line}
 use Rattle.md_rows.proofs.GroupLines.{AreLines}
 use Rattle.md_rows.proofs.JoinedLemmas.{behind-is}
@@ -188,36 +188,6 @@ turns-length options text r [] = refl
 turns-length options text r (next ∷ rs) = let more = turns-length options text next rs in omega (arith, more)
 
 -- The lines of a definition.
-
--- so many turns are so many lines
-record Taken (options : ParseOptions) (text : List ℕ) (r : FrameRow) (rs : List FrameRow) (took left : List Turn) :
-    Type 0 where
-  many : length took ≤ length rs
-  breaks_are : breaks took ≡ breaks_of r (take (length took) rs)
-  left_are : left ≡ turns_of options text (last_row r (take (length took) rs)) (drop (length took) rs)
-
-taken : (options : ParseOptions) (text : List ℕ) (r : FrameRow) (rs : List FrameRow) (took left : List Turn) →
-    turns_of options text r rs ≡ took ++ left → Taken options text r rs took left
-taken options text r rs [] left e = record { many = omega arith; breaks_are = refl; left_are = sym e }
-taken options text r [] (t ∷ took) left e = cc
-taken options text r (next ∷ rs) (t ∷ took) left e =
-    let turn : Turn = record {
-      end = r.end;
-      break = record { after = behind_row r; front = next.front };
-      first = next.first;
-      cells = lines_cells options text next rs;
-    } in
-    let first : turn ≡ t = cc in
-    let behind : turns_of options text next rs ≡ took ++ left = cc in
-    let more = taken options text next rs took left behind in
-    let many = more.many in
-    record {
-      many = omega (arith, many);
-      breaks_are =
-          ap (λ (x : Turn). x.break ∷ breaks took) (sym first)
-          ∙ ap (λ (l : List LineBreak). (record { after = behind_row r; front = next.front }) ∷ l) more.breaks_are;
-      left_are = more.left_are;
-    }
 
 -- what holds of lines holds of those behind so many
 abbrev pub Relation : Type 1

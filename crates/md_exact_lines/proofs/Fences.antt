@@ -23,7 +23,7 @@ use Rattle.md_seam.specs.Events.Places.{past_text}
 use Rattle.md_seam.proofs.InlineLemmas.{past_text-append}
 use Rattle.md_seam.proofs.RestLines.{count-none, count-one}
 use Rattle.md_frame.specs.LineColumns.{lost_line, part_over, past_columns}
-use Rattle.md_literal_rooms.specs.Leaf.Fence.{behind_parts, fence_parts, held_of, linked, past_white, text_parts}
+use Rattle.md_literal_rooms.specs.Leaf.Fence.{behind_parts, fence_parts, held_of, linked, past_white}
 use Rattle.md_literal_rooms.specs.Leaf.Fence.{white_part, word_parts}
 use Rattle.md_literal_rooms.specs.Leaf.Fence as room
 use Rattle.md_literal_rooms.specs.Leaf.FenceFurther.{closing_line, further_parts}

@@ -12,7 +12,7 @@ use Rattle.md_meaning.specs.Step.{step}
 use Rattle.md_exact.specs.Places.{TextLine, whole}
 use Rattle.md_exact.specs.Prefixes.{behind_all, containers, gone_on, new_containers}
 use Rattle.md_exact.specs.Rows as exact
-use Rattle.md_exact.specs.Rows.{FurtherText, Role, next_role, role_before, role_on, row_of, rows_of}
+use Rattle.md_exact.specs.Rows.{Role, next_role, role_before, row_of, rows_of}
 use Rattle.md_frame.specs.Change.{is_none}
 use Rattle.md_frame.specs.HeldLeaf.{may_go_on, met_by}
 use Rattle.md_frame.specs.Row.{Row}

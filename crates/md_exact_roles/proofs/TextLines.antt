@@ -1,24 +1,23 @@
 -- The lines behind the front of a text, by their bytes: they are those that rows are made of.
 use Rattle.std.proofs.Common.{◌≡◌, ◌≤◌, ◌⊎◌, inl, inr, ℕ, zero, suc, ◌+◌, ◌-◌, Bool, true, false, cond, List, [], ◌∷◌}
-use Rattle.std.proofs.Common.{◌++◌, length, drop, slice_index, refl, ap, ap₂, sym, ◌∙◌, subst, subst₂, append_assoc}
+use Rattle.std.proofs.Common.{◌++◌, length, drop, refl, ap, ap₂, sym, ◌∙◌, subst, subst₂, append_assoc}
 use Rattle.std.proofs.Common.{arith}
-use Rattle.std.specs.Prelude.{◌==◌}
 use Rattle.std.proofs.Math.Seq.{drop-append_seam, drop-nil}
 use Rattle.std.proofs.lemmas.List.{drop-drop, length-append}
 use Rattle.md_engine.specs.declared.configuration.ParseOptions.{ParseOptions}
 use Rattle.md_engine.specs.declared.event.Point.{Point}
-use Rattle.md_engine.specs.Place.{first_point, next_point}
+use Rattle.md_engine.specs.Place.{first_point}
 use Rattle.md_meaning.specs.Bytes.{is_end}
-use Rattle.md_meaning.specs.Lines.{begins_with, full_lines_of}
+use Rattle.md_meaning.specs.Lines.{full_lines_of}
 use Rattle.md_meaning.specs.Preamble.{first_column, has_mark, without_mark}
 use Rattle.md_meaning.specs.Texts.{split_lines}
 use Rattle.md_meaning.proofs.PreambleLemmas.{mark-bytes}
 use Rattle.md_meaning.proofs.TextsLemmas.{Both, Ending, EndsBefore, LineFeed, Return, ending_bytes, split-line}
 use Rattle.md_meaning.proofs.TextsLemmas.{split-next}
 use Rattle.md_seam.specs.Events.Places.{past_text}
-use Rattle.md_seam.proofs.FeedLines.{drop-past, front-within, past-next, past_ending}
+use Rattle.md_seam.proofs.FeedLines.{drop-past, ending-step, front-within, past_ending}
 use Rattle.md_seam.proofs.InlineLemmas.{past-index}
-use Rattle.md_seam.proofs.PlacesLemmas.{Placed, at-next, placed-text}
+use Rattle.md_seam.proofs.PlacesLemmas.{Placed, placed-text}
 use Rattle.md_seam.proofs.ReachedLemmas.{placed-next}
 use Rattle.md_front_rooms.specs.Front.{body_point, ending_of}
 use Rattle.md_front_rooms.proofs.FullLines.{IsLines, LastLine, NextLine, NoLines, ending-is, full-lines, last-ending}
@@ -67,33 +66,11 @@ have-bytes number index column text fulls (NextLine line ending rest more h befo
 -- Where a line begins.
 
 -- behind an ending, which an LF behind a CR belongs to
-at-end : (index : ℕ) (text : List ℕ) → drop index text ≡ [] → slice_index text index ≡ 0
-at-end zero [] e = refl
-at-end zero (b ∷ text) e = cc
-at-end (suc index) [] e = refl
-at-end (suc index) (b ∷ text) e = at-end index text e
-
-no-feed : (index : ℕ) (text rest : List ℕ) → drop index text ≡ rest → begins_with 10 rest ≡ false →
-    (slice_index text index == 10) ≡ false
-no-feed index text [] e h = ap (λ (b : ℕ). b == 10) (at-end index text e)
-no-feed index text (b ∷ rest) e h = ap (λ (c : ℕ). c == 10) (at-next index text b rest e) ∙ h
-
-next-line : (text : List ℕ) (ending : Ending) (rest : List ℕ) (p : Point) →
-    drop p.index text ≡ ending_bytes ending ++ rest → EndsBefore ending rest → next_point text p ≡ past_ending ending p
-next-line text LineFeed rest p e h = rw (at-next p.index text 10 rest e) refl
-next-line text Return rest p e h =
-    rw (at-next p.index text 13 rest e, no-feed (p.index + 1) text rest (past-next p.index text 13 rest e) h) refl
-next-line text Both rest p e h =
-    rw (
-      at-next p.index text 13 (10 ∷ rest) e,
-      at-next (p.index + 1) text 10 rest (past-next p.index text 13 (10 ∷ rest) e),
-    ) refl
-
 pub placed-behind : (text : List ℕ) (ending : Ending) (rest : List ℕ) (p : Point) →
     drop p.index text ≡ ending_bytes ending ++ rest → EndsBefore ending rest → Placed text p →
     Placed text (past_ending ending p)
 placed-behind text ending rest p e before placed =
-    let next = next-line text ending rest p e before in
+    let next = (ending-step text ending rest p e before).1 in
     let fits = front-within text p.index (ending_bytes ending) rest e placed.index in
     subst (Placed text) next
     (placed-next text p placed (subst (λ (q : Point). q.index ≤ length text) (sym next) (omega (arith, fits))))

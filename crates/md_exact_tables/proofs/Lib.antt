@@ -1,6 +1,5 @@
 pub mod FirstCell
 pub mod CellContent
 pub mod Cells
-pub mod DelimiterPieces
 pub mod RowLines
 pub mod Tables

@@ -22,7 +22,7 @@ use Rattle.md_tables.specs.RowCells.{white_front}
 use Rattle.md_tables.proofs.RowBytes.{front-whole}
 use Rattle.md_frame.specs.LineColumns.{part_over}
 use Rattle.md_table_rooms.proofs.GfmTable.DelimiterRowCells.{Aligned, AreDelimiters, IsValue, aligned, values-fit}
-use Rattle.md_exact_tables.proofs.DelimiterPieces.{colons, marker, value-runs, value_events}
+use Rattle.md_table_rooms.proofs.GfmTable.DelimiterRowCells.{colons, marker, value-runs, value_events}
 use Rattle.md_table_rooms.proofs.GfmTable.RowCells.{EachFits}
 use Rattle.md_exact.specs.Leaves as exact
 use Rattle.md_exact.specs.Leaves.{Inner, cell_dashes, cell_text, past_optional, row_line}

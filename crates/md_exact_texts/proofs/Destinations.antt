@@ -4,7 +4,6 @@ use Rattle.std.proofs.Common.{refl, sym, ap, ◌∙◌, subst, arith, append_ass
 use Rattle.std.specs.Prelude.{◌==◌, Option, Some, None}
 use Rattle.std.specs.List.{take_while}
 use Rattle.std.proofs.lemmas.Bool.{eqb-true}
-use Rattle.std.proofs.lemmas.Bool.Decides.{nat_tests}
 use Rattle.std.proofs.lemmas.List.{drop_at, length-append, length-map, take_at}
 use Rattle.md_engine.specs.declared.event.Event.{Event}
 use Rattle.md_engine.specs.declared.event.Name.TheVariants as n
@@ -22,7 +21,7 @@ use Rattle.md_link_definitions.specs.DestinationRule.{destination_part, literal_
 use Rattle.md_link_definitions.specs.DestinationRule.{text_part}
 use Rattle.md_link_definitions.specs.Title.{is_mark}
 use Rattle.md_link_definitions.specs.WholeCells.{whole_cells}
-use Rattle.md_link_definitions.proofs.DestinationLemmas.{line-ends, line-more, raw-cons, raw-ends, raw-no_ending}
+use Rattle.md_link_definitions.proofs.DestinationLemmas.{line-ends, line-more, raw-cons}
 use Rattle.md_link_definitions.proofs.DestinationLines.{destination-stands, destination-texts, destination_lines}
 use Rattle.md_link_definitions.proofs.DestinationLines.{destination_on, with_further}
 use Rattle.md_link_definitions.proofs.DestinationWhole.{found-literal, found-neither, found-none, found-raw}
@@ -39,7 +38,7 @@ use Rattle.md_exact.specs.Texts.{behind_destination, lines_left}
 use Rattle.md_content_rooms.proofs.Defined.Along.{Turn}
 use Rattle.md_content_rooms.proofs.Defined.Marked.{MarkedOf, marked-of}
 use Rattle.md_content_rooms.proofs.Defined.Takes.{Takes, Walk, walk-whole}
-use Rattle.md_content_rooms.proofs.Defined.Targets.{target-of}
+use Rattle.md_content_rooms.proofs.Defined.Targets.{RawFront, raw-front, raw-no_feed, raw-no_white, target-of}
 use Rattle.md_exact_texts.proofs.Ahead.{Ahead, left-is}
 use Rattle.md_exact_texts.proofs.Along.{Along, rows-lines, rows-whole}
 use Rattle.md_exact_texts.proofs.Gaps.{first-byte}
@@ -56,33 +55,9 @@ data Found (cells : List Cell) (d : Destination) : Type 0 where
       c.byte ≡ less_than → k.byte ≡ greater_than → NoFeed text → bytes_of text ≡ d.text → Found cells d
 
 -- without angle brackets
-record RawFront (cells : List Cell) : Type 0 where
-  text : List Cell
-  rest : List Cell
-  split : text ++ rest ≡ cells
-  found : take_while is_raw_byte (line_bytes cells) ≡ bytes_of text
-  none : NoFeed text
-
-raw-front : (cells : List Cell) → RawFront cells
-raw-front [] = record { text = []; rest = []; split = refl; found = refl; none = tt }
-raw-front (c ∷ cs) = go (is_raw_byte c.byte) refl (raw-front cs)
-  where
-    go : (x : Bool) → is_raw_byte c.byte ≡ x → RawFront cs → RawFront (c ∷ cs)
-    go true e more = record {
-      text = c ∷ more.text;
-      rest = more.rest;
-      split = ap (λ (l : List Cell). c ∷ l) more.split;
-      found = raw-cons c cs e ∙ ap (λ (l : List ℕ). c.byte ∷ l) more.found;
-      none = (raw-no_ending c.byte e, more.none);
-    }
-    go false e more = record { text = []; rest = c ∷ cs; split = refl; found = raw-ends c cs e; none = tt }
-
-raw-dark : (b : ℕ) → is_raw_byte b ≡ true → is_white b ≡ false
-raw-dark b e = grind (arith, nat_tests)
-
 raw-of : (c : Cell) (cs : List Cell) (d : Destination) → is_raw_byte c.byte ≡ true → (c.byte == less_than) ≡ false →
     raw_found (line_bytes (c ∷ cs)) ≡ Some d → Found (c ∷ cs) d
-raw-of c cs d raw other e = by known.text known.split known.found known.none
+raw-of c cs d raw other e = by known.text known.split known.found (raw-no_feed known.text known.raw)
   where
     known : RawFront (c ∷ cs)
     known = raw-front (c ∷ cs)
@@ -106,7 +81,7 @@ raw-of c cs d raw other e = by known.text known.split known.found known.none
         let no : [] ≡ c.byte ∷ take_while is_raw_byte (line_bytes cs) = sym k ∙ raw-cons c cs raw in cc
     by (x ∷ xs) split k none =
         let same : x ≡ c = cc in
-        Raw x xs known.rest split none (ap (λ (y : Cell). is_white y.byte) same ∙ raw-dark c.byte raw)
+        Raw x xs known.rest split none (ap (λ (y : Cell). is_white y.byte) same ∙ raw-no_white c.byte raw)
         (ap (λ (y : Cell). y.byte == less_than) same ∙ other) (sym k ∙ told (balanced 0 false text) e)
 
 -- between them

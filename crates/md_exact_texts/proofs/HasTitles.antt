@@ -29,7 +29,7 @@ use Rattle.md_seam.proofs.FeedLines.{bytes_of}
 use Rattle.md_exact.specs.Rows.{Row}
 use Rattle.md_exact.specs.Texts.{behind_gap, behind_title, enclosed_part, gap, has_title}
 use Rattle.md_content_rooms.proofs.Defined.Along.{Turn}
-use Rattle.md_content_rooms.proofs.Defined.Marked.{TitleAre, title-are}
+use Rattle.md_content_rooms.proofs.Defined.Marked.{TitleAre, behind-gap, title-are}
 use Rattle.md_content_rooms.proofs.Defined.Takes.{Takes, Walk, takes-none, takes-then}
 use Rattle.md_exact_texts.proofs.Ahead.{Ahead, Onward, ahead-onward, onward-here, onward-then}
 use Rattle.md_exact_texts.proofs.Along.{Along, rows-lines}
@@ -167,22 +167,6 @@ pub record TitledOn (text : List ℕ) (last p : Point) (cells : List Cell) (o : 
       (title_tail rows)
   pub along : Along text (title_end rows) (titled_end o p) (titled_rest o cells) left
   pub onward : Onward rows (title_end rows)
-
--- where one is found it stands behind a gap
-behind-gap : (cells : List Cell) (t : TitleParts) → title_behind cells ≡ Some t →
-    title_parts (gap_rest cells) ≡ Some t
-behind-gap cells t e = go (begins_gap cells) (title_parts (gap_rest cells)) refl e
-  where
-    by : (u : TitleParts) (x : Bool) → title_parts (gap_rest cells) ≡ Some u → cond x (Some u) None ≡ Some t →
-        title_parts (gap_rest cells) ≡ Some t
-    by u true k e = k ∙ e
-    by u false k e = let bad : (let o : Option TitleParts = None in o) ≡ Some t = e in cc
-
-    go : (x : Bool) (o : Option TitleParts) → title_parts (gap_rest cells) ≡ o → cond x (lone o) None ≡ Some t →
-        title_parts (gap_rest cells) ≡ Some t
-    go true None k e = let bad : (let o : Option TitleParts = None in o) ≡ Some t = e in cc
-    go true (Some u) k e = by u (ends_behind u.rest) k e
-    go false o k e = let bad : (let o : Option TitleParts = None in o) ≡ Some t = e in cc
 
 -- by whether there is one
 abbrev TitledBy : List ℕ → Point → Point → List Cell → Option TitleParts → List Turn → List Row → Bool → Type 0

@@ -24,8 +24,8 @@ use Rattle.md_exact.specs.Leaves.{span}
 use Rattle.md_exact.specs.Places.{is_same, part, past, place}
 use Rattle.md_exact.specs.Rows.{Row}
 use Rattle.md_exact.specs.Texts as Texts
-use Rattle.md_exact.specs.Texts.{back, behind_label, chunks as row_chunks, enclosed_part, left, lines_left, mark}
-use Rattle.md_exact.specs.Texts.{on_first, text_span}
+use Rattle.md_exact.specs.Texts.{behind_label, chunks as row_chunks, enclosed_part, left, mark}
+use Rattle.md_exact.specs.Texts.{text_span}
 use Rattle.md_frame.specs.Laid.{LineBreak, laid}
 use Rattle.md_content_rooms.proofs.Defined.Along.{Turn, breaks}
 use Rattle.md_content_rooms.proofs.Defined.Marked.{LabelAre, MarkedOf, label-are, marked-of}

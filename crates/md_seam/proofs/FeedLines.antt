@@ -437,7 +437,7 @@ none-next index bytes [] e h = ap (λ (c : ℕ). c == 10) (at-none (index + 1) b
 none-next index bytes (b ∷ rest) e h = ap (λ (c : ℕ). c == 10) (at-next (index + 1) bytes b rest e) ∙ h
 
 -- the point behind it
-ending-step : (bytes : List ℕ) (ending : Ending) (rest : List ℕ) (p : Point) →
+pub ending-step : (bytes : List ℕ) (ending : Ending) (rest : List ℕ) (p : Point) →
     drop p.index bytes ≡ ending_bytes ending ++ rest → EndsBefore ending rest →
     (is_ending (slice_index bytes p.index) ≡ true) × (next_point bytes p ≡ past_ending ending p)
 ending-step bytes LineFeed rest p e h = let here = at-next p.index bytes 10 rest e in (rw here refl, rw here refl)

@@ -366,7 +366,7 @@ pub record TailOf (bytes : List ℕ) (last p : Point) (cells : List Cell) (turns
   pub lines : option_map (λ (t : Titled). text_lines t.text) title ≡ told_title o
 
 -- where one is found it stands behind a gap
-behind-gap : (cells : List Cell) (t : TitleParts) → title_behind cells ≡ Some t →
+pub behind-gap : (cells : List Cell) (t : TitleParts) → title_behind cells ≡ Some t →
     title_parts (gap_rest cells) ≡ Some t
 behind-gap cells t e = go (begins_gap cells) (title_parts (gap_rest cells)) refl e
   where

@@ -119,18 +119,18 @@ pub record TargetOf (bytes : List ℕ) (last p : Point) (cells : List Cell) (tur
 
 -- Without angle brackets.
 
-abbrev AllRaw : List Cell → Type 0
+abbrev pub AllRaw : List Cell → Type 0
 AllRaw [] = Unit {0}
 AllRaw (c ∷ cs) = (is_raw_byte c.byte ≡ true) × AllRaw cs
 
-record RawFront (cells : List Cell) : Type 0 where
-  text : List Cell
-  rest : List Cell
-  split : text ++ rest ≡ cells
-  found : take_while is_raw_byte (line_bytes cells) ≡ bytes_of text
-  raw : AllRaw text
+pub record RawFront (cells : List Cell) : Type 0 where
+  pub text : List Cell
+  pub rest : List Cell
+  pub split : text ++ rest ≡ cells
+  pub found : take_while is_raw_byte (line_bytes cells) ≡ bytes_of text
+  pub raw : AllRaw text
 
-raw-front : (cells : List Cell) → RawFront cells
+pub raw-front : (cells : List Cell) → RawFront cells
 raw-front [] = record { text = []; rest = []; split = refl; found = refl; raw = tt }
 raw-front (c ∷ cs) = go (is_raw_byte c.byte) refl (raw-front cs)
   where
@@ -145,10 +145,10 @@ raw-front (c ∷ cs) = go (is_raw_byte c.byte) refl (raw-front cs)
     go false e more =
         record { text = []; rest = c ∷ cs; split = refl; found = raw-ends c cs e; raw = tt }
 
-raw-no_white : (b : ℕ) → is_raw_byte b ≡ true → is_white b ≡ false
+pub raw-no_white : (b : ℕ) → is_raw_byte b ≡ true → is_white b ≡ false
 raw-no_white b e = grind (arith, nat_tests)
 
-raw-no_feed : (cells : List Cell) → AllRaw cells → NoFeed cells
+pub raw-no_feed : (cells : List Cell) → AllRaw cells → NoFeed cells
 raw-no_feed [] raw = tt
 raw-no_feed (c ∷ cs) raw = (raw-no_ending c.byte raw.0, raw-no_feed cs raw.1)
 

@@ -53,14 +53,14 @@ pub record IsCut (options : ParseOptions) (bytes : List ℕ) (row : Row) (rows :
 
 -- So many turns are so many lines.
 
-record Taken (options : ParseOptions) (bytes : List ℕ) (row : Row) (rows : List Row) (took left : List Turn) :
+pub record Taken (options : ParseOptions) (bytes : List ℕ) (row : Row) (rows : List Row) (took left : List Turn) :
     Type 0 where
-  many : length took ≤ length rows
-  breaks_are : breaks took ≡ breaks_of row (take (length took) rows)
-  left_are : left ≡ turns_of options bytes (last_row row (take (length took) rows)) (drop (length took) rows)
-  last : last_row row rows ≡ last_row (last_row row (take (length took) rows)) (drop (length took) rows)
+  pub many : length took ≤ length rows
+  pub breaks_are : breaks took ≡ breaks_of row (take (length took) rows)
+  pub left_are : left ≡ turns_of options bytes (last_row row (take (length took) rows)) (drop (length took) rows)
+  pub last : last_row row rows ≡ last_row (last_row row (take (length took) rows)) (drop (length took) rows)
 
-taken : (options : ParseOptions) (bytes : List ℕ) (row : Row) (rows : List Row) (took left : List Turn) →
+pub taken : (options : ParseOptions) (bytes : List ℕ) (row : Row) (rows : List Row) (took left : List Turn) →
     turns_of options bytes row rows ≡ took ++ left → Taken options bytes row rows took left
 taken options bytes row rows [] left e =
     record { many = omega arith; breaks_are = refl; left_are = sym e; last = refl }

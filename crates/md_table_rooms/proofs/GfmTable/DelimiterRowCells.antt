@@ -45,7 +45,7 @@ use Rattle.md_frame.proofs.PieceFacts.{begins-whole, over-front, over-stands}
 -- The bytes of a cell.
 
 -- a colon, if there is one
-abbrev colons : Bool → List ℕ
+abbrev pub colons : Bool → List ℕ
 colons true = 58 ∷ []
 colons false = []
 
@@ -105,11 +105,11 @@ aligned cell h = go (after_optional 58 cell) (optional-colon cell) parts.0 parts
 
 -- Its events: one piece each.
 
-abbrev marker : Bool → Point → List Event
+abbrev pub marker : Bool → Point → List Event
 marker true p = pair n.GfmTableDelimiterMarker p (past_byte 58 p)
 marker false p = []
 
-abbrev value_events : Bool → List ℕ → Bool → Point → List Event
+abbrev pub value_events : Bool → List ℕ → Bool → Point → List Event
 value_events left dashes right p =
     let q = past_text (colons left) p in
     let r = past_text (45 ∷ dashes) q in
@@ -129,7 +129,7 @@ filler-runs (b ∷ bs) right p h =
         delimiter_runs Filler (bs ++ colons right) (past_byte b p)
     goes e = rw e refl
 
-value-runs : (left : Bool) (dashes : List ℕ) (right : Bool) (p : Point) →
+pub value-runs : (left : Bool) (dashes : List ℕ) (right : Bool) (p : Point) →
     list_all (λ (b : ℕ). b == 45) dashes ≡ true →
     delimiter_runs Apart (colons left ++ (45 ∷ (dashes ++ colons right))) p ≡ value_events left dashes right p
 value-runs true dashes right p h =
