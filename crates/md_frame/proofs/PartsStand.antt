@@ -11,12 +11,11 @@ use Rattle.md_engine.specs.declared.event.Link.{Link}
 use Rattle.md_engine.specs.declared.event.Name.{Name}
 use Rattle.md_engine.specs.declared.event.Name.TheVariants as n
 use Rattle.md_engine.specs.declared.event.Point.{Point}
-use Rattle.md_content.specs.Paragraph.{text_link}
 use Rattle.md_seam.specs.declared.inline.Chunk.{Chunk}
 use Rattle.md_seam.specs.declared.inline.PartKind.{PartKind}
 use Rattle.md_seam.specs.declared.inline.PartKind.TheVariants as part_kinds
 use Rattle.md_seam.specs.Events.Inline.{Piece, are_lines, pieces}
-use Rattle.md_seam.specs.Events.Nested.{around, enter, enter_link, exit, is_exit}
+use Rattle.md_seam.specs.Events.Nested.{around, enter, exit, is_exit}
 use Rattle.md_seam.specs.Events.Tiles.{begins_at, chunks, chunks_stand, inside_part, is_part, is_white_piece, part_end}
 use Rattle.md_seam.specs.Events.Tiles.{links_kind, of_kind, part_kind, part_stands, parts_stand, stands_in_part}
 use Rattle.md_seam.proofs.PlacesLemmas.{all-append}

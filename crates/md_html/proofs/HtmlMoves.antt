@@ -16,7 +16,7 @@ use Rattle.md_engine.specs.World.{World, after}
 use Rattle.md_engine.specs.Sees.{Sees, ahead, cell_here}
 use Rattle.md_engine.proofs.StepOf.{passes}
 use Rattle.md_meaning.specs.Bytes.{begins}
-use Rattle.md_meaning.specs.Html.{HtmlKind, Raw, Comment, Instruction, Declaration, Cdata, Basic, Complete}
+use Rattle.md_meaning.specs.Html.{HtmlKind, Basic, Complete}
 use Rattle.md_meaning.specs.Html.{html_ends, html_kind}
 use Rattle.md_meaning.specs.Lines.{begins_with}
 use Rattle.md_html.specs.Html.{Move, Stops, Takes, TakesAs, Turns, TurnsAs, cleared, is_open_text, moved}

@@ -9,7 +9,7 @@ use Rattle.md_engine.specs.declared.tokenizer.held_leaf.HeldLeaf.{HeldLeaf}
 use Rattle.md_engine.specs.declared.tokenizer.held_leaf.HeldLeaf.TheVariants as held_leaf
 use Rattle.md_engine.specs.Meaning.{Accepts, Cell, Fails, Here, Outcome, Refuses}
 use Rattle.md_meaning.specs.Bytes.{is_end}
-use Rattle.md_meaning.specs.Html.{HtmlKind, Raw, Comment, Instruction, Declaration, Cdata, Basic, Complete}
+use Rattle.md_meaning.specs.Html.{HtmlKind, Raw, Basic, Complete}
 use Rattle.md_meaning.specs.Html.{html_ends, html_kind}
 use Rattle.md_meaning.specs.Leaves.{ends_at_blank}
 use Rattle.md_meaning.specs.Rest.{is_blank}

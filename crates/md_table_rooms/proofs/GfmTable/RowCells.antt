@@ -11,7 +11,6 @@ use Rattle.md_engine.specs.declared.event.Name.{Name}
 use Rattle.md_engine.specs.declared.event.Point.{Point}
 use Rattle.md_meaning.specs.Lines.{begins_with}
 use Rattle.md_meaning.specs.Rest.{is_blank, is_white, trim, trim_start}
-use Rattle.md_seam.specs.Events.Nested.{around}
 use Rattle.md_seam.specs.Events.Places.{past_byte, past_text}
 use Rattle.md_seam.proofs.InlineLemmas.{past-index, past_text-append}
 use Rattle.md_seam.proofs.PlacesLemmas.{at-next}
