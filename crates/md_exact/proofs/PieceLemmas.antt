@@ -62,7 +62,7 @@ same-vs text (suc n) p q a b index cut cut' =
         (ap (λ (k : ℕ). 3 - (k + 3) % 4) (sym e) ∙ more ∙ ap (λ (k : ℕ). 3 - (k + 3) % 4) f)
 
 -- what is left of a tab is told by its point
-same-spaces : (a b : ℕ) (p : Point) → Cut a p → Cut b p → a ≡ b
+pub same-spaces : (a b : ℕ) (p : Point) → Cut a p → Cut b p → a ≡ b
 same-spaces zero zero p h k = refl
 same-spaces zero (suc m) p h k = absurd (omega (arith, h, k.0))
 same-spaces (suc n) zero p h k = absurd (omega (arith, h.0, k))

@@ -38,6 +38,7 @@ use Rattle.md_exact.specs.Texts as Texts
 use Rattle.md_exact.specs.Texts.{behind_destination, behind_gap, behind_label, enclosed_part, gap, lines_left, mark}
 use Rattle.md_exact.specs.Texts.{on_first}
 use Rattle.md_exact.proofs.OnLine.{LineIn, OnLine, indent-on}
+use Rattle.md_exact.proofs.PieceLemmas.{same-spaces}
 use Rattle.md_content_rooms.proofs.Defined.Along.{Turn, no_line}
 use Rattle.md_content_rooms.proofs.Defined.Gaps.{WhiteOf, white-of}
 use Rattle.md_content_rooms.proofs.Defined.Parts.{DefinitionAre, definition-are}
@@ -49,7 +50,6 @@ use Rattle.md_exact_texts.proofs.Destinations.{DestinationOn, FirstDark, destina
 use Rattle.md_exact_texts.proofs.Gaps.{WhiteOn, gap-here, tail-on, white-on}
 use Rattle.md_exact_texts.proofs.HasTitles.{GapAt, TitledOn, gap-at, title_end, title_tail, titled-on}
 use Rattle.md_exact_texts.proofs.Marks.{LabelOn, label-on, mark-on}
-use Rattle.md_exact_texts.proofs.Rests.{same-cut}
 
 -- The indent.
 
@@ -64,7 +64,7 @@ same-rest text behind line r s p h k =
     rest column spaces bytes = record { column = column; spaces = spaces; bytes = bytes }
 
     spaces : r.spaces ≡ s.spaces
-    spaces = same-cut r.spaces s.spaces p h.stands.cut k.stands.cut
+    spaces = same-spaces r.spaces s.spaces p h.stands.cut k.stands.cut
 
     bytes : r.bytes ≡ s.bytes
     bytes =

@@ -18,6 +18,7 @@ use Rattle.md_seam.proofs.PlacesLemmas.{placed-text}
 use Rattle.md_seam.proofs.RestCells.{Cut, cells_by, past_cut, rest_cells}
 use Rattle.md_exact.specs.Places.{TextLine, past}
 use Rattle.md_exact.proofs.OnLine.{OnLine, past-line}
+use Rattle.md_exact.proofs.PieceLemmas.{same-spaces}
 use Rattle.md_exact.proofs.PlaceLemmas.{past-column}
 use Rattle.md_content_rooms.proofs.Defined.Along.{Stands, Steps, no_line}
 use Rattle.md_content_rooms.proofs.Defined.Runs.{RunOf, run-of}
@@ -125,12 +126,6 @@ front-of line (b ∷ bs) (c ∷ cs) tail behind rest stop p none stops e k =
 
 -- Cells of a line.
 
-pub same-cut : (a b : ℕ) (p : Point) → Cut a p → Cut b p → a ≡ b
-same-cut zero zero p h k = refl
-same-cut zero (suc m) p h k = absurd (omega (arith, h, k.0))
-same-cut (suc n) zero p h k = absurd (omega (arith, h.0, k))
-same-cut (suc n) (suc m) p h k = ap suc (h.1 ∙ sym k.1)
-
 -- behind what is left of a cut tab
 cut-end : (spaces : ℕ) (p : Point) (bytes : List ℕ) → 1 ≤ p.column → Cut spaces p →
     past_text bytes (past_cut spaces p) ≡ past_text (cut_tab spaces ++ bytes) p
@@ -203,7 +198,7 @@ rest-on text behind line r p xs rest stop on stands steps whole stops e = record
     t = run.text
 
     spaces : run.spaces ≡ r.spaces
-    spaces = same-cut run.spaces r.spaces p run.cut on.stands.cut
+    spaces = same-spaces run.spaces r.spaces p run.cut on.stands.cut
 
     bytes : t ++ drop q.index text ≡ r.bytes ++ behind
     bytes =

@@ -37,9 +37,9 @@ starts-tiled p q [] h lt = go (and_parts (p.index == q.index) (p.vs == q.vs) h.c
 starts-tiled p q (e ∷ es) h lt = h.begins
 
 -- bytes without endings are of one line
-pub in_line : (line : List ℕ) → NoEnding line → is_in_line line ≡ true
-in_line [] h = refl
-in_line (b ∷ line) h = and_from (not (is_ending b)) (is_in_line line) (ap not h.0) (in_line line h.1)
+pub in-line : (line : List ℕ) → NoEnding line → is_in_line line ≡ true
+in-line [] h = refl
+in-line (b ∷ line) h = and_from (not (is_ending b)) (is_in_line line) (ap not h.0) (in-line line h.1)
 
 -- A chunk that is a line, with its ending or not: itself, and what the plain layer gives for it.
 pub record Chunked (bytes : List ℕ) (p q : Point) : Type 0 where
@@ -95,7 +95,7 @@ chunked-by bytes line tail p q some none whole size slice without one ending = r
     text : PiecesValid bytes (pair_unless_empty n.Data p r)
     text =
         stood-unless_empty bytes n.Data p r
-        (λ apart. over-stands bytes n.Data p r line over (begins-cut n.Data p refl) (in_line line none))
+        (λ apart. over-stands bytes n.Data p r line over (begins-cut n.Data p refl) (in-line line none))
 
 -- a line without its ending
 pub chunked-alone : (bytes line : List ℕ) (p q : Point) → 0 < length line → NoEnding line → q.vs ≡ 0 →

@@ -8,6 +8,7 @@ use Rattle.md_seam.specs.Events.Nested.{Balanced, Forward, Matches, last_point, 
 use Rattle.md_seam.specs.Events.Places.{at_or_before}
 use Rattle.md_seam.proofs.NestedLemmas.{at_or_before-refl, balanced-none, forward-append, forward-from, matches-append}
 use Rattle.md_seam.proofs.NestedLemmas.{open_after-append}
+use Rattle.md_order.proofs.Nests.Leads.{Under}
 use Rattle.md_frame.specs.Row.{Row, behind_row, ending_events}
 use Rattle.md_frame.proofs.FrontLemmas.{Turns, turns-balanced}
 use Rattle.md_frame.proofs.SpanLemmas.{Nested_in, Spans}
@@ -15,12 +16,6 @@ use Rattle.md_frame.proofs.SpanLemmas.{Nested_in, Spans}
 -- Events that nest, and go forward from a point.
 pub record Onward (p : Point) (events : List Event) : Type 0 where
   pub balanced : Balanced events
-  pub forward : Forward p events
-
--- events that end what has these names, nest otherwise, and go forward from a point
-pub record Under (names : List Name) (p : Point) (events : List Event) : Type 0 where
-  pub matches : Matches names events
-  pub closed : open_after names events ≡ []
   pub forward : Forward p events
 
 pub under-none : (p : Point) (events : List Event) → Under [] p events → Onward p events

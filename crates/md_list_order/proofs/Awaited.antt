@@ -21,6 +21,7 @@ use Rattle.md_order.specs.Alone.{closes, is_set, open_behind, opened_by}
 use Rattle.md_order.specs.Left.{MayBeLeft, MayStay}
 use Rattle.md_order.proofs.Names.{bare-unturned, tableless, unset-bare, unset-item}
 use Rattle.md_order.proofs.Stay.{closed-ending, stay-drop, stay-opens}
+use Rattle.md_order.proofs.SetextLook.{ending-opens}
 use Rattle.md_list_order.proofs.Plain.{left-holds, of_item, with_items}
 
 -- an event of no item, with which no ATX heading and no table begins
@@ -122,13 +123,6 @@ behind-awaited (e ∷ es) stay h =
         begun e.kind e.name here (λ a b. stay-opens (with_items true) e es stay a b)
 
 -- In front of that line ending.
-
--- one begins there, since none is open
-ending-opens : (kind : Kind) (name : Name) → is_line_ending name ≡ true →
-    (is_exit kind ≡ true → opened_by name ≡ Nothing) → cond (is_enter kind) (opened_by name) Nothing ≡ InEnding
-ending-opens Enter n.LineEnding h stands = refl
-ending-opens Exit n.LineEnding h stands = sym (stands refl)
-ending-opens kind _ h stands = absurd (let no : false ≡ true = h in cc)
 
 in-ending : (f : Event) → MayStand InEnding f → is_set f.name ≡ false
 in-ending f stands = go (closes InEnding f) refl

@@ -170,7 +170,7 @@ ending-heading n.LineEnding h = refl
 ending-heading _ h = absurd (let no : false ≡ true = h in cc)
 
 -- a line ending that stands where nothing is open begins there
-ending-opens : (kind : Kind) (name : Name) → is_line_ending name ≡ true →
+pub ending-opens : (kind : Kind) (name : Name) → is_line_ending name ≡ true →
     (is_exit kind ≡ true → opened_by name ≡ Nothing) → cond (is_enter kind) (opened_by name) Nothing ≡ InEnding
 ending-opens Enter n.LineEnding h stands = refl
 ending-opens Exit n.LineEnding h stands = sym (stands refl)

@@ -37,7 +37,8 @@ use Rattle.md_rows.proofs.RowLeaf.{EndsOnLine}
 use Rattle.md_frame.proofs.ChunkFacts.{ending-order}
 use Rattle.md_rows.proofs.RowFacts.{AreRows, IsLine, IsRow, behind_line}
 use Rattle.md_seam.proofs.FeedLines.{IsEnding}
-use Rattle.md_frame.proofs.NestedEvents.{Onward, Under, ending-nested, under-before, under-none, under-turn}
+use Rattle.md_frame.proofs.NestedEvents.{Onward, ending-nested, under-before, under-none, under-turn}
+use Rattle.md_order.proofs.Nests.Leads.{Under}
 use Rattle.md_frame.proofs.SpanLemmas.{Nested_in}
 use Rattle.md_frame.proofs.ContainerNames.{open_names}
 use Rattle.md_rows.proofs.Turned.Under.{text-open}

@@ -21,7 +21,8 @@ use Rattle.md_rows.proofs.GroupLines.{AreGroups}
 use Rattle.md_rows.proofs.GroupsAre.{groups-are}
 use Rattle.md_frame.proofs.FrontNames.{HasFront, ends-no_parts, ends-unlinked}
 use Rattle.md_rows.proofs.JoinedLemmas.{EachNoContent}
-use Rattle.md_frame.proofs.NestedEvents.{Onward, Under, under-none}
+use Rattle.md_frame.proofs.NestedEvents.{Onward, under-none}
+use Rattle.md_order.proofs.Nests.Leads.{Under}
 use Rattle.md_rows.proofs.NestedRows.{ByGroups, rows-hold, under-group}
 use Rattle.md_rows.proofs.GroupFacts.{group-front, group-leaf, more-groups}
 use Rattle.md_frame.proofs.ReadAs.{read_as-stands}

@@ -10,7 +10,7 @@ use Rattle.md_engine.specs.declared.event.Point.{Point}
 use Rattle.md_containers.specs.Footnote.{label_link}
 use Rattle.md_seam.specs.Events.Inline.{Piece, is_linked}
 use Rattle.md_seam.specs.Events.Pieces.{piece_stands}
-use Rattle.md_frame.proofs.ChunkFacts.{in_line}
+use Rattle.md_frame.proofs.ChunkFacts.{in-line}
 use Rattle.md_container_rooms.proofs.GfmFootnoteDefinition.Prefix.{IsFront, data_at, label-text, label_at, label_end}
 use Rattle.md_container_rooms.proofs.GfmFootnoteDefinition.Prefix.{label_part}
 use Rattle.md_frame.proofs.LineTexts.{one-last}
@@ -44,7 +44,7 @@ label-read bytes label link p q es is =
     over-stands bytes n.Data (label_at is.start) (label_end label is.start) label
     (over-front bytes (label_at is.start) (label_end label is.start) label _ (label-text bytes label link p q es is)
     is.some refl) (begins-whole n.Data (label_at is.start) refl)
-    (in_line label is.one_line)
+    (in-line label is.one_line)
 
 pub label-stood : (bytes label : List ℕ) (link : Option Link) (start : Point) → LabelStands bytes link label start →
     PiecesValid bytes (label_part link (label_at start) (label_end label start))

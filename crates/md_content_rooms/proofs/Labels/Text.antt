@@ -15,7 +15,7 @@ use Rattle.md_meaning.specs.Label.{normal_form, words}
 use Rattle.md_meaning.specs.Lines.{begins_with}
 use Rattle.md_meaning.specs.Rest.{is_blank, is_white, trim_start}
 use Rattle.md_meaning.specs.Texts.{split_lines, trim_each, trim_further}
-use Rattle.md_meaning.proofs.TextsLemmas.{EndsBefore, Ending, IsOfLines, LineFeed, NoEnding, Return, Both, ending_bytes}
+use Rattle.md_meaning.proofs.TextsLemmas.{Ending, IsOfLines, NoEnding, ending_bytes}
 use Rattle.md_meaning.proofs.TextsLemmas.{split-lines}
 use Rattle.md_link_definitions.specs.Chunks.{string_link}
 use Rattle.md_seam.specs.Events.Nested.{enter_link, exit, is_enter, is_exit}
@@ -25,6 +25,7 @@ use Rattle.md_seam.proofs.FeedLines.{slice-split}
 use Rattle.md_content_rooms.proofs.Defined.Form.{IsBreak, IsFilled, IsRun, IsStrand, LastLine, NoLine, OneLine, Strand}
 use Rattle.md_content_rooms.proofs.Defined.Form.{strand_lines, strand_unread}
 use Rattle.md_frame.proofs.FrontNames.{fronts-prefixes}
+use Rattle.md_frame.proofs.ParagraphLines.{ends-before}
 use Rattle.md_frame.proofs.PrefixNames.{ArePrefixes}
 
 -- Words.
@@ -99,11 +100,6 @@ pub record Told (bytes : List ℕ) (s : Strand) : Type 0 where
 some-begins : (text rest : List ℕ) → text ≢ [] → NoEnding text → begins_with 10 (text ++ rest) ≡ false
 some-begins [] rest some none = absurd (some refl)
 some-begins (b ∷ bs) rest some none = (or_parts (b == 10) (b == 13) none.0).0
-
-ends-before : (ending : Ending) (rest : List ℕ) → begins_with 10 rest ≡ false → EndsBefore ending rest
-ends-before LineFeed rest h = tt
-ends-before Return rest h = h
-ends-before Both rest h = tt
 
 -- the end of a label ends its text
 label-ended : (bytes : List ℕ) (q : Point) (more : List Event) →

@@ -1,16 +1,15 @@
 -- What stands on a line that loses columns of whitespace is a stretch.
 use Rattle.std.proofs.Common.{◌≡◌, ℕ, ◌+◌, ◌<◌, Bool, true, false, cond, ◌&&◌, ◌||◌, List, [], ◌∷◌}
 use Rattle.std.proofs.Common.{◌++◌, length, drop, refl, sym, ◌∙◌, ap, arith, subst}
-use Rattle.std.specs.Prelude.{◌==◌, nat_lt, not, IsTrue}
-use Rattle.std.proofs.lemmas.Bool.{and_from, or_right}
+use Rattle.std.specs.Prelude.{◌==◌, nat_lt, IsTrue}
+use Rattle.std.proofs.lemmas.Bool.{or_right}
 use Rattle.md_engine.specs.declared.event.Name.{Name}
 use Rattle.md_engine.specs.declared.event.Name.TheVariants as n
 use Rattle.md_engine.specs.declared.event.Point.{Point}
-use Rattle.md_meaning.specs.Lines.{is_ending}
 use Rattle.md_meaning.specs.Rest.{Rest, indent, lose}
 use Rattle.md_meaning.proofs.TextsLemmas.{NoEnding}
 use Rattle.md_seam.specs.Events.Nested.{pair}
-use Rattle.md_seam.specs.Events.Pieces.{begins_in_tab, is_in_line, stands_over}
+use Rattle.md_seam.specs.Events.Pieces.{begins_in_tab, stands_over}
 use Rattle.md_seam.specs.Events.Places.{at_or_before, past_text}
 use Rattle.md_seam.proofs.FeedLines.{before-byte}
 use Rattle.md_seam.proofs.InlineLemmas.{past-index}
@@ -62,10 +61,6 @@ over-stretch R bytes name (b ∷ bs) behind p q is text end begins over =
     (over-stands bytes name p q (b ∷ bs) (over-front bytes p q (b ∷ bs) behind text some end) begins over)
 
 -- What is left of a line.
-
-pub in-line : (line : List ℕ) → NoEnding line → is_in_line line ≡ true
-in-line [] h = refl
-in-line (b ∷ line) h = and_from (not (is_ending b)) (is_in_line line) (ap not h.0) (in-line line h.1)
 
 -- A line that loses so many columns, with a part of this name over what is left.
 pub lost-stretch : (R : Role → Type 0) (bytes : List ℕ) (name : Name) (lost : ℕ) (r : Rest) (p q : Point) → R IsQuiet →

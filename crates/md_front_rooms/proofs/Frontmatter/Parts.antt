@@ -38,7 +38,7 @@ use Rattle.md_seam.proofs.SpelledLemmas.{read-from, read-quiet}
 use Rattle.md_frame.specs.LineColumns.{part_over}
 use Rattle.md_frame.proofs.BetweenFacts.{between-behind, is_low, low-at}
 use Rattle.md_frame.proofs.WhiteQuiet.{white-quiet}
-use Rattle.md_frame.proofs.IndentRemoved.Placed.{in-line, over-onward, over-stretch}
+use Rattle.md_frame.proofs.IndentRemoved.Placed.{over-onward, over-stretch}
 use Rattle.md_frame.proofs.IndentRemoved.Reads.{empty-joined, leaf-told, on-last}
 use Rattle.md_frame.proofs.IndentRemoved.Shown.{whole-clear}
 use Rattle.md_frame.proofs.PieceFacts.{begins-cut, begins-whole, over-front, over-stands}
@@ -46,6 +46,7 @@ use Rattle.md_frame.proofs.PlainFacts.{AreKnown, known-append, known-around, kno
 use Rattle.md_frame.proofs.LeafLines.Inside.{InsideFacts}
 use Rattle.md_frame.proofs.PartsFacts.{ReadsLeaf, PartsFacts}
 use Rattle.md_frame.proofs.Stretch.{Stretch, stretch-append, stretch-around, stretch-pair, white-piece}
+use Rattle.md_frame.proofs.ChunkFacts.{in-line}
 
 -- A line, where it stands: it begins at a byte, and ends behind its bytes.
 pub record HasText (bytes line : List ℕ) (p q : Point) : Type 0 where

@@ -21,12 +21,12 @@ use Rattle.md_literal_rooms.proofs.CodeIndented.Grammar.{line_left}
 use Rattle.md_literal_rooms.proofs.CodeIndented.Reads.{parts-read}
 use Rattle.md_literal_rooms.proofs.IndentRemoved.Sites.{is_told_of, line_site}
 use Rattle.md_literal_rooms.proofs.IndentRemoved.Facts.{IsLineName, line-stretch, lost-facts}
-use Rattle.md_frame.proofs.IndentRemoved.Placed.{in-line}
 use Rattle.md_frame.proofs.IndentRemoved.Places.{FurtherAt}
 use Rattle.md_frame.proofs.LeafLines.Inside.{InsideFacts}
 use Rattle.md_frame.proofs.PartsFacts.{ReadsLeaf}
 use Rattle.md_containers.specs.ItemsStand.{IsPart}
 use Rattle.md_frame.proofs.Stretch.{Stretch}
+use Rattle.md_frame.proofs.ChunkFacts.{in-line}
 
 -- The name of its chunk.
 abbrev pub code_chunk : IsLineName n.CodeFlowChunk

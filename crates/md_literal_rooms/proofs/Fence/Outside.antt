@@ -4,7 +4,6 @@ use Rattle.std.specs.Prelude.{◌-◌, ◌==◌, Option, Some, None}
 use Rattle.md_engine.specs.declared.configuration.ParseOptions.{ParseOptions}
 use Rattle.md_engine.specs.declared.event.Content.{Content}
 use Rattle.md_engine.specs.declared.event.Content.TheVariants as content
-use Rattle.md_engine.specs.declared.event.Event.{Event}
 use Rattle.md_engine.specs.declared.event.Name.{Name}
 use Rattle.md_engine.specs.declared.event.Name.TheVariants as n
 use Rattle.md_engine.specs.declared.event.Point.{Point}
@@ -16,12 +15,11 @@ use Rattle.md_code.specs.FenceRule.{run_size}
 use Rattle.md_code.specs.Fence.{is_on}
 use Rattle.md_seam.specs.Ahead.{white_end, white_rest}
 use Rattle.md_seam.specs.Spaces.{small_indent}
-use Rattle.md_seam.specs.Substituted.{wanted}
 use Rattle.md_frame.specs.HeldLeaf.{takes_lazy}
 use Rattle.md_literal_rooms.specs.Leaf.Fence.{fence_keeps, fence_line, linked, or_none}
 use Rattle.md_frame.proofs.ContentFacts.{NoContent}
 use Rattle.md_frame.proofs.EventNames.{is_told, is_lined}
-use Rattle.md_frame.proofs.EachEvent.{Each}
+use Rattle.md_frame.proofs.MarkRuns.Each.{IsNoContent, each-no_content}
 use Rattle.md_literal_rooms.proofs.Fence.Each.{adds-each, is_block_name, is_fence_name, line-each}
 use Rattle.md_frame.proofs.LinedFacts.{AreLined, IsLined}
 
@@ -56,18 +54,11 @@ fence-lined line p =
 
 -- No content stands in it.
 
-abbrev IsNoContent : (Content → Bool) → Event → Type 0
-IsNoContent wants e = (wanted wants e ≡ None) × (is_told e.name ≡ false)
-
-each-none : (wants : Content → Bool) (es : List Event) → Each (IsNoContent wants) es → NoContent wants es
-each-none wants [] h = tt
-each-none wants (e ∷ es) h = (h.0.0, h.0.1, each-none wants es h.1)
-
 pub fence-no_content : (wants : Content → Bool) → wants content.String ≡ false →
     (options : ParseOptions) (leaf : HeldLeaf) (cells : List Cell) (p : Point) →
     NoContent wants (fence_adds options leaf cells p)
 fence-no_content wants w options leaf cells p =
-    each-none wants (fence_adds options leaf cells p)
+    each-no_content wants (fence_adds options leaf cells p)
     (adds-each (IsNoContent wants)
     (λ name is q. ((refl, name-content name is), (refl, name-content name is)))
     (λ name is q. ((refl, block-content name is), (refl, block-content name is)))

@@ -31,7 +31,7 @@ abbrev pub in_line : Expression → ℕ → Expression
 in_line text m = behind n.LineEnding (behind_line text m)
 
 -- what holds of math and of code holds of each marker
-by-marker : (P : Bool → Type 0) (m : ℕ) → P true → P false → P (m == 36)
+pub by-marker : (P : Bool → Type 0) (m : ℕ) → P true → P false → P (m == 36)
 by-marker P m math code = go (m == 36)
   where
     go : (x : Bool) → P x

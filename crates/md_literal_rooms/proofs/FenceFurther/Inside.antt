@@ -21,7 +21,7 @@ use Rattle.md_frame.specs.RestLine.{rest_line}
 use Rattle.md_literal_rooms.specs.Leaf.FenceFurther.{chunk_line, closing_line, closing_part, further_parts, opening_of}
 use Rattle.md_code.specs.Fence.{is_open as is_fence}
 use Rattle.md_frame.specs.LineColumns.{past_columns}
-use Rattle.md_frame.proofs.IndentRemoved.Placed.{columns-stretch, in-line, lost-stretch, over-onward, over-stretch}
+use Rattle.md_frame.proofs.IndentRemoved.Placed.{columns-stretch, lost-stretch, over-onward, over-stretch}
 use Rattle.md_literal_rooms.proofs.FenceFurther.Names.{either-name}
 use Rattle.md_frame.proofs.IndentRemoved.Places.{FurtherAt, has-left}
 use Rattle.md_literal_rooms.proofs.FenceFurther.Places.{HasClosing, has-closing}
@@ -33,6 +33,7 @@ use Rattle.md_frame.proofs.BetweenFacts.{all-more, between-behind, is_low, low-a
 use Rattle.md_containers.specs.ItemsStand.{IsPart}
 use Rattle.md_frame.proofs.Stretch.{IsGroup, IsPiece, Stretch, stretch-append, stretch-around, stretch-pair}
 use Rattle.md_frame.proofs.Stretch.{white-piece}
+use Rattle.md_frame.proofs.ChunkFacts.{in-line}
 
 -- What is left of a line.
 

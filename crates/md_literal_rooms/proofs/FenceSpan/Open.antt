@@ -13,17 +13,9 @@ use Rattle.md_seam.specs.Events.Grammar.{Expression, behind, behind_block, block
 use Rattle.md_seam.specs.Events.Spelled.{FenceLeaf, Fenced, LeafKind, MathLeaf, OfFence}
 use Rattle.md_seam.specs.Events.Spelled.{OfMath, OpenLeaf, LeafRole, block_of, next_line, role}
 use Rattle.md_seam.specs.Events.Tiles.{part_kind}
-use Rattle.md_literal_rooms.proofs.FenceFurther.Grammar.{behind_line, in_line}
+use Rattle.md_literal_rooms.proofs.FenceFurther.Grammar.{behind_line, by-marker, in_line}
 use Rattle.md_literal_rooms.proofs.FenceFurther.Reads.{IsOpen, with_closing, with_lines}
 use Rattle.md_frame.proofs.LeafLines.Leaf.{IsLeafName}
-
--- what holds of math and of code holds of each marker
-pub by-marker : (P : Bool → Type 0) (m : ℕ) → P true → P false → P (m == 36)
-by-marker P m math code = go (m == 36)
-  where
-    go : (x : Bool) → P x
-    go true = math
-    go false = code
 
 -- The name.
 

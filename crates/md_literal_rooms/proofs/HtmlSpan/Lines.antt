@@ -18,13 +18,13 @@ use Rattle.md_literal_rooms.proofs.IndentRemoved.Sites.{is_told_of, line_site}
 use Rattle.md_literal_rooms.proofs.IndentRemoved.Facts.{IsLineName, lost-facts}
 use Rattle.md_literal_rooms.proofs.IndentRemoved.Grammar.{left_over, lost-leads}
 use Rattle.md_literal_rooms.proofs.IndentRemoved.Names.{AreInside, lost-inside}
-use Rattle.md_frame.proofs.IndentRemoved.Placed.{in-line}
 use Rattle.md_frame.proofs.IndentRemoved.Places.{FurtherAt}
 use Rattle.md_frame.proofs.IndentRemoved.Reads.{empty-joined, on-last}
 use Rattle.md_literal_rooms.proofs.IndentRemoved.Reads.{lost-read}
 use Rattle.md_frame.proofs.LeafLines.Inside.{InsideFacts}
 use Rattle.md_frame.proofs.PartsFacts.{ReadsLeaf}
 use Rattle.md_frame.proofs.LeafLines.Leaf.{IsLeafName}
+use Rattle.md_frame.proofs.ChunkFacts.{in-line}
 
 -- The whole line is text of it, its indent inside: a line that loses no columns.
 abbrev pub html_parts : Rest → Point → Point → List Event
