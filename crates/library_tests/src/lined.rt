@@ -303,8 +303,8 @@ fn shows_tables(rt: HostRuntime) {
         // One column, and no body; the text has no outer spaces
         (
             "a\n :-: \n\nb",
-            ".Ta .Ha .Ra .Ca .Xa .xb .cb .rb Lb lc .Ec Wc wd .Fd .Vd .Md .me .Le .lf .Mf .mg .vg Wg wh .fh .eh .hh .th Lh \
-             li Bi bj Pj pk",
+            ".Ta .Ha .Ra .Ca .Xa .xb .cb .rb Lb lc .Ec Wc wd .Fd .Vd .Md .me .Le .lf .Mf .mg .vg Wg wh .fh .eh .hh \
+             .th Lh li Bi bj Pj pk",
             "table+rc|a|-|:-:|p|b|",
         ),
         // A row of an empty cell
