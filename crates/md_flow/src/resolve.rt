@@ -4,7 +4,9 @@ ghost use Rattle.std.specs.Prelude.{◌≡◌, [], IfOk, OnOk};
 ghost use Rattle.std.specs.Option.{option_map};
 ghost use Rattle.md_engine.specs.Found.{found_in};
 ghost use Rattle.md_engine.specs.World.{world};
+ghost use Rattle.md_seam.specs.Events.Nested.{Nested};
 ghost use Rattle.md_registry.specs.Resolving.{resolved_as};
+ghost use Rattle.md_flow.specs.Nests.{MayNestBy};
 
 use md_content::content;
 use md_engine::message::Message;
@@ -14,7 +16,8 @@ use md_engine::tokenizer::Tokenizer;
 use md_registry::choices;
 pub use md_resolve::pass::pass;
 
-/// Runs the resolver of this name; changes nothing for names of the inline layer.
+/// Runs the resolver of this name; changes nothing for names of the inline layer. Events that nest still do, if what the
+/// resolver gets fits it; of content that is not said.
 ///
 /// After an `Err`, which says that memory ran out, the parse has failed and the tokenizer is only dropped.
 pub fn call(tokenizer: &mut Tokenizer, name: Name) -> Result<Option<Subresult>, Message>
@@ -22,6 +25,9 @@ pub fn call(tokenizer: &mut Tokenizer, name: Name) -> Result<Option<Subresult>, 
     ensures frames { OnOk result ((world tokenizer.new).frames ≡ []) }
     ensures resolves { IfOk result
         (λ found. resolved_as name (world tokenizer.old) (option_map found_in found) (world tokenizer.new)) }
+    ensures nested { OnOk result
+        (MayNestBy name (world tokenizer.old).events →
+        Nested (world tokenizer.old).events → Nested (world tokenizer.new).events) }
 {
     match name {
         Name::Content => {
