@@ -54,7 +54,9 @@ fn push_line(text: &mut String, line: &OutlineLine) -> Result<(), AllocError>
 {
     push_front(text, line.depth, line.word)?;
     push_repeated(text, " ", line.spaces)?;
-    text.push_str(line.text)?;
+    if !line.text.is_empty() {
+        text.push_str(line.text)?;
+    }
     text.push('\n')
 }
 
@@ -102,6 +104,7 @@ fn push_indent(text: &mut String, depth: usize) -> Result<(), AllocError>
 }
 
 /// Puts `piece` behind the text, so many times.
+#[inline(always)]
 pub fn push_repeated(text: &mut String, piece: &str, count: usize) -> Result<(), AllocError>
     ensures { OnOk result (string_bytes text.new ≡ string_bytes text.old ++ repeat count piece.now) }
 {
