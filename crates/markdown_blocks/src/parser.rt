@@ -99,6 +99,15 @@ impl<I: Inline> Reader for TextReader<'_, '_, I> {
         self.inline
             .read_into(alloc, kind_of(content), chunks, self.state, events)
     }
+
+    fn plain_text(&self) -> Option<&[u8]> {
+        let TextReader { inline, state } = self;
+        if inline.is_plain() {
+            Some(state.bytes)
+        } else {
+            None
+        }
+    }
 }
 
 /// Takes the byte order mark and the frontmatter at the front of a text, if they are there.

@@ -40,5 +40,9 @@ impl Inline for Plain {
         plain::read_into(alloc, chunks, state, events)
     }
 
+    fn is_plain(&self) -> bool {
+        true
+    }
+
     ghost keeps_frame = { λ plain document. plain-keeps document.bytes };
 }

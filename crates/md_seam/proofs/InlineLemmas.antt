@@ -227,7 +227,7 @@ plain-last bytes chunk h =
     (append-nil (pair_unless_empty n.LineEnding end chunk.after))
     (last-pair o n.LineEnding end chunk.after before (end-before bytes chunk h) [] chunk.after (λ o h. h)))
 
-plain-placed : (bytes : List ℕ) (chunks : List Chunk) → list_all (chunk_placed bytes) chunks ≡ true →
+pub plain-placed : (bytes : List ℕ) (chunks : List Chunk) → list_all (chunk_placed bytes) chunks ≡ true →
     are_placed bytes (together (plain_chunks bytes chunks)) ≡ true
 plain-placed bytes [] h = refl
 plain-placed bytes (chunk ∷ chunks) h =

@@ -1,7 +1,8 @@
 -- A list of events that is rewritten in its own place.
-use Rattle.std.proofs.Common.{◌≡◌, ℕ, ◌+◌, ◌-◌, ◌≤◌, List, [], ◌∷◌, ◌++◌, take, drop, length, sym, ◌∙◌, ap, arith}
+use Rattle.std.proofs.Common.{◌≡◌, ℕ, ◌+◌, ◌-◌, ◌≤◌, List, [], ◌∷◌, ◌++◌, take, drop, length, set, sym, ◌∙◌, ap, arith}
+use Rattle.std.proofs.Common.{◌<◌}
 use Rattle.std.proofs.Math.Seq.{take-add}
-use Rattle.std.proofs.lemmas.List.{drop-drop, drop-take, take_all}
+use Rattle.std.proofs.lemmas.List.{drop-drop, drop-set, drop-set-add, drop-take, take-set, take_all}
 use Rattle.md_engine.specs.declared.event.Event.{Event}
 
 -- one event more is held
@@ -15,6 +16,21 @@ held-more events done read e le front =
     ap (λ (n : ℕ). take n (drop done events)) (omega arith)
     ∙ take-add k 1 (drop done events)
     ∙ ap (λ (es : List Event). take k (drop done events) ++ take 1 es) (at ∙ front)
+
+-- and so is one that is put in its place
+pub held-set : (events : List Event) (done read : ℕ) (e : Event) → done ≤ read → read < length events →
+    take (read + 1 - done) (drop done (set events read e)) ≡ take (read - done) (drop done events) ++ e ∷ []
+held-set events done read e le within =
+    let new : List Event = set events read e in
+    let behind : drop read new ≡ e ∷ drop (read + 1) events = drop-set events read e within in
+    let front : drop read new ≡ e ∷ drop 1 (drop read new) =
+    behind ∙ ap (λ (l : List Event). e ∷ l) (sym (ap (drop 1) behind)) in
+    let at : read ≡ done + (read - done) = omega arith in
+    held-more new done read e le front
+    ∙ ap (λ (l : List Event). l ++ e ∷ [])
+    (ap (λ (n : ℕ). take (read - done) (drop done (set events n e))) at
+    ∙ ap (take (read - done)) (drop-set-add done events (read - done) e)
+    ∙ take-set (drop done events) (read - done) e)
 
 -- so many events more are held
 pub held-many : (events : List Event) (done read count : ℕ) → done ≤ read →

@@ -10,3 +10,4 @@ pub mod Look
 pub mod Substituted
 pub mod Events
 pub mod TextPart
+pub mod Lined

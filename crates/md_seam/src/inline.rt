@@ -1,8 +1,8 @@
 // What the block parser hands to an inline layer: the text parts of a document, each as its chunks.
 
-ghost use Rattle.std.specs.Prelude.{IfOk, List, OnOk};
+ghost use Rattle.std.specs.Prelude.{◌≡◌, IfOk, List, OnOk, true};
 ghost use Rattle.md_engine.specs.declared.event.Event.{Event};
-ghost use Rattle.md_seam.specs.Events.Inline.{KeepsFrame, Part};
+ghost use Rattle.md_seam.specs.Events.Inline.{KeepsFrame, Part, plain_events};
 ghost use Rattle.md_seam.specs.TextPart.{Document, IsTextPart, document_of};
 
 use md_engine::event::{Event, Point};
@@ -69,6 +69,18 @@ pub trait Inline {
     {
         *events = self.read(alloc, kind, chunks, state)?;
         Ok(())
+    }
+
+    /// Whether it may read each part as the plain layer does: `Data` over each line, if it is not empty, and `LineEnding`
+    /// over its ending.
+    ///
+    /// Where it may, the block parser does so itself, in the list of its events, and calls no other method. A layer that
+    /// finds more than lines has the default.
+    fn is_plain(&self) -> bool
+        ensures { result ≡ true → (document : Document) → (part : Part) → IsTextPart document part →
+            reads self.now document part (plain_events document.bytes part) }
+    {
+        false
     }
 
     /// What it gives keeps the promise of every layer.

@@ -1,16 +1,20 @@
 // What the plainest inline layer reads: lines. The layer itself is in `markdown_blocks`, where its law may be proved.
 
-ghost use Rattle.std.specs.Prelude.{◌≡◌, ◌+◌, ◌^◌, ◌<◌, ◌≤◌, ◌++◌, IfOk, IsTrue, OnOk, true, vec_capacity, vec_len};
+ghost use Rattle.std.specs.Prelude.{◌≡◌, ◌+◌, ◌^◌, ◌<◌, ◌≤◌, ◌++◌, IfOk, IsTrue, OnOk, drop, length, true};
+ghost use Rattle.std.specs.Prelude.{vec_capacity, vec_len};
 ghost use Rattle.std.specs.List.{list_all};
 ghost use Rattle.md_engine.specs.declared.event.Name.{Name};
 ghost use Rattle.md_seam.specs.Events.Inline.{ends_whole, is_line, line_end, pair_unless_empty, plain_chunk};
 ghost use Rattle.md_seam.specs.Events.Inline.{plain_chunks, together};
 ghost use Rattle.md_meaning.specs.Lines.{is_ending};
+ghost use Rattle.md_seam.specs.Lined.{IsLine};
 ghost use Rattle.md_seam.specs.Parts.{AreChunks, IsChunk};
+ghost use Rattle.md_seam.specs.Rewritten.{given_of, left_of};
 ghost use Rattle.md_seam.specs.Events.Nested.{pair};
 ghost use Rattle.md_seam.specs.Events.Places.{past_byte};
 
 use crate::inline::Chunk;
+use crate::rewriting::Rewriting;
 use md_engine::class::Class;
 use md_engine::event::{Event, Kind, Name, Point};
 use md_engine::message::Message;
@@ -137,6 +141,37 @@ fn write_chunk(bytes: &[u8], chunk: &Chunk, events: &mut Vec<Event>)
     } else {
         write_line(bytes, chunk, events);
     }
+}
+
+/// Gives the events of a chunk, those of its line and of its ending, in the place of the two events that are left first.
+/// Most parts are one line without an ending, where this is not called, so its code is kept apart.
+#[inline(never)]
+fn put_line(bytes: &[u8], chunk: &Chunk, all: &mut Rewriting) -> Result<(), Message>
+    requires chunk { IsChunk bytes.now chunk.now }
+    requires two { 1 < length (left_of all.old) }
+    ensures left { left_of all.new ≡ drop 2 (left_of all.old) }
+    ensures given { OnOk result (given_of all.new ≡ given_of all.old ++ plain_chunk bytes.now chunk.now) }
+{
+    let end = line_end(bytes, chunk);
+    all.skip(2);
+    all.push_unless_empty(Name::Data, chunk.first, end)?;
+    all.push_unless_empty(Name::LineEnding, end, chunk.after)
+}
+
+/// Gives the events of a chunk in the place of the two events that are left first. A line without an ending is `Data` as
+/// a whole, which is held where these were.
+#[inline(always)]
+pub fn put_chunk(bytes: &[u8], chunk: &Chunk, all: &mut Rewriting) -> Result<(), Message>
+    requires line { IsLine bytes.now chunk.now }
+    requires two { 1 < length (left_of all.old) }
+    ensures left { left_of all.new ≡ drop 2 (left_of all.old) }
+    ensures given { OnOk result (given_of all.new ≡ given_of all.old ++ plain_chunk bytes.now chunk.now) }
+{
+    if is_without_ending(bytes, chunk) {
+        all.hold_pair(Name::Data, chunk.first, chunk.after);
+        return Ok(());
+    }
+    put_line(bytes, chunk, all)
 }
 
 /// The events of a part of these chunks, in place of those in `events`: `Data` over each line, if it is not empty, and

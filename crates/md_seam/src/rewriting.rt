@@ -1,6 +1,8 @@
 // A list of events that is rewritten in its own place.
 
 ghost use Rattle.std.specs.Prelude.{◌≡◌, ◌≤◌, ◌<◌, ◌+◌, [], ◌∷◌, ◌++◌, IfNone, IfSome, OnOk, drop, length, take};
+ghost use Rattle.md_seam.specs.Events.Inline.{pair_unless_empty};
+ghost use Rattle.md_seam.specs.Events.Nested.{pair};
 
 use crate::moving::{move_down, move_up};
 use md_engine::event::{Event, Kind, Name, Point};
@@ -102,6 +104,38 @@ impl Rewriting {
         self.read += count;
     }
 
+    /// Reads the event that is left first, and holds another in its place.
+    fn hold_as(&mut self, event: Event)
+        requires { 0 < length (left_of self.old) }
+        ensures left { left_of self.new ≡ drop 1 (left_of self.old) }
+        ensures held { held_of self.new ≡ held_of self.old ++ event ∷ [] }
+        ensures written { written_of self.new ≡ written_of self.old }
+    {
+        self.events[self.read] = event;
+        self.read += 1;
+    }
+
+    /// Reads the two events that are left first, and holds a part of this name in their place.
+    pub fn hold_pair(&mut self, name: Name, first: Point, after: Point)
+        requires { 1 < length (left_of self.old) }
+        ensures left { left_of self.new ≡ drop 2 (left_of self.old) }
+        ensures held { held_of self.new ≡ held_of self.old ++ pair name first after }
+        ensures written { written_of self.new ≡ written_of self.old }
+    {
+        self.hold_as(Event {
+            kind: Kind::Enter,
+            name,
+            point: first,
+            link: None,
+        });
+        self.hold_as(Event {
+            kind: Kind::Exit,
+            name,
+            point: after,
+            link: None,
+        });
+    }
+
     /// How many events are held.
     pub fn held(&self) -> usize
         ensures { result ≡ length (held_of self.now) }
@@ -199,6 +233,7 @@ impl Rewriting {
         ensures left { left_of self.new ≡ left_of self.old }
         ensures held { held_of self.new ≡ held_of self.old }
         ensures written { written_of self.new ≡ written_of self.old ++ event ∷ [] }
+        ensures room { (self.new.written ≡ self.old.written + 1) × (self.new.done ≡ self.old.done) }
     {
         self.events[self.written] = event;
         self.written += 1;
@@ -212,6 +247,37 @@ impl Rewriting {
     {
         self.make_room(1)?;
         self.put(event);
+        Ok(())
+    }
+
+    /// Writes a part of this name, in front of the events that are held, or nothing if it would be empty.
+    pub fn push_unless_empty(
+        &mut self,
+        name: Name,
+        first: Point,
+        after: Point,
+    ) -> Result<(), Message>
+        ensures left { left_of self.new ≡ left_of self.old }
+        ensures held { held_of self.new ≡ held_of self.old }
+        ensures written { OnOk result
+            (written_of self.new ≡ written_of self.old ++ pair_unless_empty name first after) }
+    {
+        if first.index == after.index && first.vs == after.vs {
+            return Ok(());
+        }
+        self.make_room(2)?;
+        self.put(Event {
+            kind: Kind::Enter,
+            name,
+            point: first,
+            link: None,
+        });
+        self.put(Event {
+            kind: Kind::Exit,
+            name,
+            point: after,
+            link: None,
+        });
         Ok(())
     }
 

@@ -4,16 +4,18 @@
 // one part, and the events of this part replace those of the chunks.
 
 ghost use Rattle.std.specs.Prelude.{◌≡◌, ℕ, ◌+◌, ◌-◌, ◌<◌, ◌≤◌, ◌∷◌, ◌++◌, Bool, IfOk, List, OnOk, [], drop, length};
-ghost use Rattle.std.specs.Prelude.{take};
+ghost use Rattle.std.specs.Prelude.{IfNone, IfSome, take};
 ghost use Rattle.std.specs.List.{prefix_len};
 ghost use Rattle.md_engine.specs.declared.event.Content.{Content};
+ghost use Rattle.md_seam.specs.Lined.{BeginsWith, EachLine, ReadsLines, lined};
 ghost use Rattle.md_seam.specs.Parts.{AreChunks, ArePlaced};
-ghost use Rattle.md_seam.specs.Rewritten.{held_of, left_of, written_of};
+ghost use Rattle.md_seam.specs.Rewritten.{given_of, held_of, left_of, written_of};
 ghost use Rattle.md_seam.specs.Substituted.{Asked, Begun, EachAsked, Readings, Substituted, belongs, chunk_of, chunks_from, is_plain_prefix};
 ghost use Rattle.md_seam.specs.Substituted.{share, stays, wanted};
 
 use crate::inline::Chunk;
 pub use crate::names::is_prefix;
+use crate::plain;
 use crate::rewriting::Rewriting;
 use crate::walks::{Test, passing};
 use md_engine::event::{Content, Event, Kind, Name};
@@ -50,6 +52,14 @@ pub trait Reader {
         requires asked { may_read self.now content chunks.now }
         ensures placed { OnOk result (ArePlaced (text self.now) events.new.items) }
         ensures reading { OnOk result (reads_as self.now content chunks.now events.new.items) };
+
+    /// The text, if it may read each part as the plain layer does.
+    fn plain_text(&self) -> Option<&[u8]>
+        ensures text { IfSome result (λ bytes. bytes.now ≡ text self.now) }
+        ensures lines { IfSome result (λ bytes. ReadsLines (text self.now) (may_read self.now) (reads_as self.now)) }
+    {
+        None
+    }
 }
 
 /// What was found in a part, and how many of these events are in their place.
@@ -246,9 +256,49 @@ impl Found {
     }
 }
 
-/// The events with what `reader` finds in the places of the parts that it reads, in the list of the events.
-#[inline(never)]
-pub fn subtokenize<R: Reader>(
+/// Holds the events that stay as they are, up to the next chunk that is read, and returns this chunk.
+#[inline(always)]
+fn next_chunk<R: Reader>(reader: &R, all: &mut Rewriting) -> Option<Chunk>
+    ensures left { let many = prefix_len (stays (R.wants reader.now)) (left_of all.old) in
+        left_of all.new ≡ drop many (left_of all.old) }
+    ensures given { let many = prefix_len (stays (R.wants reader.now)) (left_of all.old) in
+        given_of all.new ≡ given_of all.old ++ take many (left_of all.old) }
+    ensures some { IfSome result (λ chunk. BeginsWith (R.wants reader.now) chunk (left_of all.new)) }
+    ensures none { IfNone result (length (left_of all.new) < 2) }
+{
+    let many = staying(reader, all.left());
+    all.hold_many(many);
+    let left = all.left();
+    if left.len() < 2 {
+        return None;
+    }
+    Some(Chunk {
+        first: left[0].point,
+        after: left[1].point,
+    })
+}
+
+/// The events with what the plain layer gives in the places of the chunks that are read, in the list of the events.
+fn read_lines<R: Reader>(
+    reader: &R,
+    bytes: &[u8],
+    events: Vec<Event>,
+) -> Result<Vec<Event>, Message>
+    requires { EachLine (R.wants reader.now) bytes.now events.items }
+    ensures { IfOk result (λ all. all.items ≡ lined (R.wants reader.now) bytes.now events.items) }
+{
+    let mut all = Rewriting::new(events);
+    while let Some(chunk) = next_chunk(reader, &mut all) {
+        plain::put_chunk(bytes, &chunk, &mut all)?;
+    }
+    let rest = all.left().len();
+    all.hold_many(rest);
+    all.give();
+    Ok(all.finish())
+}
+
+/// The events with what `reader` reads part by part in the places of the parts, in the list of the events.
+fn read_parts<R: Reader>(
     alloc: Global,
     reader: &R,
     events: Vec<Event>,
@@ -277,4 +327,23 @@ pub fn subtokenize<R: Reader>(
     }
     all.give();
     Ok(all.finish())
+}
+
+/// The events with what `reader` finds in the places of the parts that it reads, in the list of the events.
+#[inline(never)]
+pub fn subtokenize<R: Reader>(
+    alloc: Global,
+    reader: &R,
+    events: Vec<Event>,
+) -> Result<Vec<Event>, Message>
+    requires placed { ArePlaced (R.text reader.now) events.items }
+    requires asked { EachAsked (R.wants reader.now) (R.may_read reader.now) 0 events.items }
+    ensures placed { IfOk result (λ all. ArePlaced (R.text reader.now) all.items) }
+    ensures substituted { IfOk result
+        (λ all. Substituted (R.wants reader.now) (R.reads_as reader.now) [] 0 events.items all.items) }
+{
+    match reader.plain_text() {
+        Some(bytes) => read_lines(reader, bytes, events),
+        None => read_parts(alloc, reader, events),
+    }
 }

@@ -1,27 +1,11 @@
-use Rattle.std.proofs.Common.{◌≡◌, ◌^◌, ◌<◌, ℕ, true, List, [], ◌∷◌, length, subst, sym}
-use Rattle.std.proofs.lemmas.Bool.{and_parts}
-use Rattle.std.proofs.lemmas.List.Elements.{All-cons, All-nil}
+use Rattle.std.proofs.Common.{List, subst, sym}
 use Rattle.std.proofs.lemmas.Result.{on_ok_weaker}
 use Rattle.md_engine.specs.declared.event.Event.{Event}
-use Rattle.md_engine.specs.Place.{IsPlaced}
 use Rattle.md_seam.specs.declared.inline.PartKind.{PartKind}
 use Rattle.md_seam.specs.Events.Inline.{Part}
-use Rattle.md_seam.specs.Events.Places.{are_placed, is_placed}
-use Rattle.md_seam.specs.Parts.{ArePlaced}
 use Rattle.md_seam.specs.TextPart.{Document, IsTextPart, document_of}
-use Rattle.md_seam.proofs.TextParts.{text-part}
-use Rattle.md_seam.proofs.WalkedLemmas.{placed-point}
+use Rattle.md_seam.proofs.TextParts.{placed-events, text-part}
 use Rattle.markdown_blocks.proofs.parser.TextReaderReader.read.Goals as goal
-
--- events at points of the text are placed in it
-placed-events : (bytes : List ℕ) → length bytes < 2 ^ 61 → (events : List Event) → are_placed bytes events ≡ true →
-    ArePlaced bytes events
-placed-events bytes sized [] placed = All-nil (λ (e : Event). IsPlaced bytes e.point)
-placed-events bytes sized (e ∷ events) placed =
-    let both : (is_placed bytes e.point ≡ true) × (are_placed bytes events ≡ true) =
-    and_parts (is_placed bytes e.point) (are_placed bytes events) placed in
-    All-cons (λ (e : Event). IsPlaced bytes e.point) e events (placed-point bytes sized e.point both.0)
-    (placed-events bytes sized events both.1)
 
 pub read_into-requires : goal.read_into-requires
 read_into-requires g c =

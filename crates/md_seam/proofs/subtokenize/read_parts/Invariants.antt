@@ -3,7 +3,7 @@ use Rattle.md_seam.specs.Parts.{ArePlaced}
 use Rattle.md_seam.specs.Rewritten.{given_of, left_of}
 use Rattle.md_seam.specs.Substituted.{EachAsked}
 use Rattle.md_seam.proofs.SubstitutedLemmas.{Leads}
-use Rattle.md_seam.proofs.subtokenize.subtokenize.Given as goal
+use Rattle.md_seam.proofs.subtokenize.read_parts.Given as goal
 
 abbrev pub invariant-loop-event : goal.invariant-loop-event
 invariant-loop-event g l = record {

@@ -1,0 +1,12 @@
+use Rattle.md_seam.specs.Events.Inline.{Part}
+use Rattle.md_seam.specs.TextPart.{Document, document_of, text_kind}
+use Rattle.md_seam.proofs.TextParts.{text-lines}
+use Rattle.markdown_blocks.proofs.parser.TextReaderReader.plain_text.Goals as goal
+
+pub returns-then-is_plain-clause-lines : goal.returns-then-is_plain-clause-lines
+returns-then-is_plain-clause-lines g c = λ content chunks is.
+    let document : Document = document_of c.args.self.now.state.now in
+    let part : Part = record { kind = text_kind content; chunks = chunks } in (
+      text-lines document part is,
+      c.is_plain.ensures c.if-is_plain.true document part is,
+    )
