@@ -4,7 +4,7 @@
 // one part, and the events of this part replace those of the chunks.
 
 ghost use Rattle.std.specs.Prelude.{◌≡◌, ℕ, ◌+◌, ◌-◌, ◌<◌, ◌≤◌, ◌∷◌, ◌++◌, Bool, IfOk, List, OnOk, [], drop, length};
-ghost use Rattle.std.specs.Prelude.{IfNone, IfSome, take};
+ghost use Rattle.std.specs.Prelude.{IfNone, IfSome, nat_lt, take};
 ghost use Rattle.std.specs.List.{prefix_len};
 ghost use Rattle.md_engine.specs.declared.event.Content.{Content};
 ghost use Rattle.md_seam.specs.Lined.{BeginsWith, EachLine, ReadsLines, lined};
@@ -64,7 +64,7 @@ pub trait Reader {
 
 /// What was found in a part, and how many of these events are in their place.
 #[derive(Drop)]
-struct Found {
+pub struct Found {
     events: Vec<Event>,
     placed: usize,
     /// How many chunks of the part are left.
@@ -85,7 +85,7 @@ fn chunk_content<R: Reader>(reader: &R, event: &Event) -> Option<Content>
 }
 
 /// Appends the chunk between two events, or changes nothing.
-fn push_chunk(chunks: &mut Vec<Chunk>, first: &Event, after: &Event) -> Result<(), Message>
+pub fn push_chunk(chunks: &mut Vec<Chunk>, first: &Event, after: &Event) -> Result<(), Message>
     ensures { OnOk result (chunks.new.items ≡ chunks.old.items ++ chunk_of first.now after.now ∷ []) }
 {
     let chunk = Chunk {
@@ -185,7 +185,7 @@ fn belonging(events: &[Event], end: usize) -> usize
 
 impl Found {
     /// Nothing, found in no chunk.
-    fn nothing(alloc: Global) -> Found
+    pub fn nothing(alloc: Global) -> Found
         ensures events { result.events.items ≡ [] }
         ensures placed { result.placed ≡ 0 }
         ensures chunks { result.chunks ≡ 0 }
@@ -228,9 +228,37 @@ impl Found {
         Ok(())
     }
 
+    /// Whether chunks of a part are left.
+    pub fn is_begun(&self) -> bool
+        ensures { result ≡ nat_lt 0 self.now.chunks }
+    {
+        self.chunks > 0
+    }
+
+    /// Reads the part in these chunks.
+    pub fn read<R: Reader>(
+        &mut self,
+        alloc: Global,
+        reader: &R,
+        content: Content,
+        chunks: &[Chunk],
+    ) -> Result<(), Message>
+        requires chunks { AreChunks (R.text reader.now) chunks.now }
+        requires asked { R.may_read reader.now content chunks.now }
+        ensures placed { OnOk result (ArePlaced (R.text reader.now) self.new.events.items) }
+        ensures reading { OnOk result
+            (R.reads_as reader.now content chunks.now (drop self.new.placed self.new.events.items)) }
+        ensures chunks { OnOk result (self.new.chunks ≡ length chunks.now) }
+    {
+        self.placed = 0;
+        reader.read(alloc, content, chunks, &mut self.events)?;
+        self.chunks = chunks.len();
+        Ok(())
+    }
+
     /// Writes what belongs to the next chunk, which ends at the byte `end`.
     #[inline(always)]
-    fn place(&mut self, events: &mut Rewriting, end: usize) -> Result<(), Message>
+    pub fn place(&mut self, events: &mut Rewriting, end: usize) -> Result<(), Message>
         requires { 0 < self.old.chunks }
         ensures same { self.new.events ≡ self.old.events }
         ensures chunks { OnOk result (self.new.chunks + 1 ≡ self.old.chunks) }
