@@ -3,6 +3,7 @@ pub mod LineCells
 pub mod GapLines
 pub mod GapWhole
 pub mod DestinationWhole
+pub mod PlainDestination
 pub mod CellLineLemmas
 pub mod DefinitionTermination
 pub mod DestinationTermination

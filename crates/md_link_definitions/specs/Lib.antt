@@ -14,3 +14,4 @@ pub mod WholeCells
 pub mod Progress
 pub mod Head
 pub mod OpenText
+pub mod PlainDestination

@@ -8,6 +8,7 @@ pub mod destination;
 pub mod head;
 pub mod label;
 pub mod open_text;
+pub mod plain_destination;
 pub mod progress;
 pub mod space_or_tab_eol;
 pub mod title;

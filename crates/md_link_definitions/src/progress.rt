@@ -4,6 +4,7 @@
 ghost use Rattle.std.specs.Prelude.{◌≡◌};
 ghost use Rattle.md_link_definitions.specs.Progress as progress;
 
+use crate::plain_destination::is_plain_destination;
 use md_engine::tokenizer::{HeldLeaf, Progress};
 use md_grammars::ahead::{after_optional, begins_with};
 use md_grammars::bytes::{is_blank, is_parted, trim_start};
@@ -49,10 +50,13 @@ fn behind_destination(rest: &[u8]) -> Progress
     }
 }
 
-/// Behind a line where a destination is next.
+/// Behind a line where a destination is next. Most lines are one.
 fn destination_on(line: &[u8]) -> Progress
     ensures { result ≡ progress.destination_on line.now }
 {
+    if is_plain_destination(line) {
+        return Progress::Untitled;
+    }
     match destination_at(line) {
         Some(destination) => behind_destination(destination.rest),
         None => Progress::Left,
