@@ -114,7 +114,7 @@ inside-line w seen is = go w.current seen is
     go (Some b) e k = seen-inside w.setting w.point b (sym e)
 
 -- a state that takes it byte after byte
-takes-so : (name : StateName) → TakesEach Line name (flow_transition name) → TakesSo FlowStep name Line
+pub takes-so : (name : StateName) → TakesEach Line name (flow_transition name) → TakesSo FlowStep name Line
 takes-so name each w b e h =
     let is = each (reading w) b e h in
     record { to_is = sym (ap (λ (a : Transition). a.to) is); new_is = sym (ap (λ (a : Transition). a.world) is) }

@@ -1,16 +1,25 @@
 -- What functions that take several states in one call know of the states in front of them and behind them.
-use Rattle.std.specs.Prelude.{◌≡◌, ℕ, ◌+◌, ◌<◌, ◌⊎◌, ◌==◌, Bool, true, false, List, ◌∷◌, Some, slice_index}
+use Rattle.std.specs.Prelude.{◌≡◌, ℕ, ◌+◌, ◌<◌, ◌⊎◌, ◌==◌, Bool, true, false, List, [], ◌∷◌, ◌++◌, Some, length}
+use Rattle.std.specs.Prelude.{slice_index}
 use Rattle.md_engine.specs.declared.state.Name.{Name as StateName}
 use Rattle.md_engine.specs.declared.state.Name.TheVariants as n
 use Rattle.md_engine.specs.declared.state.State.{State}
-use Rattle.md_engine.specs.declared.state.State.TheVariants.{Next}
+use Rattle.md_engine.specs.declared.state.State.TheVariants.{Next, Nok}
+use Rattle.md_engine.specs.declared.state.flow.State.TheVariants as flow
 use Rattle.md_engine.specs.declared.tokenizer.Frame.{Frame}
+use Rattle.md_engine.specs.declared.event.Kind.TheVariants.{Enter}
+use Rattle.md_engine.specs.declared.event.Name.TheVariants.{Content}
+use Rattle.md_engine.specs.declared.resolve.name.Name.TheVariants.{Content as ContentResolver}
+use Rattle.md_engine.specs.declared.event.Point.{Point}
 use Rattle.md_engine.specs.Going.{SeesOn}
 use Rattle.md_engine.specs.Run.{RunsHere}
-use Rattle.md_engine.specs.World.{World, looks}
+use Rattle.md_engine.specs.World.{World, looks, registered_before}
+use Rattle.md_content.specs.Chunks.{begun, content_link, rest_taken, unbegun}
+use Rattle.md_link_definitions.specs.OpenText.{text_behind}
 use Rattle.md_code.specs.Fence.{cleared, held_marker, line_entered}
 use Rattle.md_meaning.specs.Ascii.{caret, left_bracket}
 use Rattle.md_meaning.specs.Rest.{is_white}
+use Rattle.md_seam.specs.Events.Nested.{exit}
 use Rattle.md_seam.specs.Look.{looks_behind}
 use Rattle.md_seam.specs.Spaces.{calmed, sees_white}
 use Rattle.md_registry.specs.AtOnce.{opens_none}
@@ -24,6 +33,38 @@ pub record IsTried (shuts : Bool) (w : World) : Type 0 where
   pub frames : w.frames ≡ frame ∷ outer
   pub moves_on : frame.is_check ≡ false
   pub ok : frame.ok ≡ Next (n.Flow (leaf_end shuts))
+
+-- an attempt at a line of content that begins behind so many events, at this point
+abbrev pub line_frame : ℕ → Point → Frame
+line_frame count p = record {
+  ok = Next (n.Flow flow.After);
+  nok = Nok;
+  is_check = false;
+  events_len = count;
+  point = p;
+}
+
+-- it has begun, and the line, at a point in front of that where the tokenizer stands
+abbrev pub line_tried : Point → World → World
+line_tried p w = record w {
+  events = w.events
+      ++ record { kind = Enter; name = Content; point = p; link = Some content_link } ∷ [];
+  frames = line_frame (length w.events) p ∷ w.frames;
+  scratch = begun p w.scratch;
+}
+
+-- a line of content stands from a point up to where the tokenizer stands, and is held as text
+abbrev pub line_added : Point → World → World
+line_added p w = record w {
+  events = w.events
+      ++ record { kind = Enter; name = Content; point = p; link = Some content_link }
+      ∷ exit Content w.point ∷ [];
+  resolvers = registered_before w.resolvers ContentResolver;
+  scratch = unbegun w.scratch;
+  flags = record w.flags {
+    leaf = text_behind w.flags.leaf (rest_taken w.setting.bytes (begun p w.scratch) w.point);
+  };
+}
 
 -- a run from a state to an answer, where it leaves the tokenizer so
 abbrev pub Goes : StateName → World → State → World → Type 0

@@ -3,31 +3,36 @@
 // The states of the document, of flow and of constructs are called one after another. Where one look tells what several
 // of them do (a prefix is taken as a whole, no container opens with a byte, a line is content), these functions do the
 // same in one call; each has in its contract that it is a run of those states (`RunsHere`). A line of content is
-// taken as a whole, the attempt at it is left, and it ends in the same call. The pages of the states can be read
-// without them.
+// taken as a whole and ends in the same call; where its end can be read no attempt begins. The pages of the states can
+// be read without them.
 
-ghost use Rattle.std.specs.Prelude.{Bool, IfSome, false, true, ◌≡◌, ◌≢◌};
+ghost use Rattle.std.specs.Prelude.{Bool, IfSome, OnOk, false, length, true, ◌≡◌, ◌≢◌, ◌<◌, ◌≤◌, ◌^◌};
+ghost use Rattle.md_content.specs.Chunks.{begun, line_taken};
 ghost use Rattle.md_engine.specs.Going.{SeesOn};
+ghost use Rattle.md_engine.specs.Place.{IsPlaced};
 ghost use Rattle.md_engine.specs.Run.{Runs, RunsHere};
 ghost use Rattle.md_engine.specs.Scheme.{stands};
 ghost use Rattle.md_engine.specs.World.{World, looks, world};
 ghost use Rattle.md_engine.specs.declared.state.Name.{Name as StateName};
 ghost use Rattle.md_engine.specs.declared.state.State.{State};
-ghost use Rattle.md_engine.specs.declared.state.content.State.{State as ContentState};
 ghost use Rattle.md_engine.specs.declared.state.document.State.{State as DocumentState};
-ghost use Rattle.md_flow.specs.AtOnce.{GoesOn, IsNoLabel, IsTried, OpensNone};
+ghost use Rattle.md_flow.specs.AtOnce.{GoesOn, IsNoLabel, IsTried, OpensNone, line_added, line_tried};
 ghost use Rattle.md_registry.specs.AtOnce.{GoesAtOnce, asking_next, openers_passed};
 ghost use Rattle.md_containers.specs.PlainBullet.{IsPlainBullet};
 ghost use Rattle.md_registry.specs.Registry.{opener_front, openers};
 ghost use Rattle.md_registry.specs.Flow.{leaf_end};
 ghost use Rattle.md_registry.specs.States.{FlowStep, flow_table_scheme, is_flow_own};
+ghost use Rattle.md_seam.specs.Lent.{whole_from};
 ghost use Rattle.md_seam.specs.Transition.{IsAt, NeedsNothing};
 ghost use Rattle.md_engine.specs.declared.state.flow.State.{State as FlowState};
 ghost use Rattle.md_engine.specs.declared.state.heading_atx.State.{State as HeadingState};
 
+use crate::parts::add_part;
 use crate::{constructs, document, fences, flow};
-use md_content::content;
+use md_engine::event::{Content, Event, Kind, Link, Name, Point};
+use md_engine::message::Message;
 use md_engine::or_error;
+use md_engine::resolve::Name as ResolveName;
 use md_engine::state::content::State as ContentState;
 use md_engine::state::document::State as DocumentState;
 use md_engine::state::flow::State as FlowState;
@@ -36,8 +41,9 @@ use md_engine::state::heading_atx::State as HeadingState;
 use md_engine::state::space_or_tab::State as WhiteState;
 use md_engine::state::{Name as StateName, State};
 use md_engine::table::leave;
-use md_engine::tokenizer::{Container, Tokenizer};
+use md_engine::tokenizer::{Container, Frame, Tokenizer};
 use md_leaves::{blank_line, heading_atx};
+use md_link_definitions::open_text::text_behind;
 use md_registry::choices;
 use md_seam::space_or_tab;
 use md_tables::row::{Row, place_of};
@@ -105,56 +111,90 @@ pub fn opens_at_once(tokenizer: &mut Tokenizer) -> State
     document::container_new_after(tokenizer)
 }
 
-/// In a chunk of content: the rest of its line is taken at once.
-#[inline(always)]
-fn chunk(tokenizer: &mut Tokenizer) -> State
-    requires { IsAt NeedsNothing (StateName.Content ContentState.ChunkInside) (world tokenizer.old) }
-    ensures runs { result ≢ State.Error →
-        RunsHere FlowStep
-        (StateName.Content ContentState.ChunkInside) (world tokenizer.old) result (world tokenizer.new) }
-    ensures sees { result ≢ State.Error → SeesOn result (world tokenizer.old) (world tokenizer.new) }
-{
-    if blank_line::ends_line(tokenizer.current) {
-        return content::chunk_inside(tokenizer);
-    }
-    tokenizer.see_line();
-    if tokenizer.see_or_wait(false) {
-        return State::Next(StateName::Content(ContentState::ChunkInside));
-    }
-    content::chunk_inside(tokenizer)
-}
+/// The link of a line of content, which is read when all lines are known.
+const CONTENT_LINK: Link = Link {
+    previous: false,
+    next: false,
+    content: Content::Content,
+};
 
-/// At the start of a chunk of content: its line is taken at once.
+/// The first byte that does not begin before a point.
 #[inline(always)]
-fn chunk_begins(tokenizer: &mut Tokenizer) -> State
-    requires { IsAt NeedsNothing (StateName.Content ContentState.ChunkStart) (world tokenizer.old) }
-    ensures runs { result ≢ State.Error →
-        RunsHere FlowStep
-        (StateName.Content ContentState.ChunkStart) (world tokenizer.old) result (world tokenizer.new) }
-    ensures sees { result ≢ State.Error → SeesOn result (world tokenizer.old) (world tokenizer.new) }
+fn whole_from(point: Point) -> usize
+    requires { point.index < 2 ^ 62 }
+    ensures { result ≡ whole_from point }
 {
-    match content::chunk_start(tokenizer) {
-        State::Retry(StateName::Content(ContentState::ChunkInside)) => chunk(tokenizer),
-        state => state,
+    if point.vs > 0 {
+        point.index + 1
+    } else {
+        point.index
     }
 }
 
-/// Before content: its line is taken at once.
-#[inline(always)]
-fn content_taken(tokenizer: &mut Tokenizer) -> State
-    requires { IsAt NeedsNothing (StateName.Flow FlowState.BeforeContent) (world tokenizer.old) }
-    ensures runs { result ≢ State.Error →
-        RunsHere FlowStep
-        (StateName.Flow FlowState.BeforeContent) (world tokenizer.old) result (world tokenizer.new) }
-    ensures sees { result ≢ State.Error → SeesOn result (world tokenizer.old) (world tokenizer.new) }
+/// Begins an attempt at a line of content, and the line, at a point in front of that where the tokenizer stands.
+#[inline(never)]
+fn content_tried(tokenizer: &mut Tokenizer, from: Point) -> Result<(), Message>
+    requires { IsPlaced (world tokenizer.old).setting.bytes from }
+    ensures { OnOk result (world tokenizer.new ≡ line_tried from (world tokenizer.old)) }
 {
-    match flow::before_content(tokenizer) {
-        State::Retry(StateName::Content(ContentState::ChunkStart)) => chunk_begins(tokenizer),
-        state => state,
+    if tokenizer.frames.reserve(1).is_err() || tokenizer.events.reserve(1).is_err() {
+        return Err(Message);
     }
+    let frame = Frame {
+        ok: State::Next(StateName::Flow(FlowState::After)),
+        nok: State::Nok,
+        is_check: false,
+        events_len: tokenizer.events.len(),
+        point: from,
+    };
+    let first = Event {
+        kind: Kind::Enter,
+        name: Name::Content,
+        point: from,
+        link: Some(CONTENT_LINK),
+    };
+    tokenizer.frames.push_reserved(frame);
+    tokenizer.events.push_reserved(first);
+    tokenizer.scratch.start = whole_from(from);
+    tokenizer.scratch.size = from.column.saturating_sub(1);
+    tokenizer.scratch.seen = from.vs > 0;
+    Ok(())
 }
 
-/// Before content: its line is taken at once, and ends.
+/// The bytes of a line from a point up to where the tokenizer stands.
+#[inline(always)]
+fn line_from<'a>(tokenizer: &Tokenizer<'a>, from: Point) -> &'a [u8]
+    requires placed { IsPlaced (world tokenizer.now).setting.bytes from }
+    requires order { whole_from from ≤ whole_from (world tokenizer.now).point }
+    ensures value { let w = world tokenizer.now in
+        result.now ≡ line_taken w.setting.bytes (begun from w.scratch) w.point }
+    ensures bound { length result.now < 2 ^ 61 }
+{
+    let bytes = tokenizer.bytes;
+    &bytes[whole_from(from)..whole_from(tokenizer.point)]
+}
+
+/// Adds a line of content from a point up to where the tokenizer stands, and holds it as text.
+#[inline(always)]
+fn content_added(tokenizer: &mut Tokenizer, from: Point) -> Result<(), Message>
+    requires placed { IsPlaced (world tokenizer.old).setting.bytes from }
+    requires order { whole_from from ≤ whole_from (world tokenizer.old).point }
+    ensures { OnOk result (world tokenizer.new ≡ line_added from (world tokenizer.old)) }
+{
+    let line = line_from(tokenizer, from);
+    let to = tokenizer.point;
+    add_part(tokenizer, Name::Content, Some(CONTENT_LINK), from, to)?;
+    tokenizer.register_resolver_before(ResolveName::Content)?;
+    let column = from.column.saturating_sub(1);
+    tokenizer.flags.leaf = text_behind(tokenizer.flags.leaf, column, from.vs > 0, line);
+    tokenizer.scratch.start = 0;
+    tokenizer.scratch.size = 0;
+    tokenizer.scratch.seen = false;
+    Ok(())
+}
+
+/// Before content: its line is taken at once, and ends. An attempt begins only where the line may continue behind what
+/// may be read; then the point stays where that ends, so that nothing is seen twice.
 #[inline(always)]
 fn content_begins(tokenizer: &mut Tokenizer) -> State
     requires { IsAt NeedsNothing (StateName.Flow FlowState.BeforeContent) (world tokenizer.old) }
@@ -163,8 +203,17 @@ fn content_begins(tokenizer: &mut Tokenizer) -> State
         (StateName.Flow FlowState.BeforeContent) (world tokenizer.old) result (world tokenizer.new) }
     ensures sees { result ≢ State.Error → SeesOn result (world tokenizer.old) (world tokenizer.new) }
 {
-    let to = content_taken(tokenizer);
-    end(tokenizer, to)
+    if blank_line::ends_line(tokenizer.current) {
+        return flow::before_content(tokenizer);
+    }
+    let from = tokenizer.point;
+    tokenizer.see_line();
+    if tokenizer.see_or_wait(false) {
+        or_error!(content_tried(tokenizer, from));
+        return State::Next(StateName::Content(ContentState::ChunkInside));
+    }
+    or_error!(content_added(tokenizer, from));
+    line_end(tokenizer)
 }
 
 /// At the start of an ATX heading: it begins with its opening sequence in the same call.

@@ -35,6 +35,7 @@ ghost use Rattle.md_registry.specs.Flow.{opener_transition};
 ghost use Rattle.md_registry.specs.FlowRule.{DocumentMeans, HasOpen};
 ghost use Rattle.md_registry.specs.Registry.{opener_at};
 
+use crate::parts::add_part;
 use crate::resolve;
 use md_containers::frontmatter;
 use md_engine::event::Name;
@@ -486,9 +487,10 @@ pub fn flow_end(tokenizer: &mut Tokenizer) -> State
         }
         Some(b'\n') => {
             let name = ending_name(tokenizer.flags.blank);
-            or_error!(tokenizer.enter(name));
+            let point = tokenizer.point;
             tokenizer.consume();
-            or_error!(tokenizer.exit(name));
+            let behind = tokenizer.point;
+            or_error!(add_part(tokenizer, name, None, point, behind));
             tokenizer.flags.blank = false;
             tokenizer.flags.continued = 0;
             tokenizer.flags.line_end = len;

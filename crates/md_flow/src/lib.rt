@@ -6,4 +6,5 @@ mod constructs;
 pub mod document;
 mod fences;
 pub mod flow;
+mod parts;
 pub mod resolve;

@@ -1,0 +1,28 @@
+-- How a tokenizer stays sound where what is added lies at a place of the text that is not its point.
+use Rattle.std.proofs.Common.{◌≡◌, ℕ, List, [], ◌∷◌, ◌++◌, length, refl}
+use Rattle.md_engine.specs.declared.event.Event.{Event}
+use Rattle.md_engine.specs.declared.event.Point.{Point}
+use Rattle.md_engine.specs.declared.tokenizer.Frame.{Frame}
+use Rattle.md_engine.specs.Place.{IsPlaced}
+use Rattle.md_engine.specs.Sound.{IsSound}
+use Rattle.md_engine.proofs.Sound.{sound-add, sound-begun, sound-moved}
+
+-- an event is added
+pub sound-put : (bytes : List ℕ) (p : Point) (limit : ℕ) (events : List Event) (e : Event) (frames : List Frame)
+    (skips : List Point) →
+    IsSound bytes p limit events frames skips → IsPlaced bytes e.point →
+    IsSound bytes p limit (events ++ e ∷ []) frames skips
+sound-put bytes p limit events e frames skips h k =
+    sound-moved bytes e.point p limit (events ++ e ∷ []) frames skips
+    (sound-add bytes e.point limit events e frames skips (sound-moved bytes p e.point limit events frames skips h k) refl)
+    h.placed
+
+-- an attempt begins
+pub sound-tried : (bytes : List ℕ) (p : Point) (limit : ℕ) (events : List Event) (f : Frame) (frames : List Frame)
+    (skips : List Point) →
+    IsSound bytes p limit events frames skips → IsPlaced bytes f.point → f.events_len ≡ length events →
+    IsSound bytes p limit events (frames ++ f ∷ []) skips
+sound-tried bytes p limit events f frames skips h k len =
+    sound-moved bytes f.point p limit events (frames ++ f ∷ []) skips
+    (sound-begun bytes f.point limit events f frames skips (sound-moved bytes p f.point limit events frames skips h k) refl
+    len) h.placed
