@@ -1,9 +1,10 @@
 -- How a tokenizer stays sound where what is added lies at a place of the text that is not its point.
-use Rattle.std.proofs.Common.{◌≡◌, ℕ, List, [], ◌∷◌, ◌++◌, length, refl}
+use Rattle.std.proofs.Common.{◌≡◌, ℕ, ◌+◌, List, [], ◌∷◌, ◌++◌, length, refl}
+use Rattle.std.specs.Prelude.{slice_index}
 use Rattle.md_engine.specs.declared.event.Event.{Event}
 use Rattle.md_engine.specs.declared.event.Point.{Point}
 use Rattle.md_engine.specs.declared.tokenizer.Frame.{Frame}
-use Rattle.md_engine.specs.Place.{IsPlaced}
+use Rattle.md_engine.specs.Place.{IsPlaced, next_point}
 use Rattle.md_engine.specs.Sound.{IsSound}
 use Rattle.md_engine.proofs.Sound.{sound-add, sound-begun, sound-moved}
 
@@ -26,3 +27,10 @@ sound-tried bytes p limit events f frames skips h k len =
     sound-moved bytes f.point p limit events (frames ++ f ∷ []) skips
     (sound-begun bytes f.point limit events f frames skips (sound-moved bytes p f.point limit events frames skips h k) refl
     len) h.placed
+
+-- behind a line feed the next line begins
+abbrev pub behind_feed : Point → Point
+behind_feed p = record { line = p.line + 1; column = 1; index = p.index + 1; vs = 0 }
+
+pub feed-next : (bytes : List ℕ) (p : Point) → slice_index bytes p.index ≡ 10 → next_point bytes p ≡ behind_feed p
+feed-next bytes p e = rw e refl

@@ -11,7 +11,7 @@
 // ending. Where nothing is left of a line no container is asked, and none opens: what is held of each tells whether it
 // goes on there.
 
-ghost use Rattle.std.specs.Prelude.{◌≡◌, ◌≢◌, ◌⊎◌, true};
+ghost use Rattle.std.specs.Prelude.{◌≡◌, ◌≢◌, ◌⊎◌, ◌<◌, length, true};
 ghost use Rattle.md_engine.specs.Full.{IsFull, OnError};
 ghost use Rattle.md_engine.specs.Scheme.{stands};
 ghost use Rattle.md_engine.specs.World.{looks, world};
@@ -30,7 +30,7 @@ ghost use Rattle.md_frame.specs.HeldLeaf.{lazy_of, takes_lazy};
 ghost use Rattle.md_registry.specs.Document.{before_frontmatter_transition, document_own_transition};
 ghost use Rattle.md_registry.specs.Document.{none_opens_transition};
 ghost use Rattle.md_registry.specs.Document.{document_table_scheme, document_transition, start_transition};
-ghost use Rattle.md_seam.specs.Transition.{IsAt, NeedsNothing};
+ghost use Rattle.md_seam.specs.Transition.{IsAt, NeedsNothing, taken};
 ghost use Rattle.md_registry.specs.Flow.{opener_transition};
 ghost use Rattle.md_registry.specs.FlowRule.{DocumentMeans, HasOpen};
 ghost use Rattle.md_registry.specs.Registry.{opener_at};
@@ -38,7 +38,7 @@ ghost use Rattle.md_registry.specs.Registry.{opener_at};
 use crate::parts::add_part;
 use crate::resolve;
 use md_containers::frontmatter;
-use md_engine::event::Name;
+use md_engine::event::{Name, Point};
 use md_engine::message::Message;
 use md_engine::or_error;
 use md_engine::resolve::Name as ResolveName;
@@ -459,6 +459,25 @@ fn ending_name(blank: bool) -> Name
     }
 }
 
+/// Takes the line ending at the point. Most are LF, and no line begins behind a prefix that is known.
+#[inline(always)]
+fn take_ending(tokenizer: &mut Tokenizer)
+    requires { (world tokenizer.old).point.index < length (world tokenizer.old).setting.bytes }
+    ensures { world tokenizer.new ≡ taken (world tokenizer.old) }
+{
+    let Point { line, index, .. } = tokenizer.point;
+    if tokenizer.bytes[index] != b'\n' || !tokenizer.skips.is_empty() {
+        tokenizer.consume();
+        return;
+    }
+    tokenizer.point = Point {
+        line: line + 1,
+        column: 1,
+        index: index + 1,
+        vs: 0,
+    };
+}
+
 /// Behind the leaf of a line, at its ending or the end of the text: containers end that did not go on, unless the line
 /// goes on the open paragraph; at the end of the text all do.
 ///
@@ -488,7 +507,7 @@ pub fn flow_end(tokenizer: &mut Tokenizer) -> State
         Some(b'\n') => {
             let name = ending_name(tokenizer.flags.blank);
             let point = tokenizer.point;
-            tokenizer.consume();
+            take_ending(tokenizer);
             let behind = tokenizer.point;
             or_error!(add_part(tokenizer, name, None, point, behind));
             tokenizer.flags.blank = false;

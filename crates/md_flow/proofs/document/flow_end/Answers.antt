@@ -16,8 +16,8 @@ use Rattle.md_flow.proofs.document.flow_end.Goals as goal
 
 pub add_part-requires-clause-from : goal.add_part-requires-clause-from
 add_part-requires-clause-from c =
-    let same : (world c.consume.new.self).setting ≡ (world c.close.new.self).setting =
-    ap (λ (x : World). x.setting) c.consume.ensures in
+    let same : (world c.take_ending.new.tokenizer).setting ≡ (world c.close.new.self).setting =
+    ap (λ (x : World). x.setting) c.take_ending.ensures in
     subst (λ (x : Setting). IsPlaced x.bytes c.close.new.self.point) (sym same) c.close.new.self.sound.placed
 
 pub returns-in-Some-eq10-2-clause-to : goal.returns-in-Some-eq10-2-clause-to
@@ -27,7 +27,7 @@ pub returns-in-Some-eq10-2-clause-world : goal.returns-in-Some-eq10-2-clause-wor
 returns-in-Some-eq10-2-clause-world c = λ _.
     let w = world c.args.tokenizer.now in
     let v = world c.close.new.self in
-    let u = world c.consume.new.self in
+    let u = world c.take_ending.new.tokenizer in
     let name = c.ending_name-name.result in
     let first = enter name v.point in
     let both : World → World = λ x. record x { events = x.events ++ first ∷ exit name x.point ∷ [] } in
@@ -38,7 +38,7 @@ returns-in-Some-eq10-2-clause-world c = λ _.
     let len_is : c.len-len.result ≡ length v.events = omega (arith, c.len-len.ensures) in
     let ended : world c.add_part.new.tokenizer ≡ exited (taken (entered v name)) name =
     on-ok c.add_part.result (world c.add_part.new.tokenizer ≡ both u) has_added c.add_part.ensures.world
-    ∙ ap both c.consume.ensures
+    ∙ ap both c.take_ending.ensures
     ∙ ap (λ (es : List Event). record (taken v) { events = es })
     (sym (append_assoc v.events (first ∷ []) (exit name (taken v).point ∷ []))) in
     let next : Name → ℕ → World = λ n len. record (exited (taken (entered v n)) n) {
