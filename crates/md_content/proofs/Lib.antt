@@ -23,3 +23,4 @@ pub mod LabelTexts
 pub mod LabelWalks
 pub mod FootnoteWalk
 pub mod LabelsLemmas
+pub mod FoundLemmas

@@ -28,7 +28,7 @@ ghost use Rattle.md_link_definitions.specs.OpenText.{text_behind};
 ghost use Rattle.md_content.specs.ContentReads.{content_events, is_piece_end, settled};
 ghost use Rattle.md_content.specs.Joined.{GoesOnAt, JoinsAt, ends_content, goes_on, is_content, is_of_prefix};
 ghost use Rattle.md_content.specs.Joined.{joined};
-ghost use Rattle.md_content.specs.Resolves.{Resolves, is_all_read};
+ghost use Rattle.md_content.specs.Resolves.{Resolves, found_in_content, has_neither, is_all_read};
 ghost use Rattle.md_content.specs.LabelLook.{may_close, may_define_in};
 ghost use Rattle.md_content.specs.WholeLines.{are_lines, is_followed, is_within_line, paragraph_of};
 ghost use Rattle.md_engine.specs.declared.configuration.ParseOptions.{ParseOptions};
@@ -41,7 +41,7 @@ ghost use Rattle.md_seam.specs.Stays.{TakesEach};
 ghost use Rattle.md_seam.specs.Transition.{IsAt, NeedsNothing};
 
 pub use crate::definitions::{definition_after, definition_before};
-use crate::labels::{between, labels};
+use crate::labels::{begins_label, between, labels};
 use crate::{definitions, paragraph};
 use md_engine::configuration::ParseOptions;
 use md_engine::event::{Content, Event, Kind, Link, Name};
@@ -643,6 +643,38 @@ fn is_done(events: &[Event]) -> bool
     events.iter().all(|event| event.link.is_none())
 }
 
+/// Whether an event has no link and begins no label.
+struct HasNeither;
+
+impl Test for HasNeither {
+    ghost passes = { λ test. has_neither };
+
+    fn passes(&self, event: &Event) -> bool {
+        event.link.is_none() && !begins_label(event)
+    }
+}
+
+/// How many of the events come before the first that has a link or begins a label.
+fn until_either(events: &[Event]) -> usize
+    ensures value { result ≡ prefix_len has_neither events.now }
+    ensures within { result ≤ length events.now }
+{
+    passing(&HasNeither, events)
+}
+
+/// What is found in the events of content: the labels of its definitions, and whether no part is left unread. Events in
+/// front of the first that has a link or begins a label are looked at once for both.
+fn found_among(alloc: Global, bytes: &[u8], events: &[Event]) -> Result<Subresult, Message>
+    ensures { IfOk result (λ found. found_in found ≡ found_in_content bytes.now events.now) }
+{
+    let left = &events[until_either(events)..];
+    Ok(Subresult {
+        done: is_done(left),
+        gfm_footnote_definitions: Vec::new(alloc),
+        definitions: labels(alloc, bytes, left)?,
+    })
+}
+
 /// Joins the lines of content that follow one another, and reads them. It finds the labels of definitions.
 ///
 /// After an `Err` the parse has failed, and the tokenizer is only dropped.
@@ -658,12 +690,7 @@ pub fn resolve(tokenizer: &mut Tokenizer) -> Result<Option<Subresult>, Message>
     let mut events = tokenizer.take_events();
     join(&mut events);
     let read = subtokenize(alloc, &reader, events)?;
-    let done = is_done(&read);
-    let definitions = labels(alloc, tokenizer.bytes, &read)?;
+    let found = found_among(alloc, tokenizer.bytes, &read)?;
     tokenizer.set_events(read);
-    Ok(Some(Subresult {
-        done,
-        gfm_footnote_definitions: Vec::new(alloc),
-        definitions,
-    }))
+    Ok(Some(found))
 }

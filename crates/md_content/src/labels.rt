@@ -19,7 +19,7 @@ use md_seam::walks::{Test, passing};
 use std::alloc::Global;
 
 /// Whether a label begins here.
-fn begins_label(event: &Event) -> bool
+pub fn begins_label(event: &Event) -> bool
     ensures { result ≡ begins_label event.now }
 {
     matches!(event.name, Name::DefinitionLabelString) && matches!(event.kind, Kind::Enter)
