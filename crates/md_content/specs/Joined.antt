@@ -1,7 +1,5 @@
 -- Lines of content that follow one another, joined: the ending between two belongs to the first.
-use Rattle.std.specs.Prelude.{◌≡◌, ℕ, ◌+◌, ◌-◌, ◌<◌, ◌≤◌, Bool, true, false, ◌&&◌, if◌then◌else◌, List, [], ◌∷◌, ◌++◌}
-use Rattle.std.specs.Prelude.{length, take, drop}
-use Rattle.std.specs.List.{prefix_len}
+use Rattle.std.specs.Prelude.{ℕ, Bool, true, false, ◌&&◌, if◌then◌else◌, List, [], ◌∷◌}
 use Rattle.md_engine.specs.declared.event.Event.{Event}
 use Rattle.md_engine.specs.declared.event.Name.{Name}
 use Rattle.md_engine.specs.declared.event.Name.TheVariants as n
@@ -46,19 +44,3 @@ joined (e ∷ f ∷ g ∷ es) =
 -- whether an event belongs to a container prefix
 abbrev pub is_of_prefix : Event → Bool
 is_of_prefix e = is_prefix e.name
-
--- A line of content that ends before some events goes on at one of them, behind its ending and prefixes.
-pub record GoesOnAt (events : List Event) (next : ℕ) : Type 0 where
-  pub goes : goes_on events ≡ true
-  pub within : next < length events
-  pub behind : next ≡ 2 + prefix_len is_of_prefix (drop 2 events)
-
--- The first line of content that goes on ends at one event, and goes on at another. What stands in front of that end
--- stays, and what stands between the ending behind it and the other.
-pub record JoinsAt (events : List Event) (end next : ℕ) : Type 0 where
-  pub ordered : end + 3 ≤ next
-  pub within : next < length events
-  pub stays : joined events ≡ take end events ++ joined (drop end events)
-  pub joins : joined_with (drop end events) ≡ 2
-  pub passes : let rest = drop (end + 3) events in let between = next - (end + 3) in
-      joined rest ≡ take between rest ++ joined (drop between rest)

@@ -8,6 +8,7 @@ pub mod ContentRule
 pub mod DefinitionsRule
 pub mod Resolves
 pub mod Joined
+pub mod Lines
 pub mod Labels
 pub mod FootnoteLabels
 pub mod LabelTexts

@@ -9,9 +9,8 @@
 // The prefixes of containers in front of a line belong to no line of the content (CommonMark 5.1). So each line begins
 // behind those in front of it, and ends behind its ending, before those of the next line: its end is that of its chunk.
 
-ghost use Rattle.std.specs.Prelude.{◌≡◌, ◌≢◌, ℕ, ◌^◌, ◌<◌, ◌≤◌, ◌&&◌, false, not, IfNone, IfOk, IfSome, List, []};
+ghost use Rattle.std.specs.Prelude.{◌≡◌, ◌≢◌, ℕ, ◌^◌, ◌<◌, ◌&&◌, false, not, IfOk, IfSome, List, []};
 ghost use Rattle.std.specs.Prelude.{OnOk, length, true};
-ghost use Rattle.std.specs.List.{position_or_len, prefix_len};
 ghost use Rattle.std.specs.Option.{option_map};
 ghost use Rattle.md_content.specs.ChunkRule.{ChunkMeans};
 ghost use Rattle.md_engine.specs.Full.{IsFull, OnError};
@@ -26,14 +25,10 @@ ghost use Rattle.md_content.specs.Chunks.{chunk_inside_code, chunk_start_transit
 ghost use Rattle.md_content.specs.Chunks.{rest_taken};
 ghost use Rattle.md_link_definitions.specs.OpenText.{text_behind};
 ghost use Rattle.md_content.specs.ContentReads.{content_events, is_piece_end, settled};
-ghost use Rattle.md_content.specs.Joined.{GoesOnAt, JoinsAt, ends_content, goes_on, is_content, is_of_prefix};
-ghost use Rattle.md_content.specs.Joined.{joined};
 ghost use Rattle.md_content.specs.Resolves.{Resolves, found_in_content, has_neither, is_all_read};
 ghost use Rattle.md_content.specs.LabelLook.{may_close, may_define_in};
 ghost use Rattle.md_content.specs.WholeLines.{are_lines, is_followed, is_within_line, paragraph_of};
 ghost use Rattle.md_engine.specs.declared.configuration.ParseOptions.{ParseOptions};
-ghost use Rattle.md_seam.specs.Events.Inline.{is_line_ending};
-ghost use Rattle.md_seam.specs.Events.Nested.{is_enter};
 ghost use Rattle.md_seam.specs.Lent.{whole_from};
 ghost use Rattle.md_seam.specs.Parts.{AreChunks, ArePlaced};
 ghost use Rattle.md_seam.specs.Spaces.{ends_line};
@@ -42,6 +37,7 @@ ghost use Rattle.md_seam.specs.Transition.{IsAt, NeedsNothing};
 
 pub use crate::definitions::{definition_after, definition_before};
 use crate::labels::{begins_label, between, labels};
+use crate::lines::read_lines;
 use crate::{definitions, paragraph};
 use md_engine::configuration::ParseOptions;
 use md_engine::event::{Content, Event, Kind, Link, Name};
@@ -57,10 +53,8 @@ use md_engine::tokenizer::{HeldLeaf, Scratch, Tokenizer};
 use md_link_definitions::open_text::text_behind;
 use md_link_definitions::{definition, destination, label, space_or_tab_eol, title};
 use md_seam::inline::Chunk;
-use md_seam::moving::move_down;
 use md_seam::space_or_tab;
-use md_seam::subtokenize::{Reader, is_prefix, subtokenize};
-use md_seam::walks::{Test, passing};
+use md_seam::subtokenize::Reader;
 use std::alloc::Global;
 use std::mem;
 
@@ -255,9 +249,9 @@ impl Table for ContentTable {
 
 /// Reads joined lines.
 #[derive(Drop)]
-struct ContentReader<'a> {
-    bytes: &'a [u8],
-    options: &'a ParseOptions,
+pub struct ContentReader<'a> {
+    pub bytes: &'a [u8],
+    pub options: &'a ParseOptions,
 }
 
 impl Reader for ContentReader<'_> {
@@ -505,137 +499,6 @@ fn settle(events: &mut [Event], chunks: &[Chunk])
     }
 }
 
-/// Whether the part that begins here is a line of content.
-fn begins_line(event: &Event) -> bool
-    ensures { result ≡ is_enter event.now.kind && is_content event.now.name }
-{
-    matches!(event.kind, Kind::Enter) && matches!(event.name, Name::Content)
-}
-
-/// Whether this is the ending of a line of text.
-fn is_ending(event: &Event) -> bool
-    ensures { result ≡ is_line_ending event.now.name }
-{
-    matches!(event.name, Name::LineEnding)
-}
-
-/// How many of the events come before the first that belongs to no container prefix.
-fn prefixes(events: &[Event]) -> usize
-    ensures value { result ≡ prefix_len is_of_prefix events.now }
-    ensures within { result ≤ length events.now }
-{
-    for (at, event) in events.iter().enumerate() {
-        if !is_prefix(event.name) {
-            return at;
-        }
-    }
-    events.len()
-}
-
-/// Where a line of content goes on that ends before these events: its ending stands first, and behind it and the
-/// prefixes of the next line a line of content.
-fn goes_on(events: &[Event]) -> Option<usize>
-    ensures some { IfSome result (λ next. GoesOnAt events.now next) }
-    ensures none { IfNone result (goes_on events.now ≡ false) }
-{
-    if events.len() < 2 {
-        return None;
-    }
-    if !is_ending(&events[0]) {
-        return None;
-    }
-    let next = 2 + prefixes(&events[2..]);
-    if next >= events.len() {
-        return None;
-    }
-    if begins_line(&events[next]) {
-        Some(next)
-    } else {
-        None
-    }
-}
-
-/// Whether a line of content ends here.
-fn ends_line(event: &Event) -> bool
-    ensures { result ≡ ends_content event.now }
-{
-    matches!(event.name, Name::Content) && matches!(event.kind, Kind::Exit)
-}
-
-/// Whether no line of content ends at an event.
-struct EndsNoLine;
-
-impl Test for EndsNoLine {
-    ghost passes = { λ test e. not (ends_content e) };
-
-    fn passes(&self, event: &Event) -> bool {
-        !ends_line(event)
-    }
-}
-
-/// How many of the events come before the first that ends a line of content.
-fn before_end(events: &[Event]) -> usize
-    ensures value { result ≡ position_or_len ends_content events.now }
-    ensures within { result ≤ length events.now }
-{
-    passing(&EndsNoLine, events)
-}
-
-/// A line of content that goes on.
-#[derive(Clone, Copy)]
-struct Line {
-    /// Where it ends.
-    end: usize,
-    /// Where it goes on, behind its ending and prefixes.
-    next: usize,
-}
-
-/// The first line of content that goes on, if there is one.
-fn next_line(events: &[Event]) -> Option<Line>
-    ensures some { IfSome result (λ line. JoinsAt events.now line.end line.next) }
-    ensures none { IfNone result (joined events.now ≡ events.now) }
-{
-    let mut at = 0;
-    while at < events.len() {
-        at += before_end(&events[at..]);
-        if at < events.len() {
-            if let Some(behind) = goes_on(&events[at + 1..]) {
-                return Some(Line {
-                    end: at,
-                    next: at + 1 + behind,
-                });
-            }
-            at += 1;
-        }
-    }
-    None
-}
-
-/// Puts the ending of each line of content that goes on into that line.
-///
-/// The end of such a line takes the point behind its ending. The events between two such endings are moved at once.
-fn join(events: &mut Vec<Event>)
-    ensures placed { (bytes : List ℕ) → ArePlaced bytes events.old.items → ArePlaced bytes events.new.items }
-    ensures joined { events.new.items ≡ joined events.old.items }
-{
-    let mut kept = 0;
-    let mut from = 0;
-    let mut at = 0;
-    while let Some(line) = next_line(&events[at..]) {
-        let end = at + line.end;
-        let last = end + 2;
-        events[end].point = events[last].point;
-        move_down(events, kept, from, end + 1);
-        kept += end + 1 - from;
-        from = last + 1;
-        at += line.next;
-    }
-    let end = events.len();
-    move_down(events, kept, from, end);
-    kept += end - from;
-    events.truncate(kept);
-}
-
 /// Whether no part is left unread.
 fn is_done(events: &[Event]) -> bool
     ensures { result ≡ is_all_read events.now }
@@ -687,9 +550,8 @@ pub fn resolve(tokenizer: &mut Tokenizer) -> Result<Option<Subresult>, Message>
         bytes: tokenizer.bytes,
         options: tokenizer.options,
     };
-    let mut events = tokenizer.take_events();
-    join(&mut events);
-    let read = subtokenize(alloc, &reader, events)?;
+    let events = tokenizer.take_events();
+    let read = read_lines(alloc, &reader, events)?;
     let found = found_among(alloc, tokenizer.bytes, &read)?;
     tokenizer.set_events(read);
     Ok(Some(found))

@@ -5,4 +5,5 @@ pub mod content;
 pub mod definitions;
 pub mod footnote_labels;
 mod labels;
+mod lines;
 pub mod paragraph;
