@@ -16,6 +16,6 @@ returns c =
     let done : c.is_done.result ≡ is_all_read (drop (prefix_len has_neither events) events) =
     rw left at c.is_done.ensures in
     let labels : map string_bytes c.in_ok-labels.field-0.items ≡
-        labels_in c.args.bytes.now (drop (prefix_len has_neither events) events) =
+    labels_in c.args.bytes.now (drop (prefix_len has_neither events) events) =
     rw left at c.in_ok-labels.ensures in
     found-behind c.args.bytes.now events c.is_done.result _ _ done labels (ap (map string_bytes) c.new.ensures.items)
