@@ -9,8 +9,9 @@
 // The prefixes of containers in front of a line belong to no line of the content (CommonMark 5.1). So each line begins
 // behind those in front of it, and ends behind its ending, before those of the next line: its end is that of its chunk.
 
-ghost use Rattle.std.specs.Prelude.{◌≡◌, ◌≢◌, ℕ, ◌^◌, ◌<◌, ◌&&◌, false, not, IfOk, IfSome, List, []};
+ghost use Rattle.std.specs.Prelude.{◌≡◌, ◌≢◌, ℕ, ◌^◌, ◌<◌, ◌≤◌, ◌&&◌, false, not, IfOk, IfSome, List, []};
 ghost use Rattle.std.specs.Prelude.{OnOk, length, true};
+ghost use Rattle.std.specs.List.{prefix_len};
 ghost use Rattle.std.specs.Option.{option_map};
 ghost use Rattle.md_content.specs.ChunkRule.{ChunkMeans};
 ghost use Rattle.md_engine.specs.Full.{IsFull, OnError};
@@ -55,6 +56,7 @@ use md_link_definitions::{definition, destination, label, space_or_tab_eol, titl
 use md_seam::inline::Chunk;
 use md_seam::space_or_tab;
 use md_seam::subtokenize::Reader;
+use md_seam::walks::{Test, passing};
 use std::alloc::Global;
 use std::mem;
 
