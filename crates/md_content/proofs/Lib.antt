@@ -25,3 +25,6 @@ pub mod LabelWalks
 pub mod FootnoteWalk
 pub mod LabelsLemmas
 pub mod FoundLemmas
+pub mod WholeDefinitions
+pub mod DefinitionSteps
+pub mod DefinitionRuns

@@ -37,13 +37,13 @@ use Rattle.md_content.proofs.PointOrder.{Before}
 -- Chunks that are lines.
 
 -- what is known of a chunk with the ending of its line, and of the next one
-record Followed (chunk next : Chunk) : Type 0 where
-  line : chunk.first.line + 1 ≡ chunk.after.line
-  column : chunk.after.column ≡ 1
-  begins : next.first.line ≡ chunk.after.line
-  index : chunk.after.index ≤ next.first.index
+pub record Followed (chunk next : Chunk) : Type 0 where
+  pub line : chunk.first.line + 1 ≡ chunk.after.line
+  pub column : chunk.after.column ≡ 1
+  pub begins : next.first.line ≡ chunk.after.line
+  pub index : chunk.after.index ≤ next.first.index
 
-followed : (chunk next : Chunk) → is_followed chunk next ≡ true → Followed chunk next
+pub followed : (chunk next : Chunk) → is_followed chunk next ≡ true → Followed chunk next
 followed chunk next h =
     let all = and_parts _ _ h in
     let lines = and_parts _ _ all.0 in
@@ -56,12 +56,12 @@ followed chunk next h =
     }
 
 -- and of the last
-record Within (chunk : Chunk) : Type 0 where
-  line : chunk.first.line ≡ chunk.after.line
-  index : chunk.first.index < chunk.after.index
-  vs : chunk.after.vs ≡ 0
+pub record Within (chunk : Chunk) : Type 0 where
+  pub line : chunk.first.line ≡ chunk.after.line
+  pub index : chunk.first.index < chunk.after.index
+  pub vs : chunk.after.vs ≡ 0
 
-within : (chunk : Chunk) → is_within_line chunk ≡ true → Within chunk
+pub within : (chunk : Chunk) → is_within_line chunk ≡ true → Within chunk
 within chunk h =
     let all = and_parts _ _ h in
     let own = and_parts _ _ all.0 in
@@ -72,7 +72,7 @@ within chunk h =
     }
 
 -- a line has its ending at its end
-has-byte : (bytes : List ℕ) (p q : Point) → IsPlaced bytes p → IsPlaced bytes q → q.vs ≡ 0 → p.line < q.line →
+pub has-byte : (bytes : List ℕ) (p q : Point) → IsPlaced bytes p → IsPlaced bytes q → q.vs ≡ 0 → p.line < q.line →
     p.index < q.index
 has-byte bytes p q h k whole line = elim (cases_lt p.index q.index) [
   | inl lt ↦ lt
@@ -83,11 +83,11 @@ has-byte bytes p q h k whole line = elim (cases_lt p.index q.index) [
     not-before le (inl b) = omega (arith, le, b)
     not-before le (inr b) = omega (arith, whole, b.1)
 
-first-vs : (bytes : List ℕ) (q : Point) → IsPlaced bytes q → q.column ≡ 1 → q.vs ≡ 0
+pub first-vs : (bytes : List ℕ) (q : Point) → IsPlaced bytes q → q.column ≡ 1 → q.vs ≡ 0
 first-vs bytes q k first = let few = k.vs in omega (arith, few, first)
 
 -- no chunk ends behind the last
-end-behind : (bytes : List ℕ) (chunk : Chunk) (chunks : List Chunk) → All (IsChunk bytes) (chunk ∷ chunks) →
+pub end-behind : (bytes : List ℕ) (chunk : Chunk) (chunks : List Chunk) → All (IsChunk bytes) (chunk ∷ chunks) →
     are_lines (chunk ∷ chunks) ≡ true → chunk.after.index ≤ end_of (chunk ∷ chunks)
 end-behind bytes chunk [] are lines = omega arith
 end-behind bytes chunk (next ∷ chunks) are lines =
@@ -105,7 +105,7 @@ end-behind bytes chunk (next ∷ chunks) are lines =
         has-byte bytes c.first c.after is.first is.after (first-vs bytes c.after is.after f.column)
         (omega (arith, f.line))
 
-end-small : (bytes : List ℕ) (chunk : Chunk) (chunks : List Chunk) → All (IsChunk bytes) (chunk ∷ chunks) →
+pub end-small : (bytes : List ℕ) (chunk : Chunk) (chunks : List Chunk) → All (IsChunk bytes) (chunk ∷ chunks) →
     end_of (chunk ∷ chunks) < 2 ^ 61
 end-small bytes chunk [] are =
     let h = (All-head (IsChunk bytes) chunk [] are).after in omega (arith, h.index, h.sized)
@@ -113,7 +113,7 @@ end-small bytes chunk (next ∷ chunks) are =
     end-small bytes next chunks (All-tail (IsChunk bytes) chunk (next ∷ chunks) are)
 
 -- where chunks begin
-abbrev firsts : List Chunk → List Point
+abbrev pub firsts : List Chunk → List Point
 firsts [] = []
 firsts (chunk ∷ chunks) = chunk.first ∷ firsts chunks
 
@@ -200,14 +200,14 @@ point-all w chunk (next ∷ chunks) p at le lines =
     (omega (arith, later, ap (λ (q : Point). q.line) at)) both.1
 
 -- the text of these lines
-abbrev setting_over : List ℕ → ParseOptions → Chunk → List Chunk → Setting
+abbrev pub setting_over : List ℕ → ParseOptions → Chunk → List Chunk → Setting
 setting_over bytes options chunk chunks =
     record (fresh bytes options chunk.first).setting {
       limit = end_of (chunk ∷ chunks);
       skips = chunk.first ∷ firsts chunks;
     }
 
-world-setting : (bytes : List ℕ) (options : ParseOptions) (chunk : Chunk) (chunks : List Chunk) →
+pub world-setting : (bytes : List ℕ) (options : ParseOptions) (chunk : Chunk) (chunks : List Chunk) →
     (part_world bytes options (chunk ∷ chunks)).setting ≡ setting_over bytes options chunk chunks
 world-setting bytes options chunk chunks =
     let w = fresh bytes options chunk.first in
@@ -215,7 +215,7 @@ world-setting bytes options chunk chunks =
     ap (λ (v : World). record v.setting { limit = end }) (skipping-same w (chunk ∷ chunks))
     ∙ ap (λ (l : List Point). record w.setting { skips = l; limit = end }) (skips-all w (chunk ∷ chunks))
 
-world-point : (bytes : List ℕ) (options : ParseOptions) (chunk : Chunk) (chunks : List Chunk) →
+pub world-point : (bytes : List ℕ) (options : ParseOptions) (chunk : Chunk) (chunks : List Chunk) →
     are_lines (chunk ∷ chunks) ≡ true → (part_world bytes options (chunk ∷ chunks)).point ≡ chunk.first
 world-point bytes options chunk chunks lines =
     point-all (skipping (fresh bytes options chunk.first) chunk.first) chunk chunks chunk.first

@@ -15,3 +15,4 @@ pub mod LabelTexts
 pub mod ContentReads
 pub mod WholeLines
 pub mod LabelLook
+pub mod WholeDefinitions

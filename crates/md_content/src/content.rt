@@ -39,6 +39,7 @@ ghost use Rattle.md_seam.specs.Transition.{IsAt, NeedsNothing};
 pub use crate::definitions::{definition_after, definition_before};
 use crate::labels::{begins_label, between, labels};
 use crate::lines::read_lines;
+use crate::whole_definitions::write_definitions;
 use crate::{definitions, paragraph};
 use md_engine::configuration::ParseOptions;
 use md_engine::event::{Content, Event, Kind, Link, Name};
@@ -299,6 +300,9 @@ impl ContentReader<'_> {
         if is_paragraph(self.bytes, chunks) {
             return write_paragraph(chunks, events);
         }
+        if self.options.constructs.definition && write_definitions(self.bytes, chunks, events)? {
+            return Ok(());
+        }
         self.read_by_states(alloc, chunks, events)
     }
 
@@ -358,7 +362,7 @@ fn is_within_line(chunk: &Chunk) -> bool
 }
 
 /// Whether the chunks are lines one after another, of which the last has no ending. It looks at their points alone.
-fn are_lines(chunks: &[Chunk]) -> bool
+pub fn are_lines(chunks: &[Chunk]) -> bool
     requires { 0 < length chunks.now }
     ensures { result ≡ are_lines chunks.now }
 {

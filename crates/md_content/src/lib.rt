@@ -7,3 +7,4 @@ pub mod footnote_labels;
 mod labels;
 mod lines;
 pub mod paragraph;
+mod whole_definitions;
