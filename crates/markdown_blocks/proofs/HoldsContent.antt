@@ -1,15 +1,20 @@
 -- Of events in which the begin and the end of each line of text stand side by side, every other one tells whether a
 -- line of text is among them.
-use Rattle.std.proofs.Common.{◌≡◌, ℕ, ◌+◌, ◌≤◌, Bool, true, false, ◌||◌, List, [], ◌∷◌, ◌++◌, length, drop, get_or}
-use Rattle.std.proofs.Common.{inl, inr, refl, sym, ◌∙◌, ap, subst, arith}
+use Rattle.std.proofs.Common.{◌≡◌, ℕ, suc, ◌+◌, ◌≤◌, Bool, true, false, cond, not, ◌||◌, List, [], ◌∷◌, ◌++◌, length, drop}
+use Rattle.std.proofs.Common.{◌-◌, get_or, inl, inr, refl, sym, ◌∙◌, ap, subst, arith}
+use Rattle.std.specs.List.{prefix_len}
 use Rattle.std.proofs.lemmas.Bool.{and_parts, or_parts}
-use Rattle.std.proofs.lemmas.List.{drop_more}
+use Rattle.std.specs.Prelude.{take}
+use Rattle.std.proofs.lemmas.List.{drop_more, length-drop, take_all}
 use Rattle.std.proofs.lemmas.List.Folds.{list_any-append}
 use Rattle.md_engine.specs.declared.event.Content.{Content}
 use Rattle.md_engine.specs.declared.event.Event.{Event}
 use Rattle.md_content.specs.Joined.{is_content}
 use Rattle.md_frame.proofs.ContentFacts.{NoContent}
 use Rattle.md_frame.proofs.EventNames.{told-content}
+use Rattle.md_leaves.specs.declared.spans.Place.TheVariants.{Outside}
+use Rattle.md_leaves.specs.Spanned.{passes_on}
+use Rattle.markdown_blocks.specs.Alone.{passes_alone}
 use Rattle.markdown_blocks.specs.ContentRead.{AreSideBySide, holds_content, side_by_side}
 
 -- none is in either of two lists if none is in both
@@ -61,3 +66,41 @@ passed-other es at none within other side =
       subst (λ (n : ℕ). AreSideBySide (drop n es)) two passed.0,
       ap holds_content whole ∙ passed.1 ∙ ap (λ (n : ℕ). holds_content (drop n es)) two,
     )
+
+-- what is behind so many events, to the end
+pub behind : (es : List Event) (n : ℕ) → take (length es - n) (drop n es) ≡ drop n es
+behind es n = take_all (length es - n) (drop n es) (omega (arith, length-drop n es))
+
+-- Events in front of the first that is of a line of text, or may not pass as it is where lines are joined, tell nothing.
+pub alone-passed : (es : List Event) → AreSideBySide es →
+    let rest = drop (prefix_len passes_alone es) es in AreSideBySide rest × (holds_content rest ≡ holds_content es)
+alone-passed [] side = (side, refl)
+alone-passed (e ∷ es) side = by (passes_alone e) refl (λ other. alone-passed es (one-passed other side))
+  where
+    run : ℕ
+    run = prefix_len passes_alone es
+
+    Passed : ℕ → Type 0
+    Passed n =
+        AreSideBySide (drop n (e ∷ es)) × (holds_content (drop n (e ∷ es)) ≡ holds_content (e ∷ es))
+
+    one-passed : is_content e.name ≡ false → AreSideBySide (e ∷ es) → AreSideBySide es
+    one-passed other (inl h) = inl (sym (ap (λ (x : Bool). side_by_side x es) other) ∙ h)
+    one-passed other (inr h) =
+        let is : is_content e.name ≡ true = (and_parts (is_content e.name) (side_by_side false es) h).0 in cc
+
+    off : (x : Bool) → not x ≡ true → x ≡ false
+    off true h = cc
+    off false h = refl
+
+    by : (x : Bool) → passes_alone e ≡ x →
+        (is_content e.name ≡ false → AreSideBySide (drop run es) × (holds_content (drop run es) ≡ holds_content es)) →
+        Passed (cond (passes_alone e) (1 + run) 0)
+    by false here behind = subst (λ (x : Bool). Passed (cond x (1 + run) 0)) (sym here) (side, refl)
+    by true here behind =
+        let other = off (is_content e.name) (and_parts (not (is_content e.name)) (passes_on Outside e) here).0 in
+        let rest = behind other in
+        let more : suc run ≡ 1 + run = omega arith in
+        subst (λ (x : Bool). Passed (cond x (1 + run) 0)) (sym here)
+        (subst Passed more
+        (rest.0, rest.1 ∙ sym (ap (λ (x : Bool). x || holds_content es) other)))

@@ -1,5 +1,5 @@
 -- Where all events stay as they are, no content is read, and joining lines and running the resolvers changes nothing.
-use Rattle.std.proofs.Common.{◌≡◌, ℕ, Bool, true, false, cond, not, ◌+◌, ◌≤◌, List, [], ◌∷◌, length, refl, ap}
+use Rattle.std.proofs.Common.{◌≡◌, ℕ, zero, suc, drop, Bool, true, false, cond, not, ◌+◌, ◌≤◌, List, [], ◌∷◌, length, refl, ap}
 use Rattle.std.proofs.Common.{◌∙◌, arith}
 use Rattle.std.specs.List.{prefix_len}
 use Rattle.std.proofs.lemmas.Bool.{and_parts, or_from}
@@ -51,6 +51,22 @@ alone-same options bytes es all =
     joined : (x : Bool) → cond x (spanned es) es ≡ es
     joined true = spanned-none es (all-pass stays_alone (passes Outside) on es all)
     joined false = refl
+
+-- a look for the first that may not pass goes on behind those that are known to
+pub alone-from : (es : List Event) (n : ℕ) → n ≤ prefix_len passes_alone es →
+    n + prefix_len passes_alone (drop n es) ≡ prefix_len passes_alone es
+alone-from es zero le = omega arith
+alone-from [] (suc n) le = absurd (omega (arith, le))
+alone-from (e ∷ es) (suc n) le = by (passes_alone e) (alone-from es n) le
+  where
+    by : (x : Bool) → (n ≤ prefix_len passes_alone es → n + prefix_len passes_alone (drop n es) ≡ prefix_len passes_alone es) →
+        suc n ≤ cond x (1 + prefix_len passes_alone es) 0 →
+        suc n + prefix_len passes_alone (drop n es) ≡ cond x (1 + prefix_len passes_alone es) 0
+    by false rest le = absurd (omega (arith, le))
+    by true rest le = let is = rest (omega (arith, le)) in omega (arith, is)
+
+pub stay-alone : (es : List Event) → prefix_len stays_alone es ≤ prefix_len passes_alone es
+stay-alone es = fewer stays_alone passes_alone (λ e h. (and_parts (passes_alone e) (is_same every e) h).0) es
 
 -- so do they where lines are joined
 pub alone-passes : (es : List Event) → prefix_len passes_alone es ≤ prefix_len (passes_on Outside) es

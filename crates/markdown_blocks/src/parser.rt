@@ -228,11 +228,13 @@ impl Test for PassesAlone {
 }
 
 /// How many events are in front of the first that is of a line of text or may not pass as it is where lines are joined.
-fn until_read(events: &[Event]) -> usize
-    ensures value { result ≡ prefix_len passes_alone events.now }
-    ensures within { result ≤ length events.now }
+/// It is known of the first `known` that they are.
+fn until_read(events: &[Event], known: usize) -> usize
+    requires known { known ≤ prefix_len passes_alone events.now }
+    requires within { known ≤ length events.now }
+    ensures { result ≡ prefix_len passes_alone events.now }
 {
-    passing(&PassesAlone, events)
+    known + passing(&PassesAlone, &events[known..])
 }
 
 /// Whether an event stays as it is where content is read, lines are joined and the resolvers run.
@@ -301,7 +303,7 @@ fn is_unread(events: &[Event], many: usize) -> bool
     requires side { AreSideBySide events.now }
     ensures { result ≡ holds_content events.now }
 {
-    many < events.len() && holds_content(events)
+    many < events.len() && holds_content(&events[many..])
 }
 
 /// What is found where nothing is read.
@@ -316,11 +318,13 @@ fn nothing(alloc: Global) -> Subresult
 }
 
 /// Reads the content of the lines that flow has read, where there is some. Returns what it finds there, and of how many
-/// events in front it is known that they pass as they are where lines are joined.
+/// events in front it is known that they pass as they are where lines are joined. It is known of the first `known` that
+/// they do, and that none is of a line of text.
 ///
 /// An `Err` says that memory ran out.
-fn read_content(tokenizer: &mut Tokenizer) -> Result<(Subresult, usize), Message>
+fn read_content(tokenizer: &mut Tokenizer, known: usize) -> Result<(Subresult, usize), Message>
     requires frames { (world tokenizer.old).frames ≡ [] }
+    requires known { known ≤ prefix_len passes_alone (world tokenizer.old).events }
     requires side { AreSideBySide (world tokenizer.old).events }
     ensures content { IfOk result
         (λ read.
@@ -329,7 +333,7 @@ fn read_content(tokenizer: &mut Tokenizer) -> Result<(Subresult, usize), Message
     ensures many { IfOk result
         (λ read. read.1 ≤ prefix_len (passes_on Place.Outside) (world tokenizer.new).events) }
 {
-    let many = until_read(&tokenizer.events);
+    let many = until_read(&tokenizer.events, known);
     if !is_unread(&tokenizer.events, many) {
         return Ok((nothing(tokenizer.alloc), many));
     }
@@ -395,7 +399,7 @@ fn read_flow<'a>(
     if same == tokenizer.events.len() {
         return Ok((tokenizer, nothing(alloc)));
     }
-    let (found, many) = read_content(&mut tokenizer)?;
+    let (found, many) = read_content(&mut tokenizer, same)?;
     resolve_blocks(&mut tokenizer, options, many)?;
     Ok((tokenizer, found))
 }

@@ -9,7 +9,7 @@ use Rattle.markdown_blocks.specs.ContentRead.{ReadIf}
 use Rattle.markdown_blocks.proofs.ContentAre.{joined-alone}
 use Rattle.markdown_blocks.proofs.FlowReads.{FlowFlushed, flow-flushed-from, flow-reads, flushed-frames, flushed-side}
 use Rattle.markdown_blocks.proofs.FlowReads.{read-frames}
-use Rattle.markdown_blocks.proofs.StaysAlone.{alone-same, stay-none}
+use Rattle.markdown_blocks.proofs.StaysAlone.{alone-same, stay-alone, stay-none}
 use Rattle.markdown_blocks.proofs.parser.read_flow.Goals as goal
 
 pub returns-then-same-len : goal.returns-then-same-len
@@ -35,6 +35,13 @@ pub read_content-requires-clause-side : goal.read_content-requires-clause-side
 read_content-requires-clause-side c =
     flushed-side c.args.bytes.now c.args.options.now c.args.start _ _ _ _ _ _ c.in_ok-tokenizer.ensures refl
     (omega (arith, c.requires.small)) (c.push.ensures.runs c.in_default.not-Error) c.in_ok-flush.ensures
+
+pub read_content-requires-clause-known : goal.read_content-requires-clause-known
+read_content-requires-clause-known c =
+    let w : World = world c.flush.new.tokenizer in
+    let is : c.until_changed-same.result ≡ prefix_len stays_alone w.events =
+    c.until_changed-same.ensures.value ∙ ap (λ (es : List Event). prefix_len stays_alone es) c.deref.ensures.value in
+    omega (arith, is, stay-alone w.events)
 
 pub resolve_blocks-requires-clause-frames : goal.resolve_blocks-requires-clause-frames
 resolve_blocks-requires-clause-frames c =
