@@ -1,5 +1,5 @@
 -- Where what the resolver of a name gives nests, if what it gets does.
-use Rattle.std.specs.Prelude.{⊥, List}
+use Rattle.std.specs.Prelude.{List}
 use Rattle.md_engine.specs.declared.event.Event.{Event}
 use Rattle.md_engine.specs.declared.resolve.name.Name.{Name}
 use Rattle.md_engine.specs.declared.resolve.name.Name.TheVariants as r
