@@ -7,12 +7,8 @@ use Rattle.markdown_blocks.specs.Alone.{passes_alone}
 use Rattle.markdown_blocks.proofs.StaysAlone.{alone-passes}
 use Rattle.markdown_blocks.proofs.parser.read_content.Goals as goal
 
-pub until_read-requires-clause-known : goal.until_read-requires-clause-known
-until_read-requires-clause-known c =
-    subst (λ (es : List Event). c.args.known ≤ prefix_len passes_alone es) (sym c.deref.ensures.value) c.requires.known
-
-pub until_read-requires-clause-within : goal.until_read-requires-clause-within
-until_read-requires-clause-within c =
+pub until_read-many-requires-clause-within : goal.until_read-many-requires-clause-within
+until_read-many-requires-clause-within c =
     let w : World = world c.args.tokenizer.now in
     subst (λ (es : List Event). c.args.known ≤ length es) (sym c.deref.ensures.value)
     (omega (arith, c.requires.known, prefix_len-le-length passes_alone w.events))
