@@ -21,19 +21,19 @@ REQUESTS = 60
 
 # How many parts of a text must be read within the steps, and how many within the requests.
 MOST: dict[str, tuple[int, int]] = {
-    "paragraphs of long lines": (5, 27),
+    "paragraphs of long lines": (6, 27),
     "one long line": (72, 438),
-    "headings of some words": (31, 141),
-    "setext headings": (27, 60),
-    "quotes of long lines": (28, 1_152),
-    "quotes in quotes in quotes": (28, 1_074),
-    "fences of some words": (36, 12_357),
+    "headings of some words": (37, 141),
+    "setext headings": (31, 60),
+    "quotes of long lines": (30, 1_152),
+    "quotes in quotes in quotes": (33, 1_074),
+    "fences of some words": (37, 12_357),
     "lines of an open fence": (67, 18_535),
     "lines of indented code": (70, 18_535),
     "HTML": (19, 12_357),
-    "definitions": (13, 5),
-    "blank lines": (520, 18_535),
-    "one line of tabs": (1_125, 12_357),
+    "definitions": (14, 5),
+    "blank lines": (624, 18_535),
+    "one line of tabs": (1_350, 12_357),
     "one line of spaces": (4_668, 12_357),
     "one line of `*`": (1_950, 12_357),
 }
