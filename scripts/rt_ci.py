@@ -1,0 +1,48 @@
+#!/usr/bin/env python3
+"""Runs `rt ci`, and takes the sum of a crate's files once.
+
+By this sum `rt` knows whether the build of a library is that of its files. Some kits take it again for each path in
+crates.txt from a crate to a library, which is millions of times in this repository. No check depends on it. Where the
+kit is another program than this expects, `rt ci` runs as it is.
+"""
+import importlib.machinery
+import importlib.util
+import os
+import shutil
+import sys
+
+
+def loaded(path):
+    """The program `rt` as a module, or None where it is no program in Python."""
+    loader = importlib.machinery.SourceFileLoader("rt", path)
+    module = importlib.util.module_from_spec(importlib.util.spec_from_loader("rt", loader))
+    try:
+        loader.exec_module(module)
+    except (SyntaxError, UnicodeDecodeError, ValueError):
+        return None
+    return module
+
+
+def take_sums_once(crate):
+    """Has each crate keep its sum."""
+    taken = crate.stamp
+
+    def stamp(self):
+        if "kept_sum" not in vars(self):
+            self.kept_sum = taken(self)
+        return self.kept_sum
+
+    crate.stamp = stamp
+
+
+def main():
+    rt = loaded(os.path.realpath(shutil.which("rt") or sys.exit("rt is not on the path")))
+    crate = getattr(getattr(rt, "rtlib", None), "Crate", None)
+    if not hasattr(crate, "stamp") or not hasattr(rt, "main"):
+        os.execvp("rt", ["rt", "ci"])
+    take_sums_once(crate)
+    return rt.main(["ci"])
+
+
+if __name__ == "__main__":
+    sys.exit(main())
