@@ -5,6 +5,7 @@ pub mod Falls
 pub mod Local
 pub mod Closing
 pub mod Loops
+pub mod AboveCr
 pub mod ClassLemmas
 pub mod StayLemmas
 pub mod Walks

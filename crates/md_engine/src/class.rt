@@ -2,9 +2,12 @@
 //
 // No class has a line ending or a tab: behind each of its bytes the line goes on, one column further.
 
-ghost use Rattle.std.specs.Prelude.{◌≡◌, ◌≤◌, length, nat_lt};
-ghost use Rattle.std.specs.List.{list_all, prefix_len};
+ghost use Rattle.std.specs.Prelude.{◌≡◌, ◌<◌, ◌≤◌, ◌==◌, if◌then◌else◌, length, nat_lt, take};
+ghost use Rattle.std.specs.Int.{trailing_zeros, w64};
+ghost use Rattle.std.specs.List.{prefix_len};
 ghost use Rattle.md_engine.specs.Classes.{IsSpan, has, is_mark, is_white};
+
+use std::simd::prelude::*;
 
 /// A set of bytes without line endings and tabs.
 #[derive(Clone, Copy)]
@@ -34,17 +37,36 @@ fn is_mark(byte: u8) -> bool
     )
 }
 
-/// Whether all of these bytes are greater than CR, which makes them text. The loop has no early exit, so that many
-/// bytes are compared at once.
+/// The place of the lowest bit that is set, or `lanes` where none is.
 #[inline(always)]
-fn are_above_cr(bytes: &[u8]) -> bool
-    ensures { result ≡ list_all (nat_lt 13) bytes.now }
+fn lowest_bit(mask: u64, lanes: usize) -> usize
+    ensures { result ≡ if mask == 0 then lanes else trailing_zeros w64 mask }
 {
-    let mut all = true;
-    for byte in bytes {
-        all &= *byte > b'\r';
+    if mask == 0 {
+        lanes
+    } else {
+        mask.trailing_zeros() as usize
     }
-    all
+}
+
+/// How many of the 16 bytes in front are greater than CR, up to the first that is not: all are compared at once.
+#[inline(always)]
+fn above_cr_of_16(bytes: &[u8]) -> usize
+    requires { 16 ≤ length bytes.now }
+    ensures { result ≡ prefix_len (nat_lt 13) (take 16 bytes.now) }
+{
+    let low = u8x16::from_slice(bytes).simd_lt(u8x16::splat(b'\r' + 1));
+    lowest_bit(low.to_bitmask(), 16)
+}
+
+/// The same of 8 bytes.
+#[inline(always)]
+fn above_cr_of_8(bytes: &[u8]) -> usize
+    requires { 8 ≤ length bytes.now }
+    ensures { result ≡ prefix_len (nat_lt 13) (take 8 bytes.now) }
+{
+    let low = u8x8::from_slice(bytes).simd_lt(u8x8::splat(b'\r' + 1));
+    lowest_bit(low.to_bitmask(), 8)
 }
 
 /// How many bytes in front are greater than CR, counted one by one.
@@ -55,19 +77,42 @@ fn each_above_cr_len(bytes: &[u8]) -> usize
     bytes.iter().take_while(|byte| **byte > b'\r').count()
 }
 
-/// How many bytes in front are greater than CR: 16 are compared at once, then 8, then each.
+/// How many bytes in front are greater than CR, of fewer than 16: 8 are compared at once, then the last 8, of which
+/// some may be seen twice.
+fn few_above_cr_len(bytes: &[u8]) -> usize
+    requires { length bytes.now < 16 }
+    ensures { result ≡ prefix_len (nat_lt 13) bytes.now }
+{
+    if bytes.len() < 8 {
+        return each_above_cr_len(bytes);
+    }
+    let count = above_cr_of_8(bytes);
+    if count < 8 {
+        return count;
+    }
+    let last = bytes.len() - 8;
+    last + above_cr_of_8(&bytes[last..])
+}
+
+/// How many bytes in front are greater than CR: 16 are compared at once, and at the end the last 16, of which some may
+/// be seen twice.
 pub fn above_cr_len(bytes: &[u8]) -> usize
     ensures value { result ≡ prefix_len (nat_lt 13) bytes.now }
     ensures bound { result ≤ length bytes.now }
 {
+    if bytes.len() < 16 {
+        return few_above_cr_len(bytes);
+    }
+    let last = bytes.len() - 16;
     let mut at = 0;
-    while bytes.len() - at >= 16 && are_above_cr(&bytes[at..][..16]) {
+    while at < last {
+        let count = above_cr_of_16(&bytes[at..]);
+        if count < 16 {
+            return at + count;
+        }
         at += 16;
     }
-    if bytes.len() - at >= 8 && are_above_cr(&bytes[at..][..8]) {
-        at += 8;
-    }
-    at + each_above_cr_len(&bytes[at..])
+    last + above_cr_of_16(&bytes[last..])
 }
 
 /// How many bytes of text stand in front: many at once, then byte by byte.

@@ -1,16 +1,18 @@
 -- How many cells a line has as the head of a table, byte by byte; and one where it has no pipe.
 use Rattle.std.proofs.Common.{◌≡◌, ℕ, suc, ◌+◌, ◌-◌, Bool, true, false, cond, ◌&&◌, nat_eq, List, [], ◌∷◌, length, refl}
-use Rattle.std.proofs.Common.{sym, ◌∙◌, ap, arith, get_or}
-use Rattle.std.specs.Prelude.{not}
+use Rattle.std.proofs.Common.{sym, ◌∙◌, ap, arith}
+use Rattle.std.specs.Prelude.{not, ◌==◌}
 use Rattle.std.specs.List.{All, onto_first, prefix_len, suffix_len}
 use Rattle.std.proofs.lemmas.List.{length-map}
-use Rattle.std.proofs.lemmas.List.Elements.{All-drop, All-from_get_or, All-take}
-use Rattle.memchr.specs.Find.{Nowhere, Passes, is_byte}
+use Rattle.std.proofs.lemmas.Bool.{not-true}
+use Rattle.std.proofs.lemmas.List.Elements.{All-drop, All-take}
+use Rattle.std.proofs.lemmas.List.Sums.{AllPass-from_list_all}
+use Rattle.md_meaning.specs.Ascii.{pipe}
 use Rattle.md_meaning.specs.Bytes.{after_optional, is_end}
 use Rattle.md_meaning.specs.Lines.{begins_with}
 use Rattle.md_meaning.specs.Rest.{is_white, trim, trim_start}
 use Rattle.md_meaning.specs.Table.{is_head, pieces, row_cells}
-use Rattle.md_link_definitions.specs.Head.{head_columns, pieces_len}
+use Rattle.md_link_definitions.specs.Head.{head_columns, is_pipeless, pieces_len}
 use Rattle.md_link_definitions.proofs.Pieces.{Parted, onto-parted, pieces-parted}
 
 onto-length : (b : ℕ) (row : List (List ℕ)) → Parted row → length (onto_first b row) ≡ length row
@@ -82,21 +84,16 @@ pipeless-optional [] is = refl
 pipeless-optional (b ∷ bs) is = ap (λ (x : Bool). cond x bs (b ∷ bs)) (pipeless-first b bs is)
 
 -- and the line may be a head
-pub head-alone : (line : List ℕ) → Nowhere (Passes (is_byte 124) line) 0 (length line) → 1 ≡ head_columns line
+pub head-alone : (line : List ℕ) → is_pipeless line ≡ true → 1 ≡ head_columns line
 unfolding is_head
-head-alone line nowhere =
+head-alone line pipeless =
     let row = trim line in
     sym
     (ap (λ (x : Bool). cond (not (x && is_end (after_optional 124 row))) (length (row_cells line)) 0)
     (pipeless-begins row is)
     ∙ cells-counted line ∙ ap (pieces_len false) (pipeless-optional row is) ∙ one-piece false row is)
   where
-    plain : (x : Bool) → (x ≡ true → ⊥) → x ≡ false
-    plain true e = absurd (e refl)
-    plain false e = refl
-
     is : HasNoPipe (trim line)
     is =
         pipeless-trimmed line
-        (All-from_get_or IsNoPipe line 0
-        (λ i lt. plain (nat_eq (get_or line i 0) 124) (nowhere i (omega arith) lt)))
+        (λ k d lt. not-true _ (AllPass-from_list_all (λ b. not (b == pipe)) line pipeless k d lt))

@@ -31,4 +31,5 @@ pub mod DefinitionLines
 pub mod DefinitionLemmas
 pub mod Pieces
 pub mod HeadLemmas
+pub mod PipelessLemmas
 pub mod OpenTextLemmas

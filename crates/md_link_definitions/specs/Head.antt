@@ -1,5 +1,6 @@
 -- The head of a table (GFM 4.10).
 use Rattle.std.specs.Prelude.{ℕ, ◌+◌, Bool, ◌&&◌, ◌==◌, not, if◌then◌else◌, List, [], ◌∷◌, length}
+use Rattle.std.specs.List.{list_all}
 use Rattle.md_meaning.specs.Ascii.{backslash, pipe}
 use Rattle.md_meaning.specs.Bytes.{is_end}
 use Rattle.md_meaning.specs.Table.{is_head, row_cells}
@@ -19,3 +20,7 @@ divided b escaped is_last = if divides b escaped is_last then 1 else 0
 abbrev pub pieces_len : Bool → List ℕ → ℕ
 pieces_len escaped [] = 1
 pieces_len escaped (b ∷ bs) = divided b escaped (is_end bs) + pieces_len (not escaped && (b == backslash)) bs
+
+-- whether no pipe stands in a line
+abbrev pub is_pipeless : List ℕ → Bool
+is_pipeless line = list_all (λ b. not (b == pipe)) line

@@ -144,6 +144,7 @@ fn begins_title(line: &[u8]) -> bool
 ///   | "c
 ///   | d"
 /// ```
+#[inline(never)]
 #[tactic(auto, unfolding(crate::specs::Progress::step))]
 pub fn step(at: Progress, line: &[u8]) -> Progress
     ensures { result ≡ progress.step at line.now }

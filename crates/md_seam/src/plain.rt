@@ -51,6 +51,7 @@ fn past_byte(byte: u8, point: Point) -> Point
 }
 
 /// The point at the end of a chunk's line.
+#[inline(always)]
 fn line_end(bytes: &[u8], chunk: &Chunk) -> Point
     requires { IsChunk bytes.now chunk.now }
     ensures { result ≡ line_end bytes.now chunk.now }
@@ -146,13 +147,13 @@ fn write_chunk(bytes: &[u8], chunk: &Chunk, events: &mut Vec<Event>)
 /// Gives the events of a chunk, those of its line and of its ending, in the place of the two events that are left first.
 /// Most parts are one line without an ending, where this is not called, so its code is kept apart.
 #[inline(never)]
-fn put_line(bytes: &[u8], chunk: &Chunk, all: &mut Rewriting) -> Result<(), Message>
-    requires chunk { IsChunk bytes.now chunk.now }
+fn put_line(bytes: &[u8], chunk: Chunk, all: &mut Rewriting) -> Result<(), Message>
+    requires chunk { IsChunk bytes.now chunk }
     requires two { 1 < length (left_of all.old) }
     ensures left { left_of all.new ≡ drop 2 (left_of all.old) }
-    ensures given { OnOk result (given_of all.new ≡ given_of all.old ++ plain_chunk bytes.now chunk.now) }
+    ensures given { OnOk result (given_of all.new ≡ given_of all.old ++ plain_chunk bytes.now chunk) }
 {
-    let end = line_end(bytes, chunk);
+    let end = line_end(bytes, &chunk);
     all.skip(2);
     all.push_unless_empty(Name::Data, chunk.first, end)?;
     all.push_unless_empty(Name::LineEnding, end, chunk.after)
@@ -171,7 +172,7 @@ pub fn put_chunk(bytes: &[u8], chunk: &Chunk, all: &mut Rewriting) -> Result<(),
         all.hold_pair(Name::Data, chunk.first, chunk.after);
         return Ok(());
     }
-    put_line(bytes, chunk, all)
+    put_line(bytes, *chunk, all)
 }
 
 /// The events of a part of these chunks, in place of those in `events`: `Data` over each line, if it is not empty, and
