@@ -1,6 +1,6 @@
 -- What an outline has read of some events is what the events spell out.
-use Rattle.std.proofs.Common.{◌≡◌, ℕ, ◌+◌, ◌<◌, ◌≤◌, Bool, true, false, ◌||◌, not, List, [], ◌∷◌, length, drop, get_or}
-use Rattle.std.proofs.Common.{slice_range, Result, Ok, Err, refl, sym, ◌∙◌, ap, subst}
+use Rattle.std.proofs.Common.{◌≡◌, ℕ, ◌+◌, ◌<◌, ◌≤◌, Bool, true, false, ◌||◌, not, List, [], ◌∷◌, ◌++◌, length, drop, get_or}
+use Rattle.std.proofs.Common.{slice_range, Result, Ok, Err, append-nil, refl, sym, ◌∙◌, ap, subst}
 use Rattle.std.specs.Prelude.{Option, Some, None, option_map, OnOk}
 use Rattle.std.specs.List.{list_all}
 use Rattle.std.specs.Str.{IsUtf8}
@@ -8,6 +8,7 @@ use Rattle.std.proofs.lemmas.Bool.{and_from, and_parts}
 use Rattle.std.proofs.lemmas.List.{at_drop_all, at_drop_more}
 use Rattle.std.proofs.lemmas.List.Elements.{All-get_or}
 use Rattle.std.proofs.lemmas.List.Sums.{AllPass-from_list_all}
+use Rattle.md_seam.proofs.PlainSteps.{range-none}
 use Rattle.md_engine.specs.declared.event.Event.{Event}
 use Rattle.md_engine.specs.declared.event.Kind.{Kind}
 use Rattle.md_engine.specs.declared.event.Kind.TheVariants.{Enter, Exit}
@@ -227,6 +228,44 @@ piece-end bytes part span end text s lines w is_begun is by begun cut epart elin
     ∙ ap (λ x. piece_shown x is_begun span.is_parted s.depth piece s.lines) by
     ∙ ap (λ x. piece_shown (part_word s.lined) x span.is_parted s.depth piece s.lines) begun)
     ∙ sym (ap (λ t. parted_at bytes end t s) is)
+
+-- a prefix begins where another ends: nothing is shown
+lines-none : (w : Option Word) (depth : ℕ) (lines : List Entry) → piece_shown w true true depth [] lines ≡ lines
+lines-none None depth lines = append-nil (lines ++ []) ∙ append-nil lines
+lines-none (Some w) depth lines = append-nil lines
+
+or-last : (x y : Bool) → y ≡ true → (x || y) ≡ true
+or-last true y h = refl
+or-last false y h = h
+
+pub piece-none : (bytes : List ℕ) (span : TextSpan) (end : ℕ) (s : OutlineState) → s.text ≡ Some span →
+    span.is_parted ≡ true → end ≤ span.from → s ≡ parted_at bytes end s.text s
+piece-none bytes span end s is parted le =
+    let w : Option Word = part_word s.lined in
+    let begun : Bool = is_titled s.lined || span.is_parted in
+    let with_text : Bool → OutlineState = λ x. record s { text = Some (record span { is_parted = x }) } in
+    let with_lines : List Entry →
+    OutlineState = λ es. record s { text = Some (record span { is_parted = true }); lines = es } in
+    ap (λ t. record s { text = t }) is
+    ∙ ap with_text parted
+    ∙ ap with_lines
+    (sym
+    (ap (λ piece. piece_shown w begun span.is_parted s.depth piece s.lines) (range-none bytes span.from end le)
+    ∙ ap (λ x. piece_shown w begun x s.depth [] s.lines) parted
+    ∙ ap (λ x. piece_shown w x true s.depth [] s.lines) (or-last (is_titled s.lined) span.is_parted parted)
+    ∙ lines-none w s.depth s.lines))
+    ∙ sym (ap (λ t. parted_at bytes end t s) is)
+
+-- The purpose of a role, which a text has.
+
+purpose_of : Role → Purpose
+purpose_of (role.Text x) = x
+purpose_of _ = purpose.Digits
+
+-- a text has one
+pub same-purpose : (r : Role) (x y : Purpose) → r ≡ role.Text x → r ≡ role.Text y → x ≡ y
+unfolding purpose_of
+same-purpose r x y one other = ap purpose_of (sym one ∙ other)
 
 -- The loop over the events.
 

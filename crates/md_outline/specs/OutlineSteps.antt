@@ -185,6 +185,14 @@ abbrev pub marker_begun : List ℕ → ℕ → Option TextSpan → Option OpenLe
 marker_begun bytes index None None None s = record s { lines = kind_given (kind_at bytes index) s.depth s.lines }
 marker_begun bytes index text leaf lined s = s
 
+-- a text begins
+abbrev pub text_begun : Point → OutlineState → OutlineState
+text_begun p s = record s {
+  text = Some
+      (record { from = spelled.byte_at p; is_parted = false });
+  spaces = spelled.columns_left p;
+}
+
 abbrev pub state_enter : List ℕ → Role → Point → OutlineState → OutlineState
 state_enter bytes (role.Container word) p s = record s {
   depth = s.depth + 1;

@@ -1,6 +1,6 @@
 // The outline of a text: its blocks and their lines, from the first to the last.
 
-ghost use Rattle.std.specs.Prelude.{◌≡◌, ◌||◌, true, Option, option_map, IfOk, OnOk};
+ghost use Rattle.std.specs.Prelude.{◌≡◌, ◌||◌, [], true, Option, option_map, IfOk, OnOk};
 ghost use Rattle.std.specs.Str.{IsUtf8};
 ghost use Rattle.md_seam.specs.Events.Spelled as spelled;
 ghost use Rattle.md_outline.specs.Outlined.{Outlines};
@@ -10,9 +10,12 @@ ghost use Rattle.md_outline.specs.OutlineSteps.{IsCutAt, IsCutBy, cell_begun, co
 ghost use Rattle.md_outline.specs.OutlineSteps.{fence_begun};
 ghost use Rattle.md_outline.specs.OutlineSteps.{head_marked, is_titled, label_ended, leaf_ended, marker_begun};
 ghost use Rattle.md_outline.specs.OutlineSteps.{line_ended, parted_at, state_by, state_enter, state_exit, state_of};
-ghost use Rattle.md_outline.specs.OutlineSteps.{title_told, told_at, told_leaf, told_marker};
+ghost use Rattle.md_outline.specs.OutlineSteps.{text_begun, title_told, told_at, told_leaf, told_marker};
 ghost use Rattle.md_outline.specs.Roles.{shown_as};
 ghost use Rattle.md_outline.specs.declared.outline.TextSpan.{TextSpan};
+ghost use Rattle.md_outline.specs.declared.outline.role.Note.TheVariants as note;
+ghost use Rattle.md_outline.specs.declared.outline.role.Purpose.{Purpose};
+ghost use Rattle.md_outline.specs.declared.outline.role.Role.TheVariants as role;
 
 mod alert;
 mod definition;
@@ -34,7 +37,7 @@ use crate::outline::lines::{first_of, next, part, push, push_lines};
 use crate::outline::paragraph::{push_block, push_piece};
 use crate::outline::role::{Leaf, Note, Purpose, Role, push_leaf, role_of};
 use crate::outline::table::{count_column, fill_cell, push_cell, push_delimiter, push_row};
-use md_engine::event::{Event, Kind, Point};
+use md_engine::event::{Event, Kind, Name, Point};
 use md_engine::message::Message;
 use md_engine::parse_state::ParseState;
 pub use md_meaning::alert::AlertKind;
@@ -154,6 +157,18 @@ impl<'a> Reading<'a> {
         }
     }
 
+    /// Reads a run of markers.
+    #[inline(always)]
+    fn end_markers(&mut self, text: &'a [u8]) -> Result<(), Message>
+        ensures bytes { self.new.bytes ≡ self.old.bytes }
+        ensures read { OnOk result (IsUtf8 text.now → state_of self.new ≡
+            head_marked (state_of self.old).lined text.now (told_leaf note.Markers text.now (state_of self.old))) }
+    {
+        self.note(Note::Markers, text);
+        self.mark_lined(text);
+        Ok(())
+    }
+
     /// Reads the label of a definition: its last lines, or all of it.
     fn end_label(&mut self, is_parted: bool, text: &'a [u8]) -> Result<(), Message>
         ensures bytes { self.new.bytes ≡ self.old.bytes }
@@ -237,6 +252,7 @@ impl<'a> Reading<'a> {
     }
 
     /// Reads a line ending, which may open a line of a leaf block.
+    #[inline(always)]
     fn end_line(&mut self, end: usize) -> Result<(), Message>
         ensures bytes { self.new.bytes ≡ self.old.bytes }
         ensures read { OnOk result (state_of self.new ≡
@@ -262,10 +278,26 @@ impl<'a> Reading<'a> {
         push_leaf(&mut self.lines, self.depth, leaf)
     }
 
-    /// Reads the text that ends here, if one is read.
-    fn end_text(&mut self, purpose: Purpose, end: usize) -> Result<(), Message>
+    /// Reads the begin of a text.
+    #[inline(always)]
+    fn begin_text(&mut self, point: Point) -> Result<(), Message>
         ensures bytes { self.new.bytes ≡ self.old.bytes }
-        ensures read { OnOk result (IsCutAt self.old.bytes.now self.old.text end →
+        ensures read { OnOk result (state_of self.new ≡ text_begun point (state_of self.old)) }
+    {
+        self.spaces = spaces_at(point);
+        self.text = Some(TextSpan {
+            from: byte_at(point)?,
+            is_parted: false,
+        });
+        Ok(())
+    }
+
+    /// Reads the text that ends here, if one is read.
+    #[inline(always)]
+    fn end_text(&mut self, name: Name, end: usize) -> Result<(), Message>
+        ensures bytes { self.new.bytes ≡ self.old.bytes }
+        ensures read { OnOk result ((purpose : Purpose) → shown_as (spelled.role name) ≡ role.Text purpose →
+            IsCutAt self.old.bytes.now self.old.text end →
             state_of self.new ≡ told_at self.old.bytes.now purpose end self.old.text (state_of self.old)) }
     {
         let Some(span) = self.text else {
@@ -273,14 +305,13 @@ impl<'a> Reading<'a> {
         };
         self.text = None;
         let text = part(self.bytes, span.from, end);
+        let Role::Text(purpose) = role_of(name) else {
+            return Ok(());
+        };
         match purpose {
             Purpose::Block => push_block(&mut self.lines, self.depth, span.is_parted, text),
             Purpose::Title => self.title(text),
-            Purpose::Markers => {
-                self.note(Note::Markers, text);
-                self.mark_lined(text);
-                Ok(())
-            }
+            Purpose::Markers => self.end_markers(text),
             Purpose::Part(word) => push_part(&mut self.lines, self.depth, word, text),
             Purpose::Line => {
                 let spaces = self.shown_spaces();
@@ -309,7 +340,8 @@ impl<'a> Reading<'a> {
     }
 
     /// Shows what stands in front of a prefix in the text that is read, if one is.
-    fn part_text(&mut self, end: usize) -> Result<(), Message>
+    #[inline(never)]
+    fn show_piece(&mut self, end: usize) -> Result<(), Message>
         ensures bytes { self.new.bytes ≡ self.old.bytes }
         ensures read { OnOk result (IsCutAt self.old.bytes.now self.old.text end →
             state_of self.new ≡ parted_at self.old.bytes.now end self.old.text (state_of self.old)) }
@@ -331,6 +363,23 @@ impl<'a> Reading<'a> {
         }
     }
 
+    /// Reads the begin of a prefix. In front of it is nothing to be shown where no text is read, or where another prefix
+    /// ends there.
+    #[inline(always)]
+    fn part_text(&mut self, end: usize) -> Result<(), Message>
+        ensures bytes { self.new.bytes ≡ self.old.bytes }
+        ensures read { OnOk result (IsCutAt self.old.bytes.now self.old.text end →
+            state_of self.new ≡ parted_at self.old.bytes.now end self.old.text (state_of self.old)) }
+    {
+        let Some(span) = self.text else {
+            return Ok(());
+        };
+        if span.is_parted && end <= span.from {
+            return Ok(());
+        }
+        self.show_piece(end)
+    }
+
     /// Reads on behind a prefix.
     fn go_on(&mut self, place: usize)
         ensures bytes { self.new.bytes ≡ self.old.bytes }
@@ -347,9 +396,22 @@ impl<'a> Reading<'a> {
         }
     }
 
+    /// Reads the begin of a marker of a quote.
+    #[inline(always)]
+    fn begin_marker(&mut self, index: usize)
+        ensures bytes { self.new.bytes ≡ self.old.bytes }
+        ensures read { state_of self.new ≡ marker_begun self.old.bytes.now index
+            self.old.text (state_of self.old).leaf self.old.lined (state_of self.old) }
+    {
+        if may_begin(self.bytes, index) {
+            self.begin_kind(index);
+        }
+    }
+
     /// Reads the begin of a marker of a quote. It may give the quote its kind as long as nothing in the quote is shown:
     /// then the line of the quote is the last.
-    fn begin_marker(&mut self, index: usize)
+    #[inline(never)]
+    fn begin_kind(&mut self, index: usize)
         ensures bytes { self.new.bytes ≡ self.old.bytes }
         ensures read { state_of self.new ≡ marker_begun self.old.bytes.now index
             self.old.text (state_of self.old).leaf self.old.lined (state_of self.old) }
@@ -362,12 +424,15 @@ impl<'a> Reading<'a> {
     }
 
     /// Reads an event that begins a part.
-    fn enter(&mut self, role: Role<'a>, point: Point) -> Result<(), Message>
+    #[inline(always)]
+    fn enter(&mut self, name: Name, point: Point) -> Result<(), Message>
         ensures bytes { self.new.bytes ≡ self.old.bytes }
-        ensures read { OnOk result (IsCutBy role.entry self.old.bytes.now self.old.text point.index →
-            state_of self.new ≡ state_enter self.old.bytes.now role.entry point (state_of self.old)) }
+        ensures read { OnOk result (
+            IsCutBy (shown_as (spelled.role name)) self.old.bytes.now self.old.text point.index →
+            state_of self.new ≡
+            state_enter self.old.bytes.now (shown_as (spelled.role name)) point (state_of self.old)) }
     {
-        match role {
+        match role_of(name) {
             Role::Container(word) => {
                 push_container(&mut self.lines, self.depth, word)?;
                 self.depth = next(self.depth)?;
@@ -392,13 +457,7 @@ impl<'a> Reading<'a> {
             Role::Title => push(&mut self.lines, next(self.depth)?, Word::Title, "")?,
             Role::Row => push_row(&mut self.lines, self.depth)?,
             Role::Cell => self.begin_cell()?,
-            Role::Text(_) => {
-                self.spaces = spaces_at(point);
-                self.text = Some(TextSpan {
-                    from: byte_at(point)?,
-                    is_parted: false,
-                });
-            }
+            Role::Text(_) => self.begin_text(point)?,
             Role::QuoteMarker => self.begin_marker(point.index),
             Role::Ending | Role::Quiet => {}
         }
@@ -406,12 +465,15 @@ impl<'a> Reading<'a> {
     }
 
     /// Reads an event that ends a part.
-    fn exit(&mut self, role: Role<'a>, point: Point) -> Result<(), Message>
+    #[inline(always)]
+    fn exit(&mut self, name: Name, point: Point) -> Result<(), Message>
         ensures bytes { self.new.bytes ≡ self.old.bytes }
-        ensures read { OnOk result (IsCutBy role.entry self.old.bytes.now self.old.text point.index →
-            state_of self.new ≡ state_exit self.old.bytes.now role.entry point (state_of self.old)) }
+        ensures read { OnOk result (
+            IsCutBy (shown_as (spelled.role name)) self.old.bytes.now self.old.text point.index →
+            state_of self.new ≡
+            state_exit self.old.bytes.now (shown_as (spelled.role name)) point (state_of self.old)) }
     {
-        match role {
+        match role_of(name) {
             Role::Container(_) | Role::List => {
                 self.depth = self.depth.saturating_sub(1);
                 Ok(())
@@ -426,27 +488,14 @@ impl<'a> Reading<'a> {
                 Ok(())
             }
             Role::Ending => self.end_line(point.index),
-            Role::Text(purpose) => self.end_text(purpose, point.index),
+            Role::Text(_) => self.end_text(name, point.index),
             Role::Fence | Role::Title | Role::Row | Role::Cell | Role::QuoteMarker | Role::Quiet =>
                 Ok(()),
         }
     }
 
-    /// Whether an event changes nothing: it has no meaning, or is of a marker of a quote that is no marker of a kind.
+    /// Reads the next event: those of the most frequent roles first.
     #[inline(always)]
-    fn is_quiet(&self, role: Role<'a>, event: &Event) -> bool
-        ensures { result ≡ true →
-            state_by self.now.bytes.now event.now.kind role.entry event.now.point (state_of self.now) ≡
-            state_of self.now }
-    {
-        match (role, event.kind) {
-            (Role::Quiet, _) | (Role::QuoteMarker, Kind::Exit) => true,
-            (Role::QuoteMarker, Kind::Enter) => !may_begin(self.bytes, event.point.index),
-            _ => false,
-        }
-    }
-
-    /// Reads the next event.
     fn read(&mut self, event: &Event) -> Result<(), Message>
         ensures bytes { self.new.bytes ≡ self.old.bytes }
         ensures read { OnOk result (
@@ -454,14 +503,49 @@ impl<'a> Reading<'a> {
             state_of self.new ≡ state_by self.old.bytes.now event.now.kind (shown_as (spelled.role event.now.name))
             event.now.point (state_of self.old)) }
     {
-        let role = role_of(event.name);
-        if self.is_quiet(role, event) {
-            return Ok(());
+        match role_of(event.name) {
+            Role::Quiet => {}
+            Role::Ending => {
+                if let Kind::Exit = event.kind {
+                    self.end_line(event.point.index)?;
+                }
+            }
+            Role::Text(_) => match event.kind {
+                Kind::Enter => self.begin_text(event.point)?,
+                Kind::Exit => self.end_text(event.name, event.point.index)?,
+            },
+            Role::Prefix => match event.kind {
+                Kind::Enter => self.part_text(event.point.index)?,
+                Kind::Exit => self.go_on(byte_at(event.point)?),
+            },
+            Role::QuoteMarker => {
+                if let Kind::Enter = event.kind {
+                    self.begin_marker(event.point.index);
+                }
+            }
+            _ => match event.kind {
+                Kind::Enter => self.enter(event.name, event.point)?,
+                Kind::Exit => self.exit(event.name, event.point)?,
+            },
         }
-        match event.kind {
-            Kind::Enter => self.enter(role, event.point),
-            Kind::Exit => self.exit(role, event.point),
-        }
+        Ok(())
+    }
+}
+
+/// A line has at least so many events, in all but short texts.
+const EVENTS_A_LINE: usize = 4;
+
+/// For how many lines more there is room: a short text has fewer events a line.
+const SPARE_LINES: usize = 8;
+
+/// An empty list with room for the lines of so many events. It rarely grows, so the C library rarely copies it.
+fn with_room<'a>(alloc: Global, events: usize) -> Result<Vec<OutlineLine<'a>>, Message>
+    ensures { IfOk result (λ lines. lines.items ≡ []) }
+{
+    let most = SPARE_LINES + events / EVENTS_A_LINE;
+    match Vec::with_capacity(alloc, events.min(most)) {
+        Ok(lines) => Ok(lines),
+        Err(_) => Err(Message),
     }
 }
 
@@ -484,7 +568,7 @@ pub fn outline<'a>(
         spaces: 0,
         lined: None,
         untold: None,
-        lines: Vec::new(alloc),
+        lines: with_room(alloc, events.len())?,
     };
     for event in events {
         reading.read(event)?;
