@@ -132,7 +132,8 @@ pub fn passes(place: Place, event: &Event) -> bool
 pub fn passes_on(place: Place, event: &Event) -> bool
     ensures { result ≡ passes_on place event.now }
 {
-    passes(place, event) && !is_underline(event.name)
+    let name = event.name;
+    !(has_lines(name) || is_underline(name) || is_renamed(place, name))
 }
 
 /// Whether an event passes a place as it is, and is of no underline.

@@ -5,8 +5,8 @@ ghost use Rattle.std.specs.Prelude.{◌≡◌, ◌≤◌, ◌<◌, ◌+◌, ◌-
 use md_engine::event::Event;
 use md_engine::message::Message;
 
-/// So many events are copied at once: the C library copies larger pieces by an instruction that goes byte by byte.
-const PIECE: usize = 48;
+/// So many events are copied at once: the C library copies a page or more by an instruction that goes byte by byte.
+const PIECE: usize = 96;
 
 /// How many of so many events are copied at once.
 fn piece(left: usize) -> usize

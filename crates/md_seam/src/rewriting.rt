@@ -11,8 +11,8 @@ use md_engine::message::Message;
 /// So many events at least are made room for at once.
 const LEAST: usize = 16;
 
-/// So many events are written at once: the C library copies larger pieces by an instruction that goes byte by byte.
-const PIECE: usize = 48;
+/// So many events are written at once: the C library copies a page or more by an instruction that goes byte by byte.
+const PIECE: usize = 96;
 
 /// What fills a place that nothing was written to yet.
 const NOTHING: Event = Event {

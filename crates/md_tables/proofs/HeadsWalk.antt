@@ -41,7 +41,7 @@ not-head e [] none = refl
 not-head e (x ∷ es) none = rw none refl
 
 -- so all events before the next line of text pass
-headed-run : (bytes : List ℕ) (options : ParseOptions) (es : List Event) →
+pub headed-run : (bytes : List ℕ) (options : ParseOptions) (es : List Event) →
     (let n = prefix_len (λ e. not (begins_chunk e)) es in
     headed bytes options es ≡ take n es ++ headed bytes options (drop n es))
 headed-run bytes options [] = refl
@@ -55,13 +55,13 @@ headed-run bytes options (e ∷ es) = go (begins_chunk e) refl (headed-run bytes
     go true h k = refl
     go false h k = headed-more bytes options e es _ _ refl (not-head e es h) k
 
--- so do they behind an event with which no head begins
-pub headed-next : (bytes : List ℕ) (options : ParseOptions) (e : Event) (es : List Event) (n : ℕ) →
-    es ≡ e ∷ drop 1 es → is_head es ≡ false → n ≡ 1 + prefix_len (λ e. not (begins_chunk e)) (drop 1 es) →
-    headed bytes options es ≡ take n es ++ headed bytes options (drop n es)
-headed-next bytes options e [] n first none size = cc
-headed-next bytes options e (x ∷ es) n first none size =
-    headed-more bytes options x es n _ size none (headed-run bytes options es)
+-- and so do events behind one with which no head begins
+pub headed-next : (bytes : List ℕ) (options : ParseOptions) (es : List Event) (n : ℕ) →
+    0 < length es → is_head es ≡ false →
+    headed bytes options (drop 1 es) ≡ take n (drop 1 es) ++ headed bytes options (drop n (drop 1 es)) →
+    headed bytes options es ≡ take (1 + n) es ++ headed bytes options (drop (1 + n) es)
+headed-next bytes options [] n some none more = absurd (omega (arith, some))
+headed-next bytes options (e ∷ es) n some none more = headed-more bytes options e es (1 + n) n refl none more
 
 -- Before the first further row.
 

@@ -4,8 +4,8 @@
 // head row. The walk begins just before the first delimiter row; a text without one is only searched for it. It tests
 // each event as it passes it, and else at most once from the line of text before it. So it is linear.
 
-ghost use Rattle.std.specs.Prelude.{◌≡◌, ◌≢◌, ℕ, ◌≤◌, ◌++◌, IfOk, IfSome, List, None, OnOk, [], drop, length, not};
-ghost use Rattle.std.specs.Prelude.{take};
+ghost use Rattle.std.specs.Prelude.{◌≡◌, ◌≢◌, ℕ, ◌≤◌, ◌<◌, ◌++◌, IfOk, IfSome, List, None, OnOk, [], drop, false};
+ghost use Rattle.std.specs.Prelude.{length, not, take};
 ghost use Rattle.std.specs.List.{prefix_len};
 ghost use Rattle.std.specs.Option.{option_map};
 ghost use Rattle.md_engine.specs.Found.{found_in};
@@ -235,6 +235,27 @@ fn until_chunk(events: &[Event]) -> usize
     passing(&BeginsNoChunk, events)
 }
 
+/// How many events come before the next line of text that may be a head, where no head begins with the first event.
+///
+/// Behind a line of text that is no head this looks for the next further row. What it finds in front of that row is a
+/// head or no line of text, and then it looks for the next line of text. So it goes over each event once.
+fn until_next(events: &[Event]) -> usize
+    requires some { 0 < length events.now }
+    requires none { is_head events.now ≡ false }
+    ensures passed { (bytes : List ℕ) (options : ParseOptions) →
+        headed bytes options events.now ≡
+        take result events.now ++ headed bytes options (drop result events.now) }
+    ensures within { result ≤ length events.now }
+    ensures more { 0 < result }
+{
+    let rest = &events[1..];
+    if begins_chunk(&events[0]) {
+        1 + until_head(rest)
+    } else {
+        1 + until_chunk(rest)
+    }
+}
+
 /// The events with each head in the place of its chunk, in the list of the events.
 #[inline(never)]
 fn put_heads(
@@ -253,7 +274,7 @@ fn put_heads(
     let mut head = Vec::new(alloc);
     while let Some(event) = all.first() {
         if !is_head(all.left()) {
-            let many = 1 + until_chunk(&all.left()[1..]);
+            let many = until_next(all.left());
             all.hold_many(many);
             continue;
         }

@@ -40,19 +40,10 @@ pub loop-event-preserved-then-not-is_head : goal.loop-event-preserved-then-not-i
 loop-event-preserved-then-not-is_head c =
     let bytes = c.args.bytes.now in
     let options = c.args.options.now in
-    let rest : List Event = left_of c.loop-event.all in
     let held = c.hold_many-then-not-is_head.ensures in
-    let many : ℕ = 1 + c.until_chunk-many.result in
-    let run : c.until_chunk-many.result ≡ prefix_len (λ (e : Event). not (begins_chunk e)) (drop 1 rest) =
-    c.until_chunk-many.ensures.value
-    ∙ ap (prefix_len (λ (e : Event). not (begins_chunk e)))
-    (take_rest c.left-then-not-is_head.result.now 1 ∙ ap (drop 1) c.left-then-not-is_head.ensures) in
-    let none = sym c.is_head.ensures ∙ c.if-not-is_head.true in
-    leads-held bytes options c.args.events.items c.loop-event.all c.hold_many-then-not-is_head.new.self many held.left
-    held.held held.written
-    (headed-next bytes options c.in-Some.event rest many c.in-Some.ensures.some (rw c.left-in-Some.ensures at none)
-    (omega (arith, run)))
-    c.loop-event.invariant
+    let passed = rw c.left-then-not-is_head.ensures at (c.until_next-many.ensures.passed bytes options) in
+    leads-held bytes options c.args.events.items c.loop-event.all c.hold_many-then-not-is_head.new.self
+    c.until_next-many.result held.left held.held held.written passed c.loop-event.invariant
 
 pub loop-event-preserved : goal.loop-event-preserved
 loop-event-preserved c =
