@@ -35,7 +35,7 @@ data-takes w b e h =
     ap (λ (x : Bool). data_code w x (sees_white w.current)) (ap sees_text e ∙ text)
 
 -- a transition, as a step
-stepped : (a : Transition) (to : State) (new : World) → a ≡ record { to = to; world = new } →
+pub stepped : (a : Transition) (to : State) (new : World) → a ≡ record { to = to; world = new } →
     (to ≡ a.to) × (new ≡ a.world)
 stepped a to new e = (sym (ap (λ (x : Transition). x.to) e), sym (ap (λ (x : Transition). x.world) e))
 

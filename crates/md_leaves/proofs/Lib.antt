@@ -15,6 +15,7 @@ pub mod HeadingLemmas
 pub mod HeadingMeaning
 pub mod HeadingWhole
 pub mod HeadingWords
+pub mod HeadingMarks
 pub mod BomMeaning
 pub mod NonLazyTermination
 pub mod NonLazyMeaning
@@ -28,3 +29,4 @@ pub mod HeadingGrammar
 pub mod LeafStart
 pub mod LeafSteps
 pub mod TurnedLemmas
+pub mod WordsPassed

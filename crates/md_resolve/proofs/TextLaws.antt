@@ -1,15 +1,16 @@
 -- The text of an ATX heading, as the counts of the walks over its events set it.
-use Rattle.std.proofs.Common.{◌≡◌, ◌<◌, ◌≤◌, ◌+◌, ◌-◌, ℕ, zero, suc, Bool, true, false, cond, not, ◌&&◌, List, [], ◌∷◌}
+use Rattle.std.proofs.Common.{◌≡◌, ◌<◌, ◌≤◌, ◌+◌, ◌-◌, ℕ, zero, suc, Bool, true, false, cond, not, ◌&&◌, ◌||◌, List, [], ◌∷◌}
 use Rattle.std.proofs.Common.{◌++◌, Option, Some, None, drop, take, length, get_or, refl, ap, ap₂, sym, ◌∙◌, subst}
 use Rattle.std.proofs.Common.{arith, add-one, add-zero, length-drop, append_assoc, append-nil, drop-cons, drop-drop}
 use Rattle.std.proofs.Common.{get_or-drop, length-take-le, take-add, take-append-drop, take-take}
 use Rattle.std.specs.List.{All, prefix_len}
-use Rattle.std.proofs.lemmas.List.{drop-take, take_all}
+use Rattle.std.proofs.lemmas.List.{drop-take, drop_all, get_or-take, take_all}
 use Rattle.std.proofs.lemmas.List.Elements.{All-cons, All-drop, All-head, All-nil, All-tail}
 use Rattle.md_engine.specs.declared.event.Event.{Event}
 use Rattle.md_engine.specs.declared.event.Kind.{Kind}
 use Rattle.md_engine.specs.declared.event.Kind.TheVariants.{Enter, Exit}
 use Rattle.md_engine.specs.declared.event.Name.{Name}
+use Rattle.md_engine.specs.declared.event.Name.TheVariants.{HeadingAtxSequence}
 use Rattle.md_engine.specs.declared.event.Point.{Point}
 use Rattle.md_leaves.specs.HeadingText.{Before, Opened, Outside, Place, Within, begins, ends, headings_resolved}
 use Rattle.md_leaves.specs.HeadingText.{is_heading, is_run, is_sequence, resolved, text_between}
@@ -18,7 +19,7 @@ use Rattle.md_order.proofs.HeadStep.{heading-more, one-more}
 use Rattle.md_seam.specs.Events.Nested.{is_enter, is_exit}
 use Rattle.md_seam.specs.Events.Tiles.{is_data}
 use Rattle.md_seam.specs.Rewritten.{IsFirst}
-use Rattle.md_resolve.specs.Texted.{IsInside, begun, last_point, point_at, texted}
+use Rattle.md_resolve.specs.Texted.{IsInside, IsLastRun, begun, last_point, point_at, texted}
 
 -- Names.
 
@@ -218,6 +219,234 @@ texted-other at text last es d here no_text no_run inside h = record {
         resolved (Within first (last_point text es) (last_point last es) h.closing h.since) (e ∷ rest)
         ≡ resolved (Within first (last_point text es) (last_point last es) h.closing (h.since ++ e ∷ [])) rest
     one first e rest i j k = rw (i, j, k) refl
+
+-- The text from behind: no run ends behind the last.
+
+no-run : (kind : Kind) (name : Name) → (is_exit kind && is_run name) ≡ false →
+    ((is_exit kind && is_data name) ≡ false) × ((is_exit kind && is_sequence name) ≡ false)
+no-run Enter name h = (refl, refl)
+no-run Exit name h = go (is_data name) (is_sequence name) h
+  where
+    go : (x y : Bool) → (x || y) ≡ false → (x ≡ false) × (y ≡ false)
+    go false false e = (refl, refl)
+    go false true e = cc
+    go true y e = cc
+
+run-data : (kind : Kind) (name : Name) → (is_exit kind && is_run name) ≡ true →
+    (is_exit kind && is_sequence name) ≡ false → (is_exit kind && is_data name) ≡ true
+run-data Enter name h k = cc
+run-data Exit name h k = go (is_data name) (is_sequence name) h k
+  where
+    go : (x y : Bool) → (x || y) ≡ true → y ≡ false → x ≡ true
+    go true y e f = refl
+    go false true e f = cc
+    go false false e f = cc
+
+-- the name of a run of `#` is not that of text
+sequence-only : (name : Name) → is_sequence name ≡ true → is_data name ≡ false
+sequence-only HeadingAtxSequence h = refl
+sequence-only _ h = cc
+
+run-sequence : (kind : Kind) (name : Name) → (is_exit kind && is_sequence name) ≡ true →
+    (is_exit kind && is_data name) ≡ false
+run-sequence Enter name h = cc
+run-sequence Exit name h = sequence-only name h
+
+run-end : (kind : Kind) (name : Name) → (is_exit kind && is_run name) ≡ true → (is_exit kind && is_data name) ≡ false →
+    (is_exit kind && is_sequence name) ≡ true
+run-end Enter name h k = cc
+run-end Exit name h k = go (is_data name) (is_sequence name) h k
+  where
+    go : (x y : Bool) → (x || y) ≡ true → x ≡ false → y ≡ true
+    go true y e f = cc
+    go false true e f = refl
+    go false false e f = cc
+
+before-next : (i : ℕ) → suc i - 1 ≡ i
+before-next i = omega arith
+
+-- a walk over so many events
+abbrev Walked : ℕ → List Event → Type 0
+Walked at es = (text : ℕ) × ((last : ℕ) × IsTexted at text last es)
+
+walked : (at : ℕ) (es : List Event) (d : Event) → at ≤ length es → All IsInside es → Walked at es
+walked zero es d le inside = (0, (0, texted-none es))
+walked (suc at) es d le inside = go (ends is_data e) (ends is_sequence e) refl refl (walked at es d (omega (arith, le)) inside)
+  where
+    e : Event
+    e = get_or es at d
+
+    lt : at < length es
+    lt = omega (arith, le)
+
+    go : (x y : Bool) → ends is_data e ≡ x → ends is_sequence e ≡ y → Walked at es → Walked (suc at) es
+    go true y p q w = (
+      at + 1,
+      (
+        at + 1,
+        subst (λ (m : ℕ). IsTexted m (at + 1) (at + 1) es) (add-one at)
+            (texted-data at w.0 w.1.0 es d lt p w.1.1),
+      ),
+    )
+    go false true p q w = (
+      w.1.0,
+      (
+        at + 1,
+        subst (λ (m : ℕ). IsTexted m w.1.0 (at + 1) es) (add-one at)
+            (texted-run at w.0 w.1.0 es d lt p q w.1.1),
+      ),
+    )
+    go false false p q w = (
+      w.0,
+      (
+        w.1.0,
+        subst (λ (m : ℕ). IsTexted m w.0 w.1.0 es) (add-one at)
+            (texted-other at w.0 w.1.0 es d lt p q (inside at d lt) w.1.1),
+      ),
+    )
+
+-- and over more, among which no run ends
+walked-on : (more at text last : ℕ) (es : List Event) (d : Event) → at + more ≤ length es → All IsInside es →
+    ((k : ℕ) → at ≤ k → k < at + more → ends is_run (get_or es k d) ≡ false) → IsTexted at text last es →
+    IsTexted (at + more) text last es
+walked-on zero at text last es d le inside none h = rw add-zero h
+walked-on (suc more) at text last es d le inside none h =
+    let before = walked-on more at text last es d (omega (arith, le)) inside
+    (λ k low lt. none k low (omega (arith, lt))) h in
+    let lt : at + more < length es = omega (arith, le) in
+    let no = no-run (get_or es (at + more) d).kind (get_or es (at + more) d).name
+    (none (at + more) (omega arith) (omega arith)) in
+    let same : at + more + 1 ≡ at + suc more = omega arith in
+    subst (λ (m : ℕ). IsTexted m text last es) same
+    (texted-other (at + more) text last es d lt no.0 no.1 (inside (at + more) d lt) before)
+
+-- the last run of the first of them
+lastly : (j m : ℕ) (es : List Event) (d : Event) → j ≤ length es → All IsInside es → m ≤ j →
+    (0 < m → ends is_run (get_or es (m - 1) d) ≡ true) →
+    ((k : ℕ) → m ≤ k → k < j → ends is_run (get_or es k d) ≡ false) → (text : ℕ) × IsTexted j text m es
+lastly j zero es d le inside low is none =
+    let same : 0 + j ≡ j = omega arith in (
+      0,
+      subst (λ (m : ℕ). IsTexted m 0 0 es) same
+          (walked-on j 0 0 0 es d (omega (arith, le)) inside (λ k a b. none k a (omega (arith, b))) (texted-none es)),
+    )
+lastly j (suc i) es d le inside low is none =
+    go (ends is_data e) refl (walked i es d (omega (arith, le, low)) inside)
+  where
+    e : Event
+    e = get_or es i d
+
+    lt : i < length es
+    lt = omega (arith, le, low)
+
+    on : (text : ℕ) → IsTexted (i + 1) text (i + 1) es → (text : ℕ) × IsTexted j text (suc i) es
+    on text h =
+        let same : i + 1 + (j - (i + 1)) ≡ j = omega (arith, low) in (
+          text,
+          subst (λ (m : ℕ). IsTexted j text m es) (add-one i) (subst (λ (m : ℕ). IsTexted m text (i + 1) es) same
+              (walked-on (j - (i + 1)) (i + 1) text (i + 1) es d (omega (arith, le, low)) inside
+              (λ k a b. none k (omega (arith, a)) (omega (arith, b, low))) h)),
+        )
+
+    ends-at : ends is_run (get_or es (suc i - 1) d) ≡ true → ends is_run e ≡ true
+    ends-at h = subst (λ (k : ℕ). ends is_run (get_or es k d) ≡ true) (before-next i) h
+
+    go : (x : Bool) → ends is_data e ≡ x → Walked i es → (text : ℕ) × IsTexted j text (suc i) es
+    go true p w = on (i + 1) (texted-data i w.0 w.1.0 es d lt p w.1.1)
+    go false p w =
+        on w.1.0 (texted-run i w.0 w.1.0 es d lt p (run-end e.kind e.name (ends-at (is (omega arith))) p) w.1.1)
+
+-- all of the events
+texted-all : (text last : ℕ) (es : List Event) → IsTexted (length es) text last es → (first : Point) →
+    resolved (Within first None None [] []) es ≡ texted first text es
+texted-all text last es h first =
+    h.set first
+    ∙ ap (resolved (Within first (last_point text es) (last_point last es) h.closing h.since)) none
+    ∙ append_assoc (text_between first (last_point text es)) h.closing h.since
+    ∙ ap (λ (l : List Event). text_between first (last_point text es) ++ l)
+    (sym (append-nil (h.closing ++ h.since)) ∙ ap (λ (l : List Event). h.closing ++ h.since ++ l) (sym none)
+    ∙ h.behind_text)
+  where
+    none : drop (length es) es ≡ []
+    none = drop_all (length es) es (omega arith)
+
+-- what is said of the events behind the last run, by their indices
+behind-last : (n : ℕ) (es : List Event) (d : Event) → IsLastRun n es → (k : ℕ) → n ≤ k → k < length es →
+    ends is_run (get_or es k d) ≡ false
+behind-last n es d h k low lt =
+    let size = length-drop n es in
+    let here = h.behind (k - n) d (omega (arith, size, low, lt)) in
+    let same : n + (k - n) ≡ k = omega (arith, low) in
+    rw same at (rw (get_or-drop n es (k - n) d) at here)
+
+-- the last run is of text, or there is none
+pub text-last : (n : ℕ) (es : List Event) (d : Event) → All IsInside es → IsLastRun n es →
+    (0 < n → ends is_sequence (get_or es (n - 1) d) ≡ false) → (first : Point) →
+    resolved (Within first None None [] []) es ≡ texted first n es
+text-last zero es d inside h is first =
+    let same : 0 + length es ≡ length es = omega arith in
+    texted-all 0 0 es
+    (subst (λ (m : ℕ). IsTexted m 0 0 es) same
+    (walked-on (length es) 0 0 0 es d (omega arith) inside
+    (λ k a b. behind-last 0 es d h k a (omega (arith, b))) (texted-none es))) first
+text-last (suc i) es d inside h is first =
+    let lt : i < length es = omega (arith, h.within) in
+    let e = get_or es i d in
+    let run : ends is_run e ≡ true =
+    subst (λ (k : ℕ). ends is_run (get_or es k d) ≡ true) (before-next i) (h.is_end (omega arith) d) in
+    let other : ends is_sequence e ≡ false =
+    subst (λ (k : ℕ). ends is_sequence (get_or es k d) ≡ false) (before-next i) (is (omega arith)) in
+    let yes = run-data e.kind e.name run other in
+    let w = walked i es d (omega (arith, lt)) inside in
+    let one : IsTexted (i + 1) (i + 1) (i + 1) es = texted-data i w.0 w.1.0 es d lt yes w.1.1 in
+    let same : i + 1 + (length es - (i + 1)) ≡ length es = omega (arith, lt) in
+    subst (λ (m : ℕ). resolved (Within first None None [] []) es ≡ texted first m es) (add-one i)
+    (texted-all (i + 1) (i + 1) es
+    (subst (λ (m : ℕ). IsTexted m (i + 1) (i + 1) es) same
+    (walked-on (length es - (i + 1)) (i + 1) (i + 1) (i + 1) es d (omega (arith, lt)) inside
+    (λ k a b. behind-last (suc i) es d h k (omega (arith, a)) (omega (arith, b, lt))) one)) first)
+
+-- or it is of `#`, and the text ends with the one before
+text-behind : (i m : ℕ) (es : List Event) (d : Event) → All IsInside es → IsLastRun (suc i) es →
+    ends is_sequence (get_or es i d) ≡ true → IsLastRun m (take i es) → (first : Point) →
+    resolved (Within first None None [] []) es ≡ texted first m es
+text-behind i m es d inside h is before first =
+    texted-all m (i + 1) es
+    (subst (λ (k : ℕ). IsTexted k m (i + 1) es) same
+    (walked-on (length es - (i + 1)) (i + 1) m (i + 1) es d (omega (arith, lt)) inside
+    (λ k a b. behind-last (suc i) es d h k (omega (arith, a)) (omega (arith, b, lt)))
+    (texted-run i w.0 m es d lt (run-sequence e.kind e.name is) is w.1))) first
+  where
+    e : Event
+    e = get_or es i d
+
+    lt : i < length es
+    lt = let all = h.within in omega (arith, all)
+
+    same : i + 1 + (length es - (i + 1)) ≡ length es
+    same = omega (arith, lt)
+
+    size : length (take i es) ≡ i
+    size = length-take-le i es (omega (arith, lt))
+
+    low : m ≤ i
+    low = let all = before.within in omega (arith, all, size)
+
+    w : (text : ℕ) × IsTexted i text m es
+    w =
+        lastly i m es d (omega (arith, lt)) inside low
+        (λ pos. rw (get_or-take i es (m - 1) d (omega (arith, low, pos))) at (before.is_end pos d))
+        (λ k a b. rw (get_or-take i es k d b) at
+        (behind-last m (take i es) d before k a (omega (arith, size, b))))
+
+pub text-before : (n m : ℕ) (es : List Event) (d : Event) → All IsInside es → IsLastRun n es → 0 < n →
+    ends is_sequence (get_or es (n - 1) d) ≡ true → IsLastRun m (take (n - 1) es) → (first : Point) →
+    resolved (Within first None None [] []) es ≡ texted first m es
+text-before zero m es d inside h some is before first = absurd (omega (arith, some))
+text-before (suc i) m es d inside h some is before first =
+    text-behind i m es d inside h
+    (subst (λ (k : ℕ). ends is_sequence (get_or es k d) ≡ true) (before-next i) is)
+    (subst (λ (k : ℕ). IsLastRun m (take k es)) (before-next i) before) first
 
 -- The whole heading.
 

@@ -1,8 +1,10 @@
 -- The text of an ATX heading in the places of the events that it is made of.
-use Rattle.std.specs.Prelude.{◌≡◌, ℕ, zero, suc, false, List, [], ◌∷◌, ◌++◌, Option, Some, None, drop}
+use Rattle.std.specs.Prelude.{◌≡◌, ◌-◌, ◌<◌, ◌≤◌, ℕ, zero, suc, false, true, List, [], ◌∷◌, ◌++◌, Option, Some, None}
+use Rattle.std.specs.Prelude.{drop, get_or, length}
+use Rattle.std.specs.List.{All}
 use Rattle.md_engine.specs.declared.event.Event.{Event}
 use Rattle.md_engine.specs.declared.event.Point.{Point}
-use Rattle.md_leaves.specs.HeadingText.{Within, ends, is_heading, resolved, text_between}
+use Rattle.md_leaves.specs.HeadingText.{Within, ends, is_heading, is_run, resolved, text_between}
 
 -- whether no heading ends with an event
 abbrev pub IsInside : Event → Type 0
@@ -26,3 +28,9 @@ last_point (suc n) es = point_at n es
 -- the text, from a point on, in the place of so many events
 abbrev pub texted : Point → ℕ → List Event → List Event
 texted first n es = text_between first (last_point n es) ++ drop n es
+
+-- so many events are there up to the end of the last run
+pub record IsLastRun (n : ℕ) (es : List Event) : Type 0 where
+  pub within : n ≤ length es
+  pub is_end : 0 < n → (d : Event) → ends is_run (get_or es (n - 1) d) ≡ true
+  pub behind : All (λ e. ends is_run e ≡ false) (drop n es)

@@ -1,18 +1,17 @@
 // The text of an ATX heading: one part in the place of all events from the first run behind the opening sequence to the
 // last that is no closing sequence.
 //
-// A heading is set whole. One walk finds its end, one the end of its opening sequence, one the begin of its text, and
-// one the end of that.
+// A heading is set whole. One walk finds its end, one the end of its opening sequence, one the begin of its text, and,
+// from behind, one the end of that.
 
 ghost use Rattle.std.specs.Prelude.{◌≡◌, ◌++◌, ◌≤◌, None, OnOk, Some, [], drop, length, not, take, true};
 ghost use Rattle.std.specs.List.{All};
 ghost use Rattle.md_engine.specs.declared.event.Event.{Event};
-ghost use Rattle.md_resolve.specs.Texted.{IsInside, begun, texted};
+ghost use Rattle.md_resolve.specs.Texted.{IsInside, IsLastRun, begun, texted};
 ghost use Rattle.md_seam.specs.Rewritten.{IsFirst, given_of, held_of, left_of, written_of};
 ghost use Rattle.md_leaves.specs.HeadingText.{Before, Within, begins, ends, headings_resolved, is_heading, is_run};
 ghost use Rattle.md_leaves.specs.HeadingText.{is_sequence, resolved, text_between};
 ghost use Rattle.md_order.specs.Left.{heading_len};
-ghost use Rattle.md_seam.specs.Events.Tiles.{is_data};
 
 use md_engine::event::{Content, Event, Kind, Link, Name, Point};
 use md_engine::message::Message;
@@ -39,7 +38,7 @@ pub(crate) fn begins_heading(event: &Event) -> bool
 pub(crate) fn ends_heading(event: &Event) -> bool
     ensures { result ≡ ends is_heading event.now }
 {
-    matches!(event.kind, Kind::Exit) && matches!(event.name, Name::HeadingAtx)
+    matches!(event.name, Name::HeadingAtx) && matches!(event.kind, Kind::Exit)
 }
 
 /// Whether a run of `#` ends here.
@@ -48,14 +47,6 @@ fn ends_sequence(event: &Event) -> bool
     ensures { result ≡ ends is_sequence event.now }
 {
     matches!(event.kind, Kind::Exit) && matches!(event.name, Name::HeadingAtxSequence)
-}
-
-/// Whether a run of text ends here.
-#[inline(always)]
-fn ends_data(event: &Event) -> bool
-    ensures { result ≡ ends is_data event.now }
-{
-    matches!(event.kind, Kind::Exit) && matches!(event.name, Name::Data)
 }
 
 /// Whether no heading ends at an event.
@@ -91,7 +82,7 @@ impl Test for BeginsNoRun {
     #[inline(always)]
     fn passes(&self, event: &Event) -> bool {
         !(matches!(event.kind, Kind::Enter)
-            && matches!(event.name, Name::Data | Name::HeadingAtxSequence))
+            && (matches!(event.name, Name::Data) || matches!(event.name, Name::HeadingAtxSequence)))
     }
 }
 
@@ -113,6 +104,27 @@ fn until_text(events: &[Event]) -> usize
     opening + passing(&BeginsNoRun, &events[opening..])
 }
 
+/// Whether a run of `#` or of text ends here.
+#[inline(always)]
+fn ends_run(event: &Event) -> bool
+    ensures { result ≡ ends is_run event.now }
+{
+    matches!(event.kind, Kind::Exit)
+        && (matches!(event.name, Name::Data) || matches!(event.name, Name::HeadingAtxSequence))
+}
+
+/// How many events there are up to the end of the last run, which is looked for from behind.
+#[inline(always)]
+fn last_run(events: &[Event]) -> usize
+    ensures { IsLastRun result events.now }
+{
+    let mut at = events.len();
+    while at > 0 && !ends_run(&events[at - 1]) {
+        at -= 1;
+    }
+    at
+}
+
 /// How many events, from the first run behind the opening sequence on, are of the text: those up to the end of the last
 /// run, or of the one before if the last is of `#`.
 fn text_len(events: &[Event]) -> usize
@@ -121,18 +133,12 @@ fn text_len(events: &[Event]) -> usize
         resolved (Within first None None [] []) events.now ≡ texted first result events.now }
     ensures within { result ≤ length events.now }
 {
-    let mut text = 0;
-    let mut last = 0;
-    for (at, event) in events.iter().enumerate() {
-        if ends_data(event) {
-            text = at + 1;
-            last = at + 1;
-        } else if ends_sequence(event) {
-            text = last;
-            last = at + 1;
-        }
+    let last = last_run(events);
+    if last > 0 && ends_sequence(&events[last - 1]) {
+        last_run(&events[..last - 1])
+    } else {
+        last
     }
-    text
 }
 
 /// An event without a link.

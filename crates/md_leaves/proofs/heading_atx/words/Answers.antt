@@ -10,7 +10,8 @@ use Rattle.md_engine.specs.declared.stay.Stay.TheVariants.{Word}
 use Rattle.md_engine.specs.Run.{Runs, reading}
 use Rattle.md_engine.specs.Scheme.{cells_left}
 use Rattle.md_engine.specs.World.{World, looks, world}
-use Rattle.md_engine.proofs.Loops.{CameTo, call-sees, came-calls, came-first}
+use Rattle.md_engine.proofs.Keeps.{runs-setting}
+use Rattle.md_engine.proofs.Loops.{CameTo, call-sees, came-calls, came-first, came-runs, reading-same}
 use Rattle.md_engine.proofs.Points.{cells-fall}
 use Rattle.md_engine.proofs.StayLemmas.{some-falls, within-world}
 use Rattle.md_engine.proofs.Walks.{then-run}
@@ -18,6 +19,7 @@ use Rattle.md_leaves.specs.Heading.{at_break_transition, data_transition, headin
 use Rattle.md_leaves.specs.HeadingWords.{HeadingStep, begins_word}
 use Rattle.md_leaves.proofs.HeadingWords.{at_break-remains, begins-inside, data-remains, remains-of, sees-from}
 use Rattle.md_leaves.proofs.HeadingWords.{word-begins, word-ends, word-taken, word-waits}
+use Rattle.md_leaves.proofs.WordsPassed.{passed-came, passed-current, passed-falls, passed-inside, passed-may}
 use Rattle.md_seam.specs.OneSpace.{IsOneSpace, spaced}
 use Rattle.md_seam.specs.Spaces.{ends_line, is_current, sees_white}
 use Rattle.md_seam.specs.Transition.{entered_link, exited}
@@ -32,11 +34,17 @@ ahead (inl e) = cc
 ahead (inr h) = h
 
 pub loop-tokenizer-init : goal.loop-tokenizer-init
-loop-tokenizer-init c = record {
-  current = c.requires.current;
-  came = came-first HeadingStep (n.HeadingAtx its.AtBreak) (world c.args.tokenizer.now);
-  may = inl refl;
-}
+loop-tokenizer-init c =
+    let w = world c.args.tokenizer.now in
+    let u = world c.pass_words.new.tokenizer in
+    record {
+      current = passed-current w u c.requires.current c.pass_words.ensures.passed;
+      came = λ is_end s v named sees may.
+          (passed-came is_end s v w u c.args.tokenizer.now.sound.readable
+          (came-first HeadingStep (n.HeadingAtx its.AtBreak) w is_end s v named sees may)
+          (within-world c.args.tokenizer.now) c.pass_words.ensures.passed).0;
+      may = passed-may w u c.pass_words.ensures.passed;
+    }
 
 pub returns-then-see_or_wait-clause-runs : goal.returns-then-see_or_wait-clause-runs
 returns-then-see_or_wait-clause-runs c = λ fine is_end s v named sees may.
@@ -129,7 +137,9 @@ loop-tokenizer-smaller c =
     (world c.take_one_space.new.tokenizer).point ≡
     cells_left (spaced (exited (reading u) Data)).setting.limit (spaced (exited (reading u) Data)).point =
     ap (λ (y : World). cells_left y.setting.limit y.point) all in
-    omega (arith, some, less, first, last)
+    let more = passed-falls (world c.take_one_space.new.tokenizer) (world c.pass_words-in-loop-tokenizer.new.tokenizer)
+    c.pass_words-in-loop-tokenizer.ensures.passed in
+    omega (arith, some, less, first, last, more)
 
 pub loop-tokenizer-preserved : goal.loop-tokenizer-preserved
 loop-tokenizer-preserved c =
@@ -153,8 +163,13 @@ loop-tokenizer-preserved c =
     let seen : w1.current ≡ looks w1 =
     subst (λ (y : World). y.current ≡ looks y) (sym e) c.loop-tokenizer.invariant.current in
     let seen3 : w3.current ≡ looks w3 = subst (λ (y : World). y.current ≡ looks y) (sym sees) refl in
+    let w5 = world c.take_one_space.new.tokenizer in
+    let w6 = world c.pass_words-in-loop-tokenizer.new.tokenizer in
+    let seen5 : w5.current ≡ looks w5 = subst (λ (y : World). y.current ≡ looks y) (sym all) refl in
+    let inside5 : w5.point.index < w5.setting.limit =
+    subst (λ (y : World). y.point.index < y.setting.limit) (sym all) one.next in
     record {
-      current = subst (λ (y : World). y.current ≡ looks y) (sym all) refl;
+      current = passed-current w5 w6 seen5 c.pass_words-in-loop-tokenizer.ensures.passed;
       came = λ is_end s v named from may.
           let begun : CameTo HeadingStep is_end s v (n.HeadingAtx its.Data) w1 =
           subst (λ (y : World). CameTo HeadingStep is_end s v (n.HeadingAtx its.Data) y) (sym e)
@@ -164,16 +179,19 @@ loop-tokenizer-preserved c =
           subst (λ (y : World). CameTo HeadingStep is_end s v (n.HeadingAtx its.Data) y) (sym sees)
           (word-taken is_end s v w1 u begun seen (within-world c.enter_link.new.self) c.see_word.ensures.some
           (ahead (c.if-see_or_wait.ensures.goes_on refl))) in
+          let spaced_to : CameTo HeadingStep is_end s v (n.HeadingAtx its.AtBreak) w5 =
           subst (λ (y : World). CameTo HeadingStep is_end s v (n.HeadingAtx its.AtBreak) y) (sym all)
-          (word-ends is_end s v w3 came seen3 (within-world c.see_or_wait.new.self) one);
-      may = inr (subst (λ (y : World). y.point.index < y.setting.limit) (sym all) one.next);
+          (word-ends is_end s v w3 came seen3 (within-world c.see_or_wait.new.self) one) in
+          (passed-came is_end s v w5 w6 c.take_one_space.new.tokenizer.sound.readable spaced_to
+          (within-world c.take_one_space.new.tokenizer) c.pass_words-in-loop-tokenizer.ensures.passed).0;
+      may = inr (passed-inside w5 w6 inside5 c.pass_words-in-loop-tokenizer.ensures.passed);
     }
 
 pub at_break-requires : goal.at_break-requires
 at_break-requires c = record { current = c.loop-tokenizer.invariant.current; has = tt }
 
-pub returns-clause-runs : goal.returns-clause-runs
-returns-clause-runs c = λ fine.
+pub returns-else-eq-clause-runs : goal.returns-else-eq-clause-runs
+returns-else-eq-clause-runs c = λ fine.
     let w = world c.loop-tokenizer.tokenizer in
     let d = at_break-remains w (sees_text w.current) (is_current 35 w.current) (ends_line w.current) in
     came-calls HeadingStep (n.HeadingAtx its.AtBreak) (n.HeadingAtx its.AtBreak) (world c.args.tokenizer.now) w
@@ -181,8 +199,8 @@ returns-clause-runs c = λ fine.
     (c.at_break.ensures.to fine, c.at_break.ensures.world fine) fine
     (ap (λ (x : World). x.setting) (c.at_break.ensures.world fine) ∙ d.1) (within-world c.loop-tokenizer.tokenizer)
 
-pub returns-clause-sees : goal.returns-clause-sees
-returns-clause-sees c = λ fine.
+pub returns-else-eq-clause-sees : goal.returns-else-eq-clause-sees
+returns-else-eq-clause-sees c = λ fine.
     let w = world c.loop-tokenizer.tokenizer in
     let w' = world c.at_break.new.tokenizer in
     let d = at_break-remains w (sees_text w.current) (is_current 35 w.current) (ends_line w.current) in
@@ -191,3 +209,20 @@ returns-clause-sees c = λ fine.
     (call-sees c.at_break.result w w'
     (remains-of (at_break_transition w) c.at_break.result w w' (c.at_break.ensures.to fine)
     (c.at_break.ensures.world fine) d.0) same c.loop-tokenizer.invariant.current) same c.loop-tokenizer.invariant.may
+
+pub returns-then-eq-clause-runs : goal.returns-then-eq-clause-runs
+returns-then-eq-clause-runs c = λ fine is_end s v named from may.
+    came-runs HeadingStep is_end (n.HeadingAtx its.AtBreak) (n.HeadingAtx its.AtBreak) (world c.args.tokenizer.now)
+    (world c.loop-tokenizer.tokenizer) c.marks.result (world c.marks.new.tokenizer)
+    (c.loop-tokenizer.invariant.came is_end) (c.marks.ensures.runs fine is_end) s v named from may
+
+pub returns-then-eq-clause-sees : goal.returns-then-eq-clause-sees
+returns-then-eq-clause-sees c = λ fine.
+    let w = world c.loop-tokenizer.tokenizer in
+    let w' = world c.marks.new.tokenizer in
+    let same : w'.setting ≡ w.setting =
+    runs-setting HeadingStep true (Next (n.HeadingAtx its.AtBreak)) w c.marks.result w'
+    (c.marks.ensures.runs fine true (Next (n.HeadingAtx its.AtBreak)) w refl
+    (reading-same w c.loop-tokenizer.invariant.current) (inl refl)) in
+    sees-from c.marks.result (world c.args.tokenizer.now) w w' (c.marks.ensures.sees fine) same
+    c.loop-tokenizer.invariant.may

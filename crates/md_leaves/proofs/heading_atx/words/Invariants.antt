@@ -11,8 +11,8 @@ abbrev pub invariant-loop-tokenizer : goal.invariant-loop-tokenizer
 invariant-loop-tokenizer l = record {
   current : (world l.tokenizer).current ≡ looks (world l.tokenizer);
   came : CameHere HeadingStep (n.HeadingAtx its.AtBreak)
-      (world l.initial.tokenizer) (n.HeadingAtx its.AtBreak) (world l.tokenizer);
-  may : ((world l.tokenizer).point ≡ (world l.initial.tokenizer).point) ⊎
+      (world l.fn.tokenizer) (n.HeadingAtx its.AtBreak) (world l.tokenizer);
+  may : ((world l.tokenizer).point ≡ (world l.fn.tokenizer).point) ⊎
       ((world l.tokenizer).point.index < (world l.tokenizer).setting.limit);
 }
 

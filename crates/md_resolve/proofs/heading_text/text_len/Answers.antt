@@ -1,27 +1,33 @@
-use Rattle.std.proofs.Common.{◌∙◌, sym}
-use Rattle.md_resolve.proofs.TextLaws.{texted-data, texted-none, texted-other, texted-run}
+use Rattle.std.proofs.Common.{◌∙◌, None, arith, sym}
+use Rattle.md_engine.specs.declared.event.Event.{Event}
+use Rattle.md_engine.specs.declared.event.Kind.TheVariants.{Enter}
+use Rattle.md_engine.specs.declared.event.Name.TheVariants.{Frontmatter}
+use Rattle.md_resolve.proofs.TextLaws.{text-before, text-last}
 use Rattle.md_resolve.proofs.heading_text.text_len.Goals as goal
-use Rattle.md_resolve.proofs.heading_text.text_len.Goals.{else-ends_data+else-ends_sequence}
-use Rattle.md_resolve.proofs.heading_text.text_len.Goals.{else-ends_data+then-ends_sequence, then-ends_data}
+use Rattle.md_resolve.proofs.heading_text.text_len.Goals.{else-last-gt0-via-then-last-gt0+else-ends_sequence}
+use Rattle.md_resolve.proofs.heading_text.text_len.Goals.{else-last-gt0-via-else-last-gt0}
 
-pub loop-at-init : goal.loop-at-init
-loop-at-init c = texted-none c.args.events.now
+-- what an index past the end would give
+abbrev nothing : Event
+nothing = record {
+  kind = Enter;
+  name = Frontmatter;
+  link = None;
+  point = record { line = 0; column = 0; index = 0; vs = 0 };
+}
 
-pub loop-at-preserved : goal.loop-at-preserved
-loop-at-preserved c =
-    let es = c.args.events.now in
-    let at = c.loop-at.at in
-    let text = c.loop-at.text in
-    let last = c.loop-at.last in
-    elim c.if-ends_data.branch [
-      | then-ends_data w ↦ rw (w.text-is, w.last-is)
-          (texted-data at text last es _ c.loop-at-test.true (sym c.ends_data.ensures ∙ w.if-ends_data.true)
-          c.loop-at.invariant)
-      | else-ends_data+then-ends_sequence w ↦ rw (w.text-is, w.last-is)
-          (texted-run at text last es _ c.loop-at-test.true (sym c.ends_data.ensures ∙ w.if-ends_data.false)
-          (sym w.ends_sequence.ensures ∙ w.if-ends_sequence.true) c.loop-at.invariant)
-      | else-ends_data+else-ends_sequence w ↦ rw (w.text-is, w.last-is)
-          (texted-other at text last es _ c.loop-at-test.true (sym c.ends_data.ensures ∙ w.if-ends_data.false)
-          (sym w.ends_sequence.ensures ∙ w.if-ends_sequence.false)
-          (c.requires.inside at _ c.loop-at-test.true) c.loop-at.invariant)
+pub returns-then-ends_sequence-clause-set : goal.returns-then-ends_sequence-clause-set
+returns-then-ends_sequence-clause-set c = λ first.
+    text-before c.last_run-last.result c.last_run.result c.args.events.now _ c.requires.inside c.last_run-last.ensures
+    c.if-last-gt0.true (sym c.ends_sequence.ensures ∙ c.if-ends_sequence.true) c.last_run.ensures first
+
+pub returns-else-last-gt0-clause-set : goal.returns-else-last-gt0-clause-set
+returns-else-last-gt0-clause-set c =
+    elim c.else-last-gt0.branch [
+      | else-last-gt0-via-then-last-gt0+else-ends_sequence w ↦ (λ first.
+          text-last c.last_run-last.result c.args.events.now _ c.requires.inside c.last_run-last.ensures
+          (λ some. sym w.ends_sequence.ensures ∙ w.if-ends_sequence.false) first)
+      | else-last-gt0-via-else-last-gt0 w ↦ (λ first.
+          text-last c.last_run-last.result c.args.events.now nothing c.requires.inside c.last_run-last.ensures
+          (λ some. absurd (omega (arith, some, w.if-last-gt0.false))) first)
     ]
