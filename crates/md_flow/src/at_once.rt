@@ -356,6 +356,39 @@ fn containers(tokenizer: &mut Tokenizer) -> State
     }
 }
 
+/// Whether a state waits for the begin of a line.
+#[inline(always)]
+fn awaits_line(state: State) -> bool
+    ensures { result ≡ true → state ≡ State.Next (StateName.Document DocumentState.ContainerExistingBefore) }
+{
+    match state {
+        State::Next(StateName::Document(DocumentState::ContainerExistingBefore)) => true,
+        _ => false,
+    }
+}
+
+/// At the begin of a line: goes on at once with the lines behind it, each of which ends where the next may be read.
+#[inline(always)]
+fn lines(tokenizer: &mut Tokenizer) -> State
+    requires current { (world tokenizer.old).current ≡ looks (world tokenizer.old) }
+    requires stands { stands flow_table_scheme (world tokenizer.old)
+        (State.Next (StateName.Document DocumentState.ContainerExistingBefore)) }
+    ensures runs { result ≢ State.Error →
+        RunsHere FlowStep
+        (StateName.Document DocumentState.ContainerExistingBefore) (world tokenizer.old) result (world tokenizer.new) }
+    ensures sees { result ≢ State.Error → SeesOn result (world tokenizer.old) (world tokenizer.new) }
+{
+    loop {
+        let to = containers(tokenizer);
+        if !awaits_line(to) {
+            return to;
+        }
+        if tokenizer.see_or_wait(false) {
+            return to;
+        }
+    }
+}
+
 /// Behind a leaf on one line: the line ends.
 #[inline(always)]
 fn leaf_end(tokenizer: &mut Tokenizer) -> State
@@ -471,7 +504,7 @@ pub fn call_document(tokenizer: &mut Tokenizer, state: DocumentState) -> State
     ensures sees { result ≢ State.Error → SeesOn result (world tokenizer.old) (world tokenizer.new) }
 {
     match state {
-        DocumentState::ContainerExistingBefore => containers(tokenizer),
+        DocumentState::ContainerExistingBefore => lines(tokenizer),
         DocumentState::ContainerNewBefore => containers_new(tokenizer),
         _ => document::call(tokenizer, state),
     }
