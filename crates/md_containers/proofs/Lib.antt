@@ -1,3 +1,4 @@
+pub mod Ahead
 pub mod FrontmatterTermination
 pub mod FrontmatterMeaning
 pub mod QuoteTermination

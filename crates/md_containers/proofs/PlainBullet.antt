@@ -15,10 +15,10 @@ use Rattle.md_engine.specs.declared.state.State.{State}
 use Rattle.md_engine.specs.declared.state.State.TheVariants.{Next, Nok, Ok, Retry}
 use Rattle.md_engine.specs.declared.tokenizer.Frame.{Frame}
 use Rattle.md_engine.specs.Classes.{has}
-use Rattle.md_engine.specs.Place.{next_point}
+use Rattle.md_engine.specs.Place.{IsPlaced}
 use Rattle.md_engine.specs.Run.{Step, reading}
-use Rattle.md_engine.specs.World.{Setting, World, after, line_begun, looks, looks_at}
-use Rattle.md_engine.proofs.ClassLemmas.{further-next, no-ending, seen-here}
+use Rattle.md_engine.specs.World.{World, after, looks, looks_at}
+use Rattle.md_engine.proofs.ClassLemmas.{seen-here}
 use Rattle.md_engine.proofs.Loops.{CameTo}
 use Rattle.md_engine.proofs.Walks.{Within, then-holds, then-stays, then-takes, within-more, within-one}
 use Rattle.md_meaning.specs.Containers.{is_bullet, is_digit}
@@ -26,6 +26,7 @@ use Rattle.md_containers.specs.Interrupts.{interrupts}
 use Rattle.md_meaning.specs.Rest.{is_white}
 use Rattle.md_containers.specs.Item as item
 use Rattle.md_containers.specs.PlainBullet.{IsPlainBullet, bulleted, byte_at}
+use Rattle.md_containers.proofs.Ahead.{StandsAhead, stands-ahead, text-after}
 use Rattle.md_containers.proofs.ItemBeginMeaning.{bullet-dark}
 use Rattle.md_containers.proofs.PlainItem.{HasItem}
 use Rattle.md_leaves.specs.LeafStart as leaf
@@ -45,14 +46,6 @@ bullet-text b h = go (nat_eq b 42) (nat_eq b 43) (nat_eq b 45) refl refl refl
     go false true z e k l = let is : b ≡ 43 = eqb-true b 43 k in rw is refl
     go false false true e k l = let is : b ≡ 45 = eqb-true b 45 l in rw is refl
     go false false false e k l = let no : false ≡ true = rw (e, k, l) at h in cc
-
--- behind text the line goes on
-text-after : (x : Setting) (p : Point) → has class.Text (slice_index x.bytes p.index) ≡ true →
-    after x p ≡ record p { column = p.column + 1; index = p.index + 1; vs = 0 }
-text-after x p h =
-    let e = no-ending class.Text (slice_index x.bytes p.index) h in
-    let q = next_point x.bytes p in
-    ap (λ (b : Bool). cond b (line_begun x q) q) e.0 ∙ further-next x.bytes class.Text 0 p h
 
 or-true : (x : Bool) → x || true ≡ true
 or-true true = refl
@@ -488,3 +481,9 @@ bullet-run T is_end s v next nok w has_item has_white came seen within plain =
         (ap (item.whitespace_after_code behind_padding) sees.dark)) refl (within-padded next nok w within)
         refl refl refl
         (within-behind_marker next nok w within) sees.next
+
+-- The bullet and the space are text.
+pub bullet-ahead : (w : World) → IsPlainBullet w → IsPlaced w.setting.bytes w.point → StandsAhead w.setting w.point
+bullet-ahead w plain placed =
+    stands-ahead w.setting w.point placed (let there = plain.there in omega (arith, there))
+    (bullet-text (slice_index w.setting.bytes w.point.index) plain.bullet) (ap (has class.Text) plain.space)

@@ -1,8 +1,9 @@
 -- The indent of a further line that is taken at once is what the states of an item take.
-use Rattle.std.proofs.Common.{◌≡◌, ℕ, zero, suc, ◌+◌, ◌<◌, ◌≤◌, Bool, true, false, ◌&&◌, nat_lt, nat_le, ◌∷◌, []}
-use Rattle.std.proofs.Common.{cond, length, Option, Some, refl, ◌∙◌, ap, ap₂, arith}
+use Rattle.std.proofs.Common.{◌≡◌, ℕ, zero, suc, ◌+◌, ◌<◌, ◌≤◌, Bool, true, false, ◌&&◌, nat_eq, nat_lt, nat_le, []}
+use Rattle.std.proofs.Common.{◌∷◌, cond, length, Option, Some, refl, sym, ◌∙◌, ap, ap₂, arith, subst}
 use Rattle.std.specs.Prelude.{slice_index}
 use Rattle.std.proofs.lemmas.Bool.Decides.{nat_tests}
+use Rattle.md_engine.specs.declared.class.Class.TheVariants as class
 use Rattle.md_engine.specs.declared.event.Name.TheVariants.{SpaceOrTab}
 use Rattle.md_engine.specs.declared.event.Point.{Point}
 use Rattle.md_engine.specs.declared.state.Name.{Name as StateName}
@@ -12,6 +13,8 @@ use Rattle.md_engine.specs.declared.state.list_item.State.TheVariants as its
 use Rattle.md_engine.specs.declared.state.State.{State}
 use Rattle.md_engine.specs.declared.state.State.TheVariants.{Next, Ok, Retry}
 use Rattle.md_engine.specs.declared.tokenizer.Frame.{Frame}
+use Rattle.md_engine.specs.Classes.{has}
+use Rattle.md_engine.specs.Place.{IsPlaced}
 use Rattle.md_engine.specs.Run.{Step, reading}
 use Rattle.md_engine.specs.Scheme.{cells_left}
 use Rattle.md_engine.specs.Staying.{along}
@@ -20,7 +23,9 @@ use Rattle.md_engine.proofs.Loops.{CameTo}
 use Rattle.md_engine.proofs.Points.{cells-fall}
 use Rattle.md_engine.proofs.Walks.{Within, then-holds, then-stays, then-takes, within-more, within-one}
 use Rattle.md_containers.specs.Item.{blank_code, cont_filled_code, cont_start_code, goes_to, indent_code, inside_code}
-use Rattle.md_containers.specs.Item.{item_transition, least_width}
+use Rattle.md_containers.specs.Item.{at_least_one, item_transition, least_width}
+use Rattle.md_containers.specs.Ahead.{ahead}
+use Rattle.md_containers.proofs.Ahead.{IsText, ahead-more, placed-text, text-after}
 use Rattle.md_containers.specs.PlainItem.{IsPlainIndent, SpacesHere, indented, moved}
 use Rattle.md_seam.specs.Events.Nested.{enter}
 use Rattle.md_seam.specs.Look.{looks_behind}
@@ -181,3 +186,50 @@ indent-run T is_end s v next nok w m item came seen within width plain =
         ∙ ap (λ (size : ℕ). record { to = Next (n.ListItem its.ContFilled); world = more k size }) one))
         refl (in-part k)
         (inside (suc (suc k)) (omega (arith, lt)))
+
+-- The indent ends so many bytes further on, at a place of the text.
+pub spaces-ahead : (w : World) (n : ℕ) → SpacesHere (suc n) w → w.point.index + suc n < w.setting.limit →
+    w.setting.limit ≤ length w.setting.bytes → IsPlaced w.setting.bytes w.point →
+    (along w.setting (suc n) w.point ≡ ahead (suc n) w.point) × IsPlaced w.setting.bytes (ahead (suc n) w.point)
+unfolding along
+spaces-ahead w zero h inside readable placed =
+    let text : IsText w.setting.bytes w.point.index =
+    ap (has class.Text) (h w.point.index (omega arith) (omega arith)) in (
+      text-after w.setting w.point text,
+      placed-text w.setting.bytes w.point placed (omega (arith, inside, readable)) text,
+    )
+spaces-ahead w (suc n) h inside readable placed =
+    let before = spaces-ahead w n (λ k from to. h k from (omega (arith, to))) (omega (arith, inside)) readable placed in
+    let text : IsText w.setting.bytes (w.point.index + suc n) =
+    ap (has class.Text) (h (w.point.index + suc n) (omega arith) (omega arith)) in
+    let one : suc n + 1 ≡ suc (suc n) = omega arith in
+    let more : ahead 1 (ahead (suc n) w.point) ≡ ahead (suc (suc n)) w.point =
+    ahead-more (suc n) w.point ∙ ap (λ (m : ℕ). ahead m w.point) one in (
+      ap (after w.setting) before.0 ∙ text-after w.setting (ahead (suc n) w.point) text ∙ more,
+      subst (λ (p : Point). IsPlaced w.setting.bytes p) more
+          (placed-text w.setting.bytes (ahead (suc n) w.point) before.1 (omega (arith, inside, readable)) text),
+    )
+
+-- It has one column at least.
+pub indent-ahead : (w : World) → IsPlainIndent (least_width w.flags.asked) w →
+    w.setting.limit ≤ length w.setting.bytes → IsPlaced w.setting.bytes w.point →
+    (along w.setting (least_width w.flags.asked) w.point ≡ ahead (least_width w.flags.asked) w.point) ×
+    IsPlaced w.setting.bytes (ahead (least_width w.flags.asked) w.point)
+indent-ahead w plain readable placed = go w.flags.asked.width refl
+  where
+    P : ℕ → Type 0
+    P n = (along w.setting n w.point ≡ ahead n w.point) × IsPlaced w.setting.bytes (ahead n w.point)
+
+    go : (m : ℕ) → w.flags.asked.width ≡ m → P (least_width w.flags.asked)
+    go zero e =
+        let is : least_width w.flags.asked ≡ 1 = ap at_least_one e in
+        subst P (sym is)
+        (let one = subst (λ (n : ℕ). IsPlainIndent n w) is plain in
+        spaces-ahead w 0 one.spaces one.inside readable placed)
+    go (suc m) e =
+        let some : nat_eq (suc m) 0 ≡ false = grind (arith, nat_tests) in
+        let is : least_width w.flags.asked ≡ suc m =
+        ap at_least_one e ∙ ap (λ (b : Bool). cond b 1 (suc m)) some in
+        subst P (sym is)
+        (let some = subst (λ (n : ℕ). IsPlainIndent n w) is plain in
+        spaces-ahead w m some.spaces some.inside readable placed)

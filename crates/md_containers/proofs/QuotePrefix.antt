@@ -1,5 +1,11 @@
 -- The prefix `> ` that is taken at once is what the states of a quote take.
-use Rattle.std.proofs.Common.{◌≡◌, Bool, true, false, ◌∷◌, [], length, Some, refl, ◌∙◌, ap, arith}
+use Rattle.std.proofs.Common.{◌≡◌, ◌+◌, ◌<◌, ◌≤◌, Bool, true, false, ◌∷◌, [], length, Some, refl, ◌∙◌, ap, arith}
+use Rattle.std.proofs.Common.{inl, inr, subst}
+use Rattle.std.specs.Prelude.{slice_index}
+use Rattle.md_engine.specs.declared.class.Class.TheVariants as class
+use Rattle.md_engine.specs.declared.event.Point.{Point}
+use Rattle.md_engine.specs.Classes.{has}
+use Rattle.md_engine.specs.Place.{IsPlaced}
 use Rattle.md_engine.specs.declared.event.Name.TheVariants.{BlockQuoteMarker, BlockQuotePrefix}
 use Rattle.md_engine.specs.declared.state.Name.{Name as StateName}
 use Rattle.md_engine.specs.declared.state.Name.TheVariants as n
@@ -9,10 +15,12 @@ use Rattle.md_engine.specs.declared.state.State.{State}
 use Rattle.md_engine.specs.declared.state.State.TheVariants.{Next, Ok, Retry}
 use Rattle.md_engine.specs.declared.tokenizer.Frame.{Frame}
 use Rattle.md_engine.specs.Run.{Step, reading}
-use Rattle.md_engine.specs.World.{World, looks}
+use Rattle.md_engine.specs.World.{World, after, looks, looks_at}
 use Rattle.md_engine.proofs.Loops.{CameTo}
 use Rattle.md_engine.proofs.Walks.{Within, then-holds, then-stays, then-takes, within-more, within-one}
+use Rattle.md_containers.specs.Ahead.{ahead}
 use Rattle.md_containers.specs.QuotePrefix.{IsPlainPrefix, prefixed}
+use Rattle.md_containers.proofs.Ahead.{StandsAhead, seen-byte, stands-ahead, text-after}
 use Rattle.md_containers.specs.Quote.{cont_after_code, cont_before_code, cont_start_code, quote_transition}
 use Rattle.md_seam.specs.Events.Nested.{enter, exit}
 use Rattle.md_seam.specs.Spaces.{is_current, sees_white}
@@ -69,3 +77,24 @@ prefix-run T is_end s v next nok w quote came seen within prefix =
         then-takes T is_end s v (n.BlockQuote its.ContBefore) (n.BlockQuote its.ContAfter) wa wb at_marker
         (quote its.ContBefore wa (Next (n.BlockQuote its.ContAfter)) wb
         (ap (λ (b : Bool). cont_before_code wa b) (ap (is_current 62) is))) refl in-wa prefix.inside
+
+-- It is two bytes of text.
+pub prefix-ahead : (w : World) → IsPlainPrefix w → IsPlaced w.setting.bytes w.point →
+    w.setting.limit ≤ length w.setting.bytes → StandsAhead w.setting w.point
+prefix-ahead w plain placed readable =
+    stands-ahead w.setting w.point placed inside (ap (has class.Text) here.1)
+    (ap (has class.Text) space.1)
+  where
+    here : (w.point.index < w.setting.limit) × (slice_index w.setting.bytes w.point.index ≡ 62)
+    here = seen-byte w.setting w.point 62 plain.here refl (inl refl)
+
+    first : after w.setting w.point ≡ ahead 1 w.point
+    first = text-after w.setting w.point (ap (has class.Text) here.1)
+
+    space : (w.point.index + 1 < w.setting.limit) × (slice_index w.setting.bytes (w.point.index + 1) ≡ 32)
+    space =
+        seen-byte w.setting (ahead 1 w.point) 32
+        (subst (λ (p : Point). looks_at w.setting p ≡ Some 32) first plain.space) refl (inr refl)
+
+    inside : w.point.index + 1 < length w.setting.bytes
+    inside = let lt = space.0 in omega (arith, lt, readable)

@@ -1,3 +1,4 @@
+pub mod Ahead
 pub mod Frontmatter
 pub mod FrontmatterRule
 pub mod Interrupts

@@ -30,6 +30,7 @@ ghost use Rattle.md_seam.specs.Look.{may_with};
 ghost use Rattle.md_seam.specs.Spaces.{is_current, sees_white};
 ghost use Rattle.md_seam.specs.Transition.{IsAt, NeedsNothing};
 
+use crate::room::{ahead, enter, exit, has_room};
 use md_engine::event::Name;
 use md_engine::message::Message;
 use md_engine::or_error;
@@ -458,9 +459,10 @@ pub fn is_plain_prefix(tokenizer: &Tokenizer) -> bool
         && index + 2 < tokenizer.limit
 }
 
-/// Takes the prefix `> ` that stands here, as the states do, and sees what stands behind it.
-#[inline(always)]
-pub fn take_plain_prefix(tokenizer: &mut Tokenizer) -> Result<(), Message>
+/// Takes the prefix `> ` that stands here where the list of events may have no room for it. This is rare, so it stands
+/// apart.
+#[inline(never)]
+fn take_growing(tokenizer: &mut Tokenizer) -> Result<(), Message>
     requires { IsPlainPrefix (world tokenizer.old) }
     ensures world { OnOk result (world tokenizer.new ≡ prefixed (world tokenizer.old)) }
     ensures full { is_err result ≡ true → IsFull tokenizer.new }
@@ -473,6 +475,40 @@ pub fn take_plain_prefix(tokenizer: &mut Tokenizer) -> Result<(), Message>
     tokenizer.consume();
     tokenizer.exit(Name::SpaceOrTab)?;
     tokenizer.exit(Name::BlockQuotePrefix)?;
+    tokenizer.current = tokenizer.look();
+    Ok(())
+}
+
+/// Takes the prefix `> ` that stands here, as the states do, and sees what stands behind it.
+#[inline(always)]
+pub fn take_plain_prefix(tokenizer: &mut Tokenizer) -> Result<(), Message>
+    requires { IsPlainPrefix (world tokenizer.old) }
+    ensures world { OnOk result (world tokenizer.new ≡ prefixed (world tokenizer.old)) }
+    ensures full { is_err result ≡ true → IsFull tokenizer.new }
+{
+    if !has_room(tokenizer, 6) {
+        return take_growing(tokenizer);
+    }
+    let from = tokenizer.point;
+    let marked = ahead(from, 1);
+    let to = ahead(from, 2);
+    tokenizer
+        .events
+        .push_reserved(enter(Name::BlockQuotePrefix, from));
+    tokenizer
+        .events
+        .push_reserved(enter(Name::BlockQuoteMarker, from));
+    tokenizer
+        .events
+        .push_reserved(exit(Name::BlockQuoteMarker, marked));
+    tokenizer
+        .events
+        .push_reserved(enter(Name::SpaceOrTab, marked));
+    tokenizer.events.push_reserved(exit(Name::SpaceOrTab, to));
+    tokenizer
+        .events
+        .push_reserved(exit(Name::BlockQuotePrefix, to));
+    tokenizer.point = to;
     tokenizer.current = tokenizer.look();
     Ok(())
 }

@@ -7,3 +7,4 @@ pub mod gfm_footnote_definition;
 mod interrupts;
 pub mod list_item;
 pub mod plain_item;
+mod room;

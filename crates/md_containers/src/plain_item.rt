@@ -10,6 +10,7 @@ ghost use Rattle.md_containers.specs.PlainBullet.{IsPlainBullet, bulleted};
 ghost use Rattle.md_containers.specs.PlainItem.{AreSpaces, IsPlainIndent, SpacesHere, indented, moved};
 
 use crate::list_item::{at_least_one, is_bullet, width_here};
+use crate::room::{ahead, enter, exit, has_room};
 use md_engine::class::is_white;
 use md_engine::event::Name;
 use md_engine::message::Message;
@@ -37,10 +38,10 @@ pub fn is_plain_bullet(tokenizer: &Tokenizer) -> bool
         && behind != b'\r'
 }
 
-/// Takes the bullet and the space that stand here, as the states of the item that is tried do, and sees what stands
-/// behind them.
-#[inline(always)]
-pub fn take_plain_bullet(tokenizer: &mut Tokenizer) -> Result<(), Message>
+/// Takes the bullet and the space that stand here where the list of events may have no room for them. This is rare, so
+/// it stands apart.
+#[inline(never)]
+fn take_bullet_growing(tokenizer: &mut Tokenizer) -> Result<(), Message>
     requires { IsPlainBullet (world tokenizer.old) }
     ensures world { OnOk result (world tokenizer.new ≡ bulleted (world tokenizer.old)) }
     ensures full { is_err result ≡ true → IsFull tokenizer.new }
@@ -63,6 +64,50 @@ pub fn take_plain_bullet(tokenizer: &mut Tokenizer) -> Result<(), Message>
     tokenizer.flags.asked.starts_blank = false;
     tokenizer.exit(Name::ListItemPrefix)?;
     tokenizer.current = tokenizer.look();
+    Ok(())
+}
+
+/// Takes the bullet and the space that stand here, as the states of the item that is tried do, and sees what stands
+/// behind them.
+#[inline(always)]
+pub fn take_plain_bullet(tokenizer: &mut Tokenizer) -> Result<(), Message>
+    requires { IsPlainBullet (world tokenizer.old) }
+    ensures world { OnOk result (world tokenizer.new ≡ bulleted (world tokenizer.old)) }
+    ensures full { is_err result ≡ true → IsFull tokenizer.new }
+{
+    if !has_room(tokenizer, 7) {
+        return take_bullet_growing(tokenizer);
+    }
+    let from = tokenizer.point;
+    let marked = ahead(from, 1);
+    let to = ahead(from, 2);
+    tokenizer.events.push_reserved(enter(Name::ListItem, from));
+    tokenizer
+        .events
+        .push_reserved(enter(Name::ListItemPrefix, from));
+    tokenizer
+        .events
+        .push_reserved(enter(Name::ListItemMarker, from));
+    tokenizer
+        .events
+        .push_reserved(exit(Name::ListItemMarker, marked));
+    tokenizer
+        .events
+        .push_reserved(enter(Name::SpaceOrTab, marked));
+    tokenizer.events.push_reserved(exit(Name::SpaceOrTab, to));
+    tokenizer
+        .events
+        .push_reserved(exit(Name::ListItemPrefix, to));
+    tokenizer.point = to;
+    tokenizer.current = tokenizer.look();
+    tokenizer.scratch.seen = false;
+    tokenizer.scratch.whitespace = Whitespace {
+        min: 0,
+        max: 0,
+        size: 0,
+    };
+    tokenizer.flags.asked.width = width_here(tokenizer, false);
+    tokenizer.flags.asked.starts_blank = false;
     Ok(())
 }
 
@@ -116,10 +161,10 @@ fn take_spaces(tokenizer: &mut Tokenizer, columns: usize)
     }
 }
 
-/// Takes the indent that stands here as spaces, as the states of the item that is asked do, and sees what stands behind
-/// it.
-#[inline(always)]
-pub fn take_plain_indent(tokenizer: &mut Tokenizer) -> Result<(), Message>
+/// Takes the indent that stands here as spaces where the list of events may have no room for it. This is rare, so it
+/// stands apart.
+#[inline(never)]
+fn take_indent_growing(tokenizer: &mut Tokenizer) -> Result<(), Message>
     requires { IsPlainIndent (least_width (world tokenizer.old).flags.asked) (world tokenizer.old) }
     ensures world { OnOk result
         (world tokenizer.new ≡ indented (least_width (world tokenizer.old).flags.asked) (world tokenizer.old)) }
@@ -136,5 +181,35 @@ pub fn take_plain_indent(tokenizer: &mut Tokenizer) -> Result<(), Message>
     };
     tokenizer.flags.asked.starts_blank = false;
     tokenizer.current = tokenizer.look();
+    Ok(())
+}
+
+/// Takes the indent that stands here as spaces, as the states of the item that is asked do, and sees what stands behind
+/// it.
+#[inline(always)]
+pub fn take_plain_indent(tokenizer: &mut Tokenizer) -> Result<(), Message>
+    requires { IsPlainIndent (least_width (world tokenizer.old).flags.asked) (world tokenizer.old) }
+    ensures world { OnOk result
+        (world tokenizer.new ≡
+        indented (least_width (world tokenizer.old).flags.asked) (world tokenizer.old)) }
+    ensures full { is_err result ≡ true → IsFull tokenizer.new }
+{
+    if !has_room(tokenizer, 2) {
+        return take_indent_growing(tokenizer);
+    }
+    let from = tokenizer.point;
+    let to = ahead(from, at_least_one(tokenizer.flags.asked.width));
+    tokenizer
+        .events
+        .push_reserved(enter(Name::SpaceOrTab, from));
+    tokenizer.events.push_reserved(exit(Name::SpaceOrTab, to));
+    tokenizer.point = to;
+    tokenizer.current = tokenizer.look();
+    tokenizer.scratch.whitespace = Whitespace {
+        min: 0,
+        max: 0,
+        size: 0,
+    };
+    tokenizer.flags.asked.starts_blank = false;
     Ok(())
 }

@@ -2,6 +2,7 @@ pub mod ContentLines
 pub mod FenceLines
 pub mod LineEnds
 pub mod NoClose
+pub mod NoIndent
 pub mod NoLabel
 pub mod SoundParts
 pub mod TakenBack

@@ -1,11 +1,13 @@
 -- What functions that take several states in one call know of the states in front of them and behind them.
-use Rattle.std.specs.Prelude.{◌≡◌, ℕ, ◌+◌, ◌<◌, ◌⊎◌, ◌==◌, Bool, true, false, List, [], ◌∷◌, ◌++◌, Some, length}
+use Rattle.std.specs.Prelude.{◌≡◌, ℕ, ◌+◌, ◌<◌, ◌⊎◌, ◌==◌, Bool, true, false, List, [], ◌∷◌, ◌++◌, Option, Some, length}
 use Rattle.std.specs.Prelude.{slice_index}
 use Rattle.md_engine.specs.declared.state.Name.{Name as StateName}
 use Rattle.md_engine.specs.declared.state.Name.TheVariants as n
 use Rattle.md_engine.specs.declared.state.State.{State}
 use Rattle.md_engine.specs.declared.state.State.TheVariants.{Next, Nok}
 use Rattle.md_engine.specs.declared.state.flow.State.TheVariants as flow
+use Rattle.md_engine.specs.declared.state.list_item.State.TheVariants as its
+use Rattle.md_engine.specs.declared.tokenizer.container.Container.{Container}
 use Rattle.md_engine.specs.declared.tokenizer.Frame.{Frame}
 use Rattle.md_engine.specs.declared.event.Kind.TheVariants.{Enter}
 use Rattle.md_engine.specs.declared.event.Name.TheVariants.{Content}
@@ -23,8 +25,30 @@ use Rattle.md_seam.specs.Events.Nested.{exit}
 use Rattle.md_seam.specs.Look.{looks_behind}
 use Rattle.md_seam.specs.Spaces.{calmed, sees_white}
 use Rattle.md_registry.specs.AtOnce.{opens_none}
+use Rattle.md_registry.specs.LineFlags.{next_container}
+use Rattle.md_registry.specs.Registry.{goes_on_with}
 use Rattle.md_registry.specs.Flow.{leaf_end}
 use Rattle.md_registry.specs.States.{FlowStep}
+
+-- what stands at the point may be read, and is seen
+abbrev pub SeesAhead : World → Type 0
+SeesAhead w = (w.current ≡ looks w) × (w.point.index < w.setting.limit)
+
+-- something else than whitespace stands here, which does not end the line
+pub record StandsOut (o : Option ℕ) : Type 0 where
+  pub byte : ℕ
+  pub here : o ≡ Some byte
+  pub dark : is_white byte ≡ false
+  pub filled : (byte == 10) ≡ false
+
+-- A container is open that was not asked yet, whose further lines begin with an indent; none stands here, on a line that
+-- is not blank, and of no whitespace a part was counted.
+pub record EndsAtOnce (w : World) : Type 0 where
+  pub held : Container
+  pub next : next_container w.flags ≡ Some held
+  pub indented : goes_on_with held.kind ≡ n.ListItem its.ContStart
+  pub out : StandsOut w.current
+  pub rest : w.scratch.whitespace.max ≡ 0
 
 -- The innermost attempt is one at a leaf: where it holds, the line ends, and the leaf is shut or may be open behind it.
 pub record IsTried (shuts : Bool) (w : World) : Type 0 where

@@ -3,10 +3,10 @@
 // The states of the document, of flow and of constructs are called one after another. Where one look tells what several
 // of them do (a prefix is taken as a whole, no container opens with a byte, a line is content), these functions do the
 // same in one call; each has in its contract that it is a run of those states (`RunsHere`). A line of content is
-// taken as a whole and ends in the same call; where its end can be read no attempt begins. The pages of the states can
-// be read without them.
+// taken as a whole and ends in the same call; where its end can be read no attempt begins. The next line begins in it
+// too. The pages of the states can be read without them.
 
-ghost use Rattle.std.specs.Prelude.{Bool, IfSome, OnOk, false, length, true, ◌≡◌, ◌≢◌, ◌<◌, ◌≤◌, ◌^◌};
+ghost use Rattle.std.specs.Prelude.{Bool, IfSome, OnOk, Some, false, length, true, ◌≡◌, ◌≢◌, ◌<◌, ◌≤◌, ◌^◌};
 ghost use Rattle.md_content.specs.Chunks.{begun, line_taken};
 ghost use Rattle.md_engine.specs.Going.{SeesOn};
 ghost use Rattle.md_engine.specs.Place.{IsPlaced};
@@ -16,8 +16,11 @@ ghost use Rattle.md_engine.specs.World.{World, looks, world};
 ghost use Rattle.md_engine.specs.declared.state.Name.{Name as StateName};
 ghost use Rattle.md_engine.specs.declared.state.State.{State};
 ghost use Rattle.md_engine.specs.declared.state.document.State.{State as DocumentState};
-ghost use Rattle.md_flow.specs.AtOnce.{GoesOn, IsNoLabel, IsTried, OpensNone, line_added, line_tried};
+ghost use Rattle.md_flow.specs.AtOnce.{EndsAtOnce, GoesOn, IsNoLabel, IsTried, OpensNone, SeesAhead, StandsOut};
+ghost use Rattle.md_flow.specs.AtOnce.{line_added, line_tried};
 ghost use Rattle.md_registry.specs.AtOnce.{GoesAtOnce, asking_next, openers_passed};
+ghost use Rattle.md_registry.specs.Flow.{existing_after_transition};
+ghost use Rattle.md_registry.specs.LineFlags.{next_container};
 ghost use Rattle.md_containers.specs.PlainBullet.{IsPlainBullet};
 ghost use Rattle.md_registry.specs.Registry.{opener_front, openers};
 ghost use Rattle.md_registry.specs.Flow.{leaf_end};
@@ -26,9 +29,11 @@ ghost use Rattle.md_seam.specs.Lent.{whole_from};
 ghost use Rattle.md_seam.specs.Transition.{IsAt, NeedsNothing};
 ghost use Rattle.md_engine.specs.declared.state.flow.State.{State as FlowState};
 ghost use Rattle.md_engine.specs.declared.state.heading_atx.State.{State as HeadingState};
+ghost use Rattle.md_engine.specs.declared.state.list_item.State.{State as ItemState};
 
 use crate::parts::add_part;
 use crate::{constructs, document, fences, flow};
+use md_engine::class::is_white;
 use md_engine::event::{Content, Event, Kind, Link, Name, Point};
 use md_engine::message::Message;
 use md_engine::or_error;
@@ -38,6 +43,7 @@ use md_engine::state::document::State as DocumentState;
 use md_engine::state::flow::State as FlowState;
 use md_engine::state::gfm_table::State as TableState;
 use md_engine::state::heading_atx::State as HeadingState;
+use md_engine::state::list_item::State as ItemState;
 use md_engine::state::space_or_tab::State as WhiteState;
 use md_engine::state::{Name as StateName, State};
 use md_engine::table::leave;
@@ -70,7 +76,61 @@ fn ask_next(tokenizer: &mut Tokenizer)
     }
 }
 
-/// At the same place: goes at once over prefixes of containers that go on, as the states do one after another.
+/// The container that was asked goes on, and is held as it is behind its prefix: as it was, unless it changes there.
+#[inline(always)]
+fn went_on(tokenizer: &mut Tokenizer, changes: bool)
+    requires current { (world tokenizer.old).current ≡ looks (world tokenizer.old) }
+    requires kept { changes ≡ false →
+        next_container (world tokenizer.old).flags ≡ Some (world tokenizer.old).flags.asked }
+    ensures { world tokenizer.new ≡ (existing_after_transition (world tokenizer.old)).world }
+{
+    if changes {
+        document::container_existing_after(tokenizer);
+    } else {
+        tokenizer.flags.continued += 1;
+    }
+}
+
+/// Whether the further lines of a container begin with an indent, which is read by this state.
+#[inline(always)]
+fn reads_indent(state: StateName) -> bool
+    ensures { result ≡ true → state ≡ StateName.ListItem ItemState.ContStart }
+{
+    match state {
+        StateName::ListItem(ItemState::ContStart) => true,
+        _ => false,
+    }
+}
+
+/// Whether something else than whitespace stands here, which does not end the line.
+#[inline(always)]
+fn stands_out(current: Option<u8>) -> bool
+    ensures { result ≡ true → StandsOut current }
+{
+    match current {
+        None => false,
+        Some(byte) => !(is_white(byte) || byte == b'\n'),
+    }
+}
+
+/// Whether the further lines of the next container begin with an indent, and none stands here, on a line that is not
+/// blank.
+#[inline(always)]
+fn has_no_indent(tokenizer: &Tokenizer) -> bool
+    ensures { result ≡ true → EndsAtOnce (world tokenizer.now) }
+{
+    match document::next_container(tokenizer) {
+        None => false,
+        Some(container) => {
+            reads_indent(choices::goes_on_with(container.kind))
+                && stands_out(tokenizer.current)
+                && tokenizer.scratch.whitespace.max == 0
+        }
+    }
+}
+
+/// At the same place: goes at once over prefixes of containers that go on, as the states do one after another. Where
+/// one ends for want of an indent, the first container that may open is next.
 #[inline(always)]
 pub fn containers_existing(tokenizer: &mut Tokenizer) -> State
     requires { IsAt NeedsNothing (StateName.Document DocumentState.ContainerExistingBefore) (world tokenizer.old) }
@@ -78,11 +138,17 @@ pub fn containers_existing(tokenizer: &mut Tokenizer) -> State
         RunsHere FlowStep
         (StateName.Document DocumentState.ContainerExistingBefore) (world tokenizer.old) result (world tokenizer.new) }
     ensures sees { result ≢ State.Error → SeesOn result (world tokenizer.old) (world tokenizer.new) }
+    ensures opens { (name : StateName) → result ≡ State.Next name → SeesAhead (world tokenizer.new) }
 {
     while goes_on_at_once(tokenizer) {
         ask_next(tokenizer);
+        let changes = tokenizer.flags.asked.starts_blank;
         or_error!(choices::take_plain_prefix(tokenizer));
-        document::container_existing_after(tokenizer);
+        went_on(tokenizer, changes);
+    }
+    if has_no_indent(tokenizer) {
+        ask_next(tokenizer);
+        return State::Next(StateName::Document(choices::first_opener()));
     }
     document::container_existing_before(tokenizer)
 }
@@ -346,6 +412,9 @@ fn containers(tokenizer: &mut Tokenizer) -> State
     ensures sees { result ≢ State.Error → SeesOn result (world tokenizer.old) (world tokenizer.new) }
 {
     match containers_existing(tokenizer) {
+        State::Next(StateName::Document(DocumentState::ContainerNewBefore)) => {
+            containers_new(tokenizer)
+        }
         State::Retry(StateName::Document(DocumentState::ContainerNewBefore)) => {
             containers_new(tokenizer)
         }
@@ -353,6 +422,39 @@ fn containers(tokenizer: &mut Tokenizer) -> State
             behind_containers(tokenizer)
         }
         state => state,
+    }
+}
+
+/// Whether a state waits for the begin of a line.
+#[inline(always)]
+fn awaits_line(state: State) -> bool
+    ensures { result ≡ true → state ≡ State.Next (StateName.Document DocumentState.ContainerExistingBefore) }
+{
+    match state {
+        State::Next(StateName::Document(DocumentState::ContainerExistingBefore)) => true,
+        _ => false,
+    }
+}
+
+/// At the begin of a line: goes on at once with the lines behind it, each of which ends where the next may be read.
+#[inline(always)]
+fn lines(tokenizer: &mut Tokenizer) -> State
+    requires current { (world tokenizer.old).current ≡ looks (world tokenizer.old) }
+    requires stands { stands flow_table_scheme (world tokenizer.old)
+        (State.Next (StateName.Document DocumentState.ContainerExistingBefore)) }
+    ensures runs { result ≢ State.Error →
+        RunsHere FlowStep
+        (StateName.Document DocumentState.ContainerExistingBefore) (world tokenizer.old) result (world tokenizer.new) }
+    ensures sees { result ≢ State.Error → SeesOn result (world tokenizer.old) (world tokenizer.new) }
+{
+    loop {
+        let to = containers(tokenizer);
+        if !awaits_line(to) {
+            return to;
+        }
+        if tokenizer.see_or_wait(false) {
+            return to;
+        }
     }
 }
 
@@ -471,7 +573,7 @@ pub fn call_document(tokenizer: &mut Tokenizer, state: DocumentState) -> State
     ensures sees { result ≢ State.Error → SeesOn result (world tokenizer.old) (world tokenizer.new) }
 {
     match state {
-        DocumentState::ContainerExistingBefore => containers(tokenizer),
+        DocumentState::ContainerExistingBefore => lines(tokenizer),
         DocumentState::ContainerNewBefore => containers_new(tokenizer),
         _ => document::call(tokenizer, state),
     }

@@ -12,12 +12,12 @@ use Rattle.md_flow.proofs.at_once.call_document.Goals as goal
 pub returns-in-ContainerExistingBefore : goal.returns-in-ContainerExistingBefore
 returns-in-ContainerExistingBefore c =
     let w = world c.args.tokenizer.now in
-    let w' = world c.containers.new.tokenizer in
+    let w' = world c.lines.new.tokenizer in
     record {
       runs = λ fine.
-          subst (λ (x : DocumentState). RunsHere FlowStep (n.Document x) w c.containers.result w')
-          (sym c.in-ContainerExistingBefore.is) (c.containers.ensures.runs fine);
-      sees = c.containers.ensures.sees;
+          subst (λ (x : DocumentState). RunsHere FlowStep (n.Document x) w c.lines.result w')
+          (sym c.in-ContainerExistingBefore.is) (c.lines.ensures.runs fine);
+      sees = c.lines.ensures.sees;
     }
 
 pub returns-in-ContainerNewBefore : goal.returns-in-ContainerNewBefore

@@ -1,0 +1,44 @@
+use Rattle.std.proofs.Common.{subst, sym}
+use Rattle.md_engine.specs.declared.event.Event.{Event}
+use Rattle.md_engine.specs.declared.event.Point.{Point}
+use Rattle.md_engine.specs.Place.{IsPlaced}
+use Rattle.md_engine.specs.World.{setting_of, world}
+use Rattle.md_engine.proofs.Sound.{sound-moved}
+use Rattle.md_containers.proofs.Ahead.{StandsAhead, sound-put}
+use Rattle.md_containers.proofs.PlainBullet.{bullet-ahead}
+use Rattle.md_containers.proofs.plain_item.take_plain_bullet.Goals as goal
+
+pub invariant_of-tokenizer : goal.invariant_of-tokenizer
+invariant_of-tokenizer c =
+    let t = c.args.tokenizer.now in
+    let P : Event → Type 0 = λ e. IsPlaced t.bytes.now e.point in
+    let Q : Point → Type 0 = λ p. IsPlaced t.bytes.now p in
+    let at : StandsAhead (setting_of t) t.point = bullet-ahead (world t) c.requires t.sound.placed in
+    let marked : IsPlaced t.bytes.now c.ahead-marked.result = subst Q (sym c.ahead-marked.ensures) at.placed_one in
+    let to : IsPlaced t.bytes.now c.ahead-to.result = subst Q (sym c.ahead-to.ensures) at.placed_two in
+    record {
+      sound =
+          rw (
+            c.push_reserved-7.ensures.items,
+            c.push_reserved-6.ensures.items,
+            c.push_reserved-5.ensures.items,
+            c.push_reserved-4.ensures.items,
+            c.push_reserved-3.ensures.items,
+            c.push_reserved-2.ensures.items,
+            c.push_reserved.ensures.items,
+          )
+          (sound-moved _ _ _ _ _ _ _
+          (sound-put _ _ _ _ _ _ _
+          (sound-put _ _ _ _ _ _ _
+          (sound-put _ _ _ _ _ _ _
+          (sound-put _ _ _ _ _ _ _
+          (sound-put _ _ _ _ _ _ _
+          (sound-put _ _ _ _ _ _ _
+          (sound-put _ _ _ _ _ _ _ t.sound
+          (subst P (sym c.enter.ensures) t.sound.placed)) (subst P (sym c.enter-2.ensures) t.sound.placed))
+          (subst P (sym c.enter-3.ensures) t.sound.placed)) (subst P (sym c.exit.ensures) marked))
+          (subst P (sym c.enter-4.ensures) marked)) (subst P (sym c.exit-2.ensures) to))
+          (subst P (sym c.exit-3.ensures) to)) to);
+      spread = t.spread;
+      passed = t.passed;
+    }
