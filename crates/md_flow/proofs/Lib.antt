@@ -6,3 +6,4 @@ pub mod NoLabel
 pub mod SoundParts
 pub mod TakenBack
 pub mod WhiteEnds
+pub mod WholeLines

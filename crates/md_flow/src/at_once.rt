@@ -371,7 +371,7 @@ fn leaf_end(tokenizer: &mut Tokenizer) -> State
 
 /// Behind a line of text: the line ends.
 #[inline(always)]
-fn line_end(tokenizer: &mut Tokenizer) -> State
+pub fn line_end(tokenizer: &mut Tokenizer) -> State
     requires { IsAt NeedsNothing (StateName.Flow FlowState.After) (world tokenizer.old) }
     ensures runs { result ≢ State.Error →
         RunsHere FlowStep
