@@ -1,5 +1,6 @@
 pub mod ContentLines
 pub mod FenceLines
+pub mod HtmlLines
 pub mod LineEnds
 pub mod NoClose
 pub mod NoLabel

@@ -28,7 +28,7 @@ ghost use Rattle.md_engine.specs.declared.state.flow.State.{State as FlowState};
 ghost use Rattle.md_engine.specs.declared.state.heading_atx.State.{State as HeadingState};
 
 use crate::parts::add_part;
-use crate::{constructs, document, fences, flow};
+use crate::{constructs, document, fences, flow, html_lines};
 use md_engine::event::{Content, Event, Kind, Link, Name, Point};
 use md_engine::message::Message;
 use md_engine::or_error;
@@ -427,6 +427,7 @@ fn tried_leaf(tokenizer: &Tokenizer) -> Option<bool>
 }
 
 /// Where the leaf of a line accepts: the attempt at it is left, and the line ends.
+#[inline(always)]
 fn accepted(tokenizer: &mut Tokenizer, shuts: bool) -> State
     requires { IsTried shuts (world tokenizer.old) }
     ensures runs { result ≢ State.Error → (is_end : Bool) →
@@ -576,6 +577,7 @@ pub fn call_at_once(tokenizer: &mut Tokenizer, name: StateName) -> State
     match name {
         StateName::HeadingAtx(state) => call_heading(tokenizer, state),
         StateName::GfmTable(state) => call_table(tokenizer, state),
+        StateName::HtmlFlow(state) => html_lines::call(tokenizer, state),
         _ => constructs::call(tokenizer, name),
     }
 }
