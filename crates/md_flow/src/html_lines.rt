@@ -4,7 +4,7 @@
 // such a one takes. What is left of a line is taken at once, and the line ends. Each function is a run of the states
 // (`RunsHere`), so the pages of the states can be read without this one.
 
-ghost use Rattle.std.specs.Prelude.{◌≡◌, ◌≢◌, IfSome, None};
+ghost use Rattle.std.specs.Prelude.{◌≡◌, ◌≢◌, IfSome, None, true};
 ghost use Rattle.md_engine.specs.Going.{SeesOn};
 ghost use Rattle.md_engine.specs.Run.{RunsHere};
 ghost use Rattle.md_engine.specs.Scheme.{stands};
@@ -36,6 +36,39 @@ fn html_state(name: StateName) -> Option<HtmlState>
     }
 }
 
+/// Whether a further line that may be blank is next.
+#[inline(always)]
+fn is_open(state: State) -> bool
+    ensures { result ≡ true → state ≡ State.Retry (StateName.HtmlFlow HtmlState.BlankLineBefore) }
+{
+    match state {
+        State::Retry(StateName::HtmlFlow(HtmlState::BlankLineBefore)) => true,
+        _ => false,
+    }
+}
+
+/// Whether the rest of a line is next.
+#[inline(always)]
+fn is_rest(state: State) -> bool
+    ensures { result ≡ true → state ≡ State.Retry (StateName.HtmlFlow HtmlState.ContinuationClose) }
+{
+    match state {
+        State::Retry(StateName::HtmlFlow(HtmlState::ContinuationClose)) => true,
+        _ => false,
+    }
+}
+
+/// Whether the end of a line is next.
+#[inline(always)]
+fn is_over(state: State) -> bool
+    ensures { result ≡ true → state ≡ State.Retry (StateName.HtmlFlow HtmlState.ContinuationAfter) }
+{
+    match state {
+        State::Retry(StateName::HtmlFlow(HtmlState::ContinuationAfter)) => true,
+        _ => false,
+    }
+}
+
 /// In a line of the last two kinds, or behind an end: the rest of the line is taken at once.
 #[inline(always)]
 fn rest(tokenizer: &mut Tokenizer) -> State
@@ -55,7 +88,55 @@ fn rest(tokenizer: &mut Tokenizer) -> State
     html_flow::continuation_close(tokenizer)
 }
 
-/// Calls a state of HTML; the rest of a line is taken at once.
+/// The same, and the line is done.
+#[inline(always)]
+fn rest_done(tokenizer: &mut Tokenizer) -> State
+    requires { IsAt HtmlNeeds (StateName.HtmlFlow HtmlState.ContinuationClose) (world tokenizer.old) }
+    ensures runs { result ≢ State.Error →
+        RunsHere FlowStep
+        (StateName.HtmlFlow HtmlState.ContinuationClose) (world tokenizer.old) result (world tokenizer.new) }
+    ensures sees { result ≢ State.Error → SeesOn result (world tokenizer.old) (world tokenizer.new) }
+{
+    let to = rest(tokenizer);
+    if is_over(to) {
+        return html_flow::continuation_after(tokenizer);
+    }
+    to
+}
+
+/// In a further line that may be blank: where no whitespace stands here, the line is taken at once.
+#[inline(always)]
+fn further_inside(tokenizer: &mut Tokenizer) -> State
+    requires { IsAt HtmlNeeds (StateName.HtmlFlow HtmlState.BlankLineBefore) (world tokenizer.old) }
+    ensures runs { result ≢ State.Error →
+        RunsHere FlowStep
+        (StateName.HtmlFlow HtmlState.BlankLineBefore) (world tokenizer.old) result (world tokenizer.new) }
+    ensures sees { result ≢ State.Error → SeesOn result (world tokenizer.old) (world tokenizer.new) }
+{
+    let to = html_flow::blank_line_before(tokenizer);
+    if is_rest(to) {
+        return rest_done(tokenizer);
+    }
+    to
+}
+
+/// Before a further line: one of the last two kinds is taken at once, where no whitespace stands here.
+#[inline(always)]
+fn further(tokenizer: &mut Tokenizer) -> State
+    requires { IsAt HtmlNeeds (StateName.HtmlFlow HtmlState.ContinuationStart) (world tokenizer.old) }
+    ensures runs { result ≢ State.Error →
+        RunsHere FlowStep
+        (StateName.HtmlFlow HtmlState.ContinuationStart) (world tokenizer.old) result (world tokenizer.new) }
+    ensures sees { result ≢ State.Error → SeesOn result (world tokenizer.old) (world tokenizer.new) }
+{
+    let to = html_flow::continuation_start(tokenizer);
+    if is_open(to) {
+        return further_inside(tokenizer);
+    }
+    to
+}
+
+/// Calls a state of HTML; the rest of a line is taken at once, and so is a further line.
 #[inline(always)]
 fn call_state(tokenizer: &mut Tokenizer, state: HtmlState) -> State
     requires current { (world tokenizer.old).current ≡ looks (world tokenizer.old) }
@@ -65,7 +146,8 @@ fn call_state(tokenizer: &mut Tokenizer, state: HtmlState) -> State
     ensures sees { result ≢ State.Error → SeesOn result (world tokenizer.old) (world tokenizer.new) }
 {
     match state {
-        HtmlState::ContinuationClose => rest(tokenizer),
+        HtmlState::ContinuationClose => rest_done(tokenizer),
+        HtmlState::ContinuationStart => further(tokenizer),
         _ => constructs::call(tokenizer, StateName::HtmlFlow(state)),
     }
 }

@@ -12,12 +12,23 @@ use Rattle.md_flow.proofs.html_lines.call_state.Goals as goal
 pub returns-in-ContinuationClose : goal.returns-in-ContinuationClose
 returns-in-ContinuationClose c =
     let w = world c.args.tokenizer.now in
-    let w' = world c.rest.new.tokenizer in
+    let w' = world c.rest_done.new.tokenizer in
     record {
       runs = λ fine.
-          subst (λ (x : HtmlState). RunsHere FlowStep (n.HtmlFlow x) w c.rest.result w') (sym c.in-ContinuationClose.is)
-          (c.rest.ensures.runs fine);
-      sees = c.rest.ensures.sees;
+          subst (λ (x : HtmlState). RunsHere FlowStep (n.HtmlFlow x) w c.rest_done.result w') (sym c.in-ContinuationClose.is)
+          (c.rest_done.ensures.runs fine);
+      sees = c.rest_done.ensures.sees;
+    }
+
+pub returns-in-ContinuationStart : goal.returns-in-ContinuationStart
+returns-in-ContinuationStart c =
+    let w = world c.args.tokenizer.now in
+    let w' = world c.further.new.tokenizer in
+    record {
+      runs = λ fine.
+          subst (λ (x : HtmlState). RunsHere FlowStep (n.HtmlFlow x) w c.further.result w')
+          (sym c.in-ContinuationStart.is) (c.further.ensures.runs fine);
+      sees = c.further.ensures.sees;
     }
 
 pub returns-in_default : goal.returns-in_default
