@@ -35,25 +35,26 @@ use Rattle.md_flow.proofs.TakenBack.{stepped-as}
 use Rattle.md_flow.proofs.WhiteEnds.{looks-inside}
 
 -- The rest of a line is seen whatever events and attempts there are, and whatever is kept beside,
-abbrev with : List Event → List Frame → Scratch → World → World
+abbrev pub with : List Event → List Frame → Scratch → World → World
 with es fs s w = record w { events = es; frames = fs; scratch = s }
 
-some-with : (es : List Event) (fs : List Frame) (s : Scratch) (w u : World) → SeesSome Line w u →
+pub some-with : (es : List Event) (fs : List Frame) (s : Scratch) (w u : World) → SeesSome Line w u →
     SeesSome Line (with es fs s w) (with es fs s u)
 some-with es fs s w _ Nothing = Nothing
 some-with es fs s w _ (OneMore v some here) = OneMore (with es fs s v) (some-with es fs s w v some) here
 
 -- all of which it leaves as it is.
-record Keeps (w u : World) : Type 0 where
+pub record Keeps (w u : World) : Type 0 where
   pub events : u.events ≡ w.events
   pub frames : u.frames ≡ w.frames
   pub scratch : u.scratch ≡ w.scratch
+  pub flags : u.flags ≡ w.flags
 
-some-keeps : (w u : World) → SeesSome Line w u → Keeps w u
-some-keeps w _ Nothing = record { events = refl; frames = refl; scratch = refl }
+pub some-keeps : (w u : World) → SeesSome Line w u → Keeps w u
+some-keeps w _ Nothing = record { events = refl; frames = refl; scratch = refl; flags = refl }
 some-keeps w _ (OneMore v some here) =
     let before = some-keeps w v some in
-    record { events = before.events; frames = before.frames; scratch = before.scratch }
+    record { events = before.events; frames = before.frames; scratch = before.scratch; flags = before.flags }
 
 -- Its end comes no earlier than its begin,
 pub some-order : (w u : World) → SeesSome Line w u → whole_from w.point ≤ whole_from u.point
@@ -63,7 +64,7 @@ some-order w _ (OneMore v some here) =
     let step = whole-behind v.setting v.point here.0 (not-ending here.0 here.2) here.1 in omega (arith, before, step)
 
 -- and there the line ends, where something stands.
-line-over : (u : World) → u.point.index < u.setting.limit → ¬ Sees Line u → ends_line (looks u) ≡ true
+pub line-over : (u : World) → u.point.index < u.setting.limit → ¬ Sees Line u → ends_line (looks u) ≡ true
 line-over u lt none = ap ends_line there ∙ go (nat_eq (seen_at u.setting.bytes u.point) 10) refl
   where
     there : looks u ≡ Some (seen_at u.setting.bytes u.point)

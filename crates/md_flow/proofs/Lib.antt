@@ -1,5 +1,6 @@
 pub mod ContentLines
 pub mod FenceLines
+pub mod HtmlLines
 pub mod LineEnds
 pub mod NoClose
 pub mod NoIndent
@@ -7,3 +8,4 @@ pub mod NoLabel
 pub mod SoundParts
 pub mod TakenBack
 pub mod WhiteEnds
+pub mod WholeLines

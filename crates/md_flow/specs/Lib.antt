@@ -1,2 +1,3 @@
 pub mod AtOnce
 pub mod Nests
+pub mod WholeLines

@@ -32,7 +32,7 @@ ghost use Rattle.md_engine.specs.declared.state.heading_atx.State.{State as Head
 ghost use Rattle.md_engine.specs.declared.state.list_item.State.{State as ItemState};
 
 use crate::parts::add_part;
-use crate::{constructs, document, fences, flow};
+use crate::{constructs, document, fences, flow, html_lines};
 use md_engine::class::is_white;
 use md_engine::event::{Content, Event, Kind, Link, Name, Point};
 use md_engine::message::Message;
@@ -473,7 +473,7 @@ fn leaf_end(tokenizer: &mut Tokenizer) -> State
 
 /// Behind a line of text: the line ends.
 #[inline(always)]
-fn line_end(tokenizer: &mut Tokenizer) -> State
+pub fn line_end(tokenizer: &mut Tokenizer) -> State
     requires { IsAt NeedsNothing (StateName.Flow FlowState.After) (world tokenizer.old) }
     ensures runs { result ≢ State.Error →
         RunsHere FlowStep
@@ -529,6 +529,7 @@ fn tried_leaf(tokenizer: &Tokenizer) -> Option<bool>
 }
 
 /// Where the leaf of a line accepts: the attempt at it is left, and the line ends.
+#[inline(always)]
 fn accepted(tokenizer: &mut Tokenizer, shuts: bool) -> State
     requires { IsTried shuts (world tokenizer.old) }
     ensures runs { result ≢ State.Error → (is_end : Bool) →
@@ -678,6 +679,7 @@ pub fn call_at_once(tokenizer: &mut Tokenizer, name: StateName) -> State
     match name {
         StateName::HeadingAtx(state) => call_heading(tokenizer, state),
         StateName::GfmTable(state) => call_table(tokenizer, state),
+        StateName::HtmlFlow(state) => html_lines::call(tokenizer, state),
         _ => constructs::call(tokenizer, name),
     }
 }

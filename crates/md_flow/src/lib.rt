@@ -6,5 +6,6 @@ mod constructs;
 pub mod document;
 mod fences;
 pub mod flow;
+mod html_lines;
 mod parts;
 pub mod resolve;

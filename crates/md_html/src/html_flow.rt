@@ -92,6 +92,7 @@ pub fn may_begin(first: Option<u8>) -> bool
 /// > |  <x />
 ///     ^
 /// ```
+#[inline(always)]
 #[tactic(auto, using(crate::proofs::HtmlMeaning::html_rule))]
 pub fn start(tokenizer: &mut Tokenizer) -> State
     requires { IsAt HtmlNeeds (StateName.HtmlFlow HtmlState.Start) (world tokenizer.old) }
@@ -162,6 +163,7 @@ pub fn before(tokenizer: &mut Tokenizer) -> State
 /// > | <!--x-->
 ///      ^
 /// ```
+#[inline(always)]
 #[tactic(auto, using(crate::proofs::HtmlMeaning::html_rule))]
 pub fn open(tokenizer: &mut Tokenizer) -> State
     requires { IsAt HtmlNeeds (StateName.HtmlFlow HtmlState.Open) (world tokenizer.old) }
@@ -202,6 +204,7 @@ pub fn open(tokenizer: &mut Tokenizer) -> State
 /// > | <!--x-->
 ///       ^
 /// ```
+#[inline(always)]
 #[tactic(auto, using(crate::proofs::HtmlMeaning::html_rule))]
 pub fn declaration_open(tokenizer: &mut Tokenizer) -> State
     requires { IsAt HtmlNeeds (StateName.HtmlFlow HtmlState.DeclarationOpen) (world tokenizer.old) }
@@ -344,6 +347,7 @@ fn complete_name(tokenizer: &mut Tokenizer) -> State
 }
 
 /// Behind a whole name, of which the kind tells how to go on.
+#[inline(always)]
 fn name_ended(tokenizer: &mut Tokenizer) -> State
     requires { (world tokenizer.old).current ≡ looks (world tokenizer.old) }
     ensures to { result ≡ (moved (world tokenizer.old) (name_move (world tokenizer.old))).to }
@@ -367,6 +371,7 @@ fn name_ended(tokenizer: &mut Tokenizer) -> State
 /// > | </ab>
 ///       ^^
 /// ```
+#[inline(always)]
 #[tactic(auto, using(crate::proofs::HtmlMeaning::html_rule))]
 pub fn tag_name(tokenizer: &mut Tokenizer) -> State
     requires { IsAt HtmlNeeds (StateName.HtmlFlow HtmlState.TagName) (world tokenizer.old) }
@@ -410,6 +415,7 @@ pub fn basic_self_closing(tokenizer: &mut Tokenizer) -> State
 }
 
 /// At the byte with which an end may begin, which is the marker.
+#[inline(always)]
 fn at_stop(tokenizer: &mut Tokenizer) -> State
     requires { (world tokenizer.old).point.index < length (world tokenizer.old).setting.bytes }
     ensures to { result ≡ (moved (world tokenizer.old) (stop_move (world tokenizer.old).scratch)).to }
@@ -433,6 +439,7 @@ fn at_stop(tokenizer: &mut Tokenizer) -> State
 /// > | <!--xxx-->
 ///         ^^^
 /// ```
+#[inline(always)]
 #[tactic(auto, using(crate::proofs::HtmlMeaning::html_rule))]
 pub fn continuation(tokenizer: &mut Tokenizer) -> State
     requires { IsAt HtmlNeeds (StateName.HtmlFlow HtmlState.Continuation) (world tokenizer.old) }
@@ -462,6 +469,7 @@ pub fn continuation(tokenizer: &mut Tokenizer) -> State
 /// > | asd
 ///     ^
 /// ```
+#[inline(always)]
 #[tactic(auto, using(crate::proofs::HtmlMeaning::html_rule))]
 pub fn continuation_start(tokenizer: &mut Tokenizer) -> State
     requires { IsAt HtmlNeeds (StateName.HtmlFlow HtmlState.ContinuationStart) (world tokenizer.old) }
@@ -723,6 +731,7 @@ pub fn takes_at_once(state: HtmlState) -> Option<Stay>
 }
 
 /// Calls a state of HTML.
+#[inline(always)]
 #[tactic(auto, using(crate::proofs::HtmlMeaning::html_rule))]
 pub fn call(tokenizer: &mut Tokenizer, state: HtmlState) -> State
     requires { IsAt HtmlNeeds (StateName.HtmlFlow state) (world tokenizer.old) }

@@ -32,13 +32,24 @@ returns-in-GfmTable c =
       sees = c.call_table.ensures.sees;
     }
 
+pub returns-in-HtmlFlow : goal.returns-in-HtmlFlow
+returns-in-HtmlFlow c =
+    let w = world c.args.tokenizer.now in
+    let w' = world c.call.new.tokenizer in
+    record {
+      runs = λ fine.
+          subst (λ (x : StateName). RunsHere FlowStep x w c.call.result w') (sym c.in-HtmlFlow.is)
+          (c.call.ensures.runs fine);
+      sees = c.call.ensures.sees;
+    }
+
 pub returns-in_default : goal.returns-in_default
 returns-in_default c =
     let w = world c.args.tokenizer.now in
     let is : construct_transition c.args.name w ≡ flow_transition c.args.name w =
     flow-constructs c.args.name w c.requires.construct in
-    let once = λ (fine : c.call.result ≢ Error).
-    called-once c.args.name w c.call.result (world c.call.new.tokenizer) c.requires.current c.requires.stands
-    (within-world c.args.tokenizer.now) fine (c.call.ensures.to fine ∙ ap (λ (x : Transition). x.to) is)
-    (c.call.ensures.world fine ∙ ap (λ (x : Transition). x.world) is) in
+    let once = λ (fine : c.call-in_default.result ≢ Error).
+    called-once c.args.name w c.call-in_default.result (world c.call-in_default.new.tokenizer) c.requires.current c.requires.stands
+    (within-world c.args.tokenizer.now) fine (c.call-in_default.ensures.to fine ∙ ap (λ (x : Transition). x.to) is)
+    (c.call-in_default.ensures.world fine ∙ ap (λ (x : Transition). x.world) is) in
     record { runs = λ fine. (once fine).0; sees = λ fine. (once fine).1 }

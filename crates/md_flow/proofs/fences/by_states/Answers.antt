@@ -7,7 +7,7 @@ use Rattle.md_engine.specs.declared.state.State.TheVariants.{Error}
 use Rattle.md_engine.proofs.StayLemmas.{within-world}
 use Rattle.md_registry.proofs.LinesAtOnce.{Goes, goes-through, inside-leaves, leaves-once}
 use Rattle.md_flow.proofs.FenceLines.{still-seen}
-use Rattle.md_flow.proofs.fences.inside.Goals as goal
+use Rattle.md_flow.proofs.fences.by_states.Goals as goal
 
 pub further-requires : goal.further-requires
 further-requires c =
