@@ -363,8 +363,8 @@ impl<'a> Reading<'a> {
         }
     }
 
-    /// Reads the begin of a prefix. In front of it is nothing to be shown where no text is read, or where another prefix
-    /// ends there.
+    /// Reads the begin of a prefix. Where no text is read, or another prefix ends there, nothing in front of it is
+    /// shown.
     #[inline(always)]
     fn part_text(&mut self, end: usize) -> Result<(), Message>
         ensures bytes { self.new.bytes ≡ self.old.bytes }

@@ -142,6 +142,7 @@ pub fn push<'a>(
 }
 
 /// Adds the lines of a text that have an ending, and answers what stands behind the last ending.
+#[inline(always)]
 pub fn push_full_lines<'a>(
     lines: &mut Vec<OutlineLine<'a>>,
     depth: usize,
