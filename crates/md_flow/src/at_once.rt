@@ -321,6 +321,7 @@ fn is_heading(state: State) -> bool
 
 /// At the start of the rest of a line: content begins at once where one look tells so, and a heading with its opening
 /// sequence.
+#[inline(always)]
 fn rest_begins(tokenizer: &mut Tokenizer) -> State
     requires { IsAt NeedsNothing (StateName.Flow FlowState.Start) (world tokenizer.old) }
     ensures runs { result ≢ State.Error →

@@ -116,6 +116,7 @@ pub(crate) fn ask(tokenizer: &mut Tokenizer, container: Container)
 }
 
 /// Where the line ends no container is asked: those go on that take nothing of it.
+#[inline(always)]
 fn pass_over(tokenizer: &mut Tokenizer)
     ensures { world tokenizer.new ≡ record (world tokenizer.old) { flags = ended_on (world tokenizer.old).flags } }
 {
@@ -438,6 +439,7 @@ fn takes_lazy(leaf: HeldLeaf) -> bool
 }
 
 /// How many containers are still open behind a line: all of them if it goes on the open text, else those that went on.
+#[inline(always)]
 fn kept_containers(tokenizer: &Tokenizer) -> usize
     ensures { result ≡ kept_containers (world tokenizer.now).flags }
 {
@@ -449,6 +451,7 @@ fn kept_containers(tokenizer: &Tokenizer) -> usize
 }
 
 /// What the ending of a line is called.
+#[inline(always)]
 fn ending_name(blank: bool) -> Name
     ensures { result ≡ ending_name blank }
 {
