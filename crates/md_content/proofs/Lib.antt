@@ -20,6 +20,7 @@ pub mod PointOrder
 pub mod LineReads
 pub mod LabelLook
 pub mod WholeLines
+pub mod ParagraphLines
 pub mod LabelTexts
 pub mod LabelWalks
 pub mod FootnoteWalk

@@ -9,6 +9,7 @@ pub mod DefinitionsRule
 pub mod Resolves
 pub mod Joined
 pub mod Lines
+pub mod ParagraphLines
 pub mod Labels
 pub mod FootnoteLabels
 pub mod LabelTexts

@@ -10,7 +10,7 @@
 // behind those in front of it, and ends behind its ending, before those of the next line: its end is that of its chunk.
 
 ghost use Rattle.std.specs.Prelude.{◌≡◌, ◌≢◌, ℕ, ◌^◌, ◌<◌, ◌≤◌, ◌&&◌, false, not, IfOk, IfSome, List, []};
-ghost use Rattle.std.specs.Prelude.{OnOk, length, true};
+ghost use Rattle.std.specs.Prelude.{OnOk, length, slice_range, true};
 ghost use Rattle.std.specs.List.{prefix_len};
 ghost use Rattle.std.specs.Option.{option_map};
 ghost use Rattle.md_content.specs.ChunkRule.{ChunkMeans};
@@ -31,7 +31,7 @@ ghost use Rattle.md_content.specs.LabelLook.{may_close, may_define_in};
 ghost use Rattle.md_content.specs.WholeLines.{are_lines, is_followed, is_within_line, paragraph_of};
 ghost use Rattle.md_engine.specs.declared.configuration.ParseOptions.{ParseOptions};
 ghost use Rattle.md_seam.specs.Lent.{whole_from};
-ghost use Rattle.md_seam.specs.Parts.{AreChunks, ArePlaced};
+ghost use Rattle.md_seam.specs.Parts.{AreChunks, ArePlaced, IsChunk};
 ghost use Rattle.md_seam.specs.Spaces.{ends_line};
 ghost use Rattle.md_seam.specs.Stays.{TakesEach};
 ghost use Rattle.md_seam.specs.Transition.{IsAt, NeedsNothing};
@@ -343,7 +343,7 @@ impl ContentReader<'_> {
 ///
 /// The line of a point counts the endings in front of it. So the chunk has one ending, and by the column it is the last
 /// of its text.
-fn is_followed(chunk: &Chunk, next: &Chunk) -> bool
+pub fn is_followed(chunk: &Chunk, next: &Chunk) -> bool
     ensures { result ≡ is_followed chunk.now next.now }
 {
     chunk.after.line.saturating_sub(chunk.first.line) == 1
@@ -353,7 +353,7 @@ fn is_followed(chunk: &Chunk, next: &Chunk) -> bool
 }
 
 /// Whether a chunk ends on the line on which it begins, and has a byte.
-fn is_within_line(chunk: &Chunk) -> bool
+pub fn is_within_line(chunk: &Chunk) -> bool
     ensures { result ≡ is_within_line chunk.now }
 {
     chunk.first.line == chunk.after.line
@@ -408,6 +408,16 @@ fn may_define_in(line: &[u8]) -> bool
     }
 }
 
+/// Whether a definition may begin with a chunk: `true` where that is not known.
+pub fn may_define_at(bytes: &[u8], chunk: &Chunk) -> bool
+    requires { IsChunk bytes.now chunk.now }
+    ensures { result ≡ false →
+        may_define_in (slice_range bytes.now chunk.now.first.index chunk.now.after.index) ≡ false }
+{
+    let Chunk { first, after } = *chunk;
+    first.index >= after.index || may_define_in(&bytes[first.index..after.index])
+}
+
 /// Whether these chunks are the lines of one paragraph: `false` where that is not known.
 ///
 /// Definitions come before the paragraph of a part. Where none begins with the first line, the paragraph does, and it
@@ -417,11 +427,7 @@ fn is_paragraph(bytes: &[u8], chunks: &[Chunk]) -> bool
     ensures { result ≡ true → (options : ParseOptions) →
         content_events bytes.now options chunks.now ≡ paragraph_of chunks.now }
 {
-    let Chunk { first, after } = chunks[0];
-    if first.index >= after.index || may_define_in(&bytes[first.index..after.index]) {
-        return false;
-    }
-    are_lines(chunks)
+    !may_define_at(bytes, &chunks[0]) && are_lines(chunks)
 }
 
 /// Replaces the events by those of one paragraph over these chunks.

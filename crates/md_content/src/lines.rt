@@ -13,19 +13,25 @@
 //       ^ the line that it goes on with
 // ```
 
-ghost use Rattle.std.specs.Prelude.{◌≡◌, ◌≤◌, ◌<◌, ◌&&◌, length, drop, IfOk, List, OnOk, [], true};
+ghost use Rattle.std.specs.Prelude.{◌≡◌, ◌≤◌, ◌<◌, ◌+◌, ◌&&◌, ◌∷◌, ◌++◌, length, drop, IfOk, IfSome, List, None, []};
+ghost use Rattle.std.specs.Prelude.{OnOk, get_or, true};
 ghost use Rattle.std.specs.List.{prefix_len};
 ghost use Rattle.md_content.specs.ContentReads.{content_events, content_readings, wants_content};
 ghost use Rattle.md_content.specs.Joined.{ends_content, goes_on, is_content, is_of_prefix, joined, joined_with};
 ghost use Rattle.md_content.specs.Lines.{begins_chunk, is_passed, lines_from};
+ghost use Rattle.md_content.specs.ParagraphLines.{GivesParagraph, HasLines, IsParagraph, is_unlinked};
+ghost use Rattle.md_content.specs.WholeLines.{lines_of};
 ghost use Rattle.md_engine.specs.declared.event.Event.{Event};
+ghost use Rattle.md_engine.specs.declared.event.Name.{Name};
+ghost use Rattle.md_meaning.specs.Ascii.{left_bracket};
 ghost use Rattle.md_seam.specs.Events.Inline.{is_line_ending};
 ghost use Rattle.md_seam.specs.Events.Nested.{is_enter};
 ghost use Rattle.md_seam.specs.Parts.{ArePlaced};
-ghost use Rattle.md_seam.specs.Substituted.{Begun, Substituted};
+ghost use Rattle.md_seam.specs.Rewritten.{given_of, held_of, left_of, written_of};
+ghost use Rattle.md_seam.specs.Substituted.{Begun, Substituted, chunk_of, is_plain_prefix};
 
-use crate::content::ContentReader;
-use md_engine::event::{Content, Event, Kind, Name};
+use crate::content::{ContentReader, is_followed, is_within_line, may_define_at};
+use md_engine::event::{Content, Event, Kind, Link, Name, Point};
 use md_engine::message::Message;
 use md_seam::inline::Chunk;
 use md_seam::rewriting::Rewriting;
@@ -58,6 +64,25 @@ fn prefixes(events: &[Event]) -> usize
         }
     }
     events.len()
+}
+
+/// Whether an event belongs to a container prefix, and begins no chunk.
+struct IsPlainPrefix;
+
+impl Test for IsPlainPrefix {
+    ghost passes = { λ test. is_plain_prefix };
+
+    fn passes(&self, event: &Event) -> bool {
+        is_prefix(event.name) && event.link.is_none()
+    }
+}
+
+/// How many of the events come before the first that belongs to no container prefix, or has a link.
+fn plain_prefixes(events: &[Event]) -> usize
+    ensures value { result ≡ prefix_len is_plain_prefix events.now }
+    ensures within { result ≤ length events.now }
+{
+    passing(&IsPlainPrefix, events)
 }
 
 /// Whether a line of content that ends before these events goes on: its ending comes first, and behind it and the
@@ -104,6 +129,171 @@ fn begins_chunk(events: &[Event]) -> bool
         (Kind::Enter, Some(link)) => matches!(link.content, Content::Content),
         _ => false,
     }
+}
+
+/// Whether an event has no link.
+struct IsUnlinked;
+
+impl Test for IsUnlinked {
+    ghost passes = { λ test. is_unlinked };
+
+    fn passes(&self, event: &Event) -> bool {
+        event.link.is_none()
+    }
+}
+
+/// How many of the events come before the first that has a link.
+fn unlinked(events: &[Event]) -> usize
+    ensures value { result ≡ prefix_len is_unlinked events.now }
+    ensures within { result ≤ length events.now }
+{
+    passing(&IsUnlinked, events)
+}
+
+/// Where the next line of the part begins among the events behind the begin of a line: behind its ending and
+/// container prefixes. `None` where none does, or where that is not known.
+fn next_line(events: &[Event]) -> Option<usize>
+    ensures line { IfSome result (λ next. (next ≡ 3 + prefix_len is_plain_prefix (drop 3 events.now))
+        × (joined_with events.now ≡ 2)) }
+    ensures begins { IfSome result (λ next. begins_chunk (drop next events.now) ≡ true) }
+    ensures within { IfSome result (λ next. next + 1 < length events.now) }
+{
+    if events.len() < 3 || !ends_line(&events[0]) || !is_ending(&events[1]) {
+        return None;
+    }
+    let next = 3 + plain_prefixes(&events[3..]);
+    if begins_chunk(&events[next..]) && begins_line(&events[next]) {
+        Some(next)
+    } else {
+        None
+    }
+}
+
+/// Whether the line is the last of its part that ends with the first of these events: `false` where that is not known.
+fn ends_part(events: &[Event]) -> bool
+    requires { 0 < length events.now }
+    ensures alone { result ≡ true → joined_with events.now ≡ 0 }
+    ensures last { result ≡ true → lines_from (drop 1 events.now) ≡ [] }
+{
+    if joined_with(events) > 0 {
+        return false;
+    }
+    events.len() < 3 || !begins_chunk(&events[1..]) && !is_prefix(events[1].name)
+}
+
+/// The chunk from one event to another.
+fn chunk_of(first: &Event, last: &Event) -> Chunk
+    ensures { result ≡ chunk_of first.now last.now }
+{
+    Chunk {
+        first: first.point,
+        after: last.point,
+    }
+}
+
+/// Whether there is a `[` at this place, with which most definitions begin.
+fn is_bracket(bytes: &[u8], at: usize) -> bool
+    ensures { result ≡ true → get_or bytes.now at 0 ≡ left_bracket }
+{
+    at < bytes.len() && bytes[at] == b'['
+}
+
+/// How many lines follow the first in the part that begins with these events, if it is a paragraph: `None` where that
+/// is not known, as behind a `[`.
+fn further_lines(bytes: &[u8], events: &[Event]) -> Option<usize>
+    requires begins { begins_chunk events.now ≡ true }
+    requires placed { ArePlaced bytes.now events.now }
+    ensures { IfSome result (λ more. IsParagraph bytes.now more events.now) }
+{
+    if is_bracket(bytes, events[0].point.index) {
+        return None;
+    }
+    let mut at = 0;
+    let mut more = 0;
+    while let Some(behind) = next_line(&events[at + 1..]) {
+        let next = at + 1 + behind;
+        let line = chunk_of(&events[at], &events[at + 3]);
+        if !is_followed(&line, &chunk_of(&events[next], &events[next + 1])) {
+            return None;
+        }
+        at = next;
+        more += 1;
+    }
+    if !ends_part(&events[at + 1..]) || !is_within_line(&chunk_of(&events[at], &events[at + 1])) {
+        return None;
+    }
+    let last = if more > 0 { 3 } else { 1 };
+    if may_define_at(bytes, &chunk_of(&events[0], &events[last])) {
+        return None;
+    }
+    Some(more)
+}
+
+/// Reads a line that is left first, with its ending if so many lines follow, and returns its chunk.
+fn take_line(all: &mut Rewriting, more: usize) -> Chunk
+    requires { HasLines more (left_of all.old) }
+    ensures line { lines_from (left_of all.old) ≡ result ∷ lines_from (left_of all.new) }
+    ensures left { left_of all.new ≡ drop (joined_with (drop 1 (left_of all.old)) + 2) (left_of all.old) }
+    ensures held { held_of all.new ≡ [] }
+    ensures written { written_of all.new ≡ given_of all.old }
+{
+    let last = if more > 0 { 3 } else { 1 };
+    let left = all.left();
+    let line = chunk_of(&left[0], &left[last]);
+    all.skip(last + 1);
+    line
+}
+
+/// Writes a line of a paragraph.
+#[inline(always)]
+fn put_line(all: &mut Rewriting, line: &Chunk) -> Result<(), Message>
+    ensures left { left_of all.new ≡ left_of all.old }
+    ensures held { held_of all.new ≡ held_of all.old }
+    ensures written { OnOk result (written_of all.new ≡ written_of all.old ++ lines_of (line.now ∷ [])) }
+{
+    let link = Link {
+        previous: false,
+        next: false,
+        content: Content::Text,
+    };
+    all.push_linked(Name::Data, link, line.first, line.after)
+}
+
+/// Writes an event of a paragraph that begins or ends at a point.
+fn put_paragraph_event(all: &mut Rewriting, kind: Kind, point: Point) -> Result<(), Message>
+    ensures left { left_of all.new ≡ left_of all.old }
+    ensures held { held_of all.new ≡ held_of all.old }
+    ensures written { let event : Event = record { kind = kind; name = Name.Paragraph; point = point; link = None } in
+        OnOk result (written_of all.new ≡ written_of all.old ++ event ∷ []) }
+{
+    all.push(Event {
+        kind,
+        name: Name::Paragraph,
+        link: None,
+        point,
+    })
+}
+
+/// Writes the paragraph that is left first, a line and so many further lines, in their places: its text is what was
+/// content, and the ending between two lines belongs to the first.
+fn put_paragraph(all: &mut Rewriting, further: usize) -> Result<(), Message>
+    requires { HasLines further (left_of all.old) }
+    ensures given { OnOk result
+        (GivesParagraph further (given_of all.old) (left_of all.old) (given_of all.new) (left_of all.new)) }
+    ensures fewer { OnOk result (length (left_of all.new) < length (left_of all.old)) }
+{
+    let mut more = further;
+    let mut line = take_line(all, more);
+    put_paragraph_event(all, Kind::Enter, line.first)?;
+    put_line(all, &line)?;
+    while more > 0 {
+        more -= 1;
+        let many = unlinked(all.left());
+        all.hold_many(many);
+        line = take_line(all, more);
+        put_line(all, &line)?;
+    }
+    put_paragraph_event(all, Kind::Exit, line.after)
 }
 
 /// Lists the chunks of the part that begins with these events, in place of those that are listed.
@@ -194,6 +384,12 @@ pub fn read_lines(
     let mut chunks = Vec::new(alloc);
     while let Some(event) = all.first() {
         if begins_chunk(all.left()) {
+            if !found.is_begun() {
+                if let Some(more) = further_lines(reader.bytes, all.left()) {
+                    put_paragraph(&mut all, more)?;
+                    continue;
+                }
+            }
             or_read(alloc, reader, &mut found, &mut chunks, all.left())?;
             let last = 1 + joined_with(&all.left()[1..]);
             let end = all.left()[last].point.index;

@@ -2,10 +2,10 @@
 
 ghost use Rattle.std.specs.Prelude.{◌≡◌, ◌≤◌, ◌<◌, ◌+◌, [], ◌∷◌, ◌++◌, IfNone, IfSome, OnOk, drop, length, take};
 ghost use Rattle.md_seam.specs.Events.Inline.{pair_unless_empty};
-ghost use Rattle.md_seam.specs.Events.Nested.{pair};
+ghost use Rattle.md_seam.specs.Events.Nested.{enter_link, exit, pair};
 
 use crate::moving::{move_down, move_up};
-use md_engine::event::{Event, Kind, Name, Point};
+use md_engine::event::{Event, Kind, Link, Name, Point};
 use md_engine::message::Message;
 
 /// So many events at least are made room for at once.
@@ -323,5 +323,34 @@ impl Rewriting {
         } = self;
         events.truncate(written);
         events
+    }
+
+    /// Writes a part of this name that is read later, in front of the events that are held.
+    pub fn push_linked(
+        &mut self,
+        name: Name,
+        link: Link,
+        first: Point,
+        after: Point,
+    ) -> Result<(), Message>
+        ensures left { left_of self.new ≡ left_of self.old }
+        ensures held { held_of self.new ≡ held_of self.old }
+        ensures written { OnOk result
+            (written_of self.new ≡ written_of self.old ++ enter_link name first link ∷ exit name after ∷ []) }
+    {
+        self.make_room(2)?;
+        self.put(Event {
+            kind: Kind::Enter,
+            name,
+            point: first,
+            link: Some(link),
+        });
+        self.put(Event {
+            kind: Kind::Exit,
+            name,
+            point: after,
+            link: None,
+        });
+        Ok(())
     }
 }

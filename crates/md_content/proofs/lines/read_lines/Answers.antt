@@ -11,7 +11,9 @@ use Rattle.md_engine.specs.Place.{IsPlaced}
 use Rattle.md_content.specs.ContentReads.{content_readings, wants_content}
 use Rattle.md_content.specs.Joined.{joined, joined_with}
 use Rattle.md_content.specs.Lines.{begins_chunk, is_passed}
+use Rattle.md_content.specs.ParagraphLines.{IsParagraph, Reached}
 use Rattle.md_content.proofs.LinesLemmas.{leads-end, leads-line, leads-passed}
+use Rattle.md_content.proofs.ParagraphLines.{from-unbegun, no-chunks, to-unbegun}
 use Rattle.md_content.proofs.lines.read_lines.Goals as goal
 use Rattle.md_seam.specs.Parts.{ArePlaced}
 use Rattle.md_seam.specs.Rewritten.{given_of, held_of, left_of, written_of}
@@ -44,12 +46,39 @@ loop-event-init c =
           (ap joined c.new-all.ensures.left) found.ensures.events found.ensures.placed found.ensures.chunks none;
     }
 
+pub loop-event-preserved-in-Some-further_lines : goal.loop-event-preserved-in-Some-further_lines
+loop-event-preserved-in-Some-further_lines c =
+    let text : List ℕ = c.args.reader.now.bytes.now in
+    let options = c.args.reader.now.options.now in
+    let events : List Event = c.args.events.items in
+    let inv = c.loop-event.invariant in
+    let old = c.loop-event.all in
+    let all = c.put_paragraph.new.all in
+    let found = c.loop-event.found in
+    let left : List Event = drop found.placed found.events.items in
+    let none : found.chunks ≡ 0 = no-chunks found.chunks (sym c.is_begun.ensures ∙ c.if-not-is_begun.true) in
+    let reached : Reached text options events (given_of old) (left_of old) = record {
+      given = inv.given;
+      left = inv.left;
+      substituted = to-unbegun text options events left (left_of old) (given_of old) found.chunks none inv.substituted;
+    } in
+    let is : IsParagraph text c.in-Some-further_lines.more (left_of old) =
+    subst (IsParagraph text c.in-Some-further_lines.more) c.left-then-not-is_begun.ensures
+    c.in-Some-further_lines.ensures in
+    let on = c.in_ok-put_paragraph.ensures.given text options events is reached in
+    record {
+      given = on.given;
+      left = on.left;
+      found = inv.found;
+      substituted = from-unbegun text options events left (left_of all) (given_of all) found.chunks none on.substituted;
+    }
+
 pub or_read-requires-clause-placed : goal.or_read-requires-clause-placed
 or_read-requires-clause-placed c =
     subst (ArePlaced c.args.reader.now.bytes.now) (sym c.left-then-begins_chunk.ensures) c.loop-event.invariant.left
 
-pub loop-event-preserved-in-Continue-branch-2 : goal.loop-event-preserved-in-Continue-branch-2
-loop-event-preserved-in-Continue-branch-2 c =
+pub loop-event-preserved-in-Continue-branch-3 : goal.loop-event-preserved-in-Continue-branch-3
+loop-event-preserved-in-Continue-branch-3 c =
     let text : List ℕ = c.args.reader.now.bytes.now in
     let options = c.args.reader.now.options.now in
     let inv = c.loop-event.invariant in
@@ -85,8 +114,8 @@ loop-event-preserved-in-Continue-branch-2 c =
           _ _ _ with (1 + with) unset begins is refl begun place.chunks given behind inv.substituted);
     }
 
-pub loop-event-preserved-in-Continue-branch-3 : goal.loop-event-preserved-in-Continue-branch-3
-loop-event-preserved-in-Continue-branch-3 c =
+pub loop-event-preserved-in-Continue-branch-4 : goal.loop-event-preserved-in-Continue-branch-4
+loop-event-preserved-in-Continue-branch-4 c =
     let text : List ℕ = c.args.reader.now.bytes.now in
     let options = c.args.reader.now.options.now in
     let inv = c.loop-event.invariant in
