@@ -1,7 +1,7 @@
 -- A paragraph is written for its lines, one after another.
 use Rattle.std.proofs.Common.{◌≡◌, ℕ, zero, suc, ◌+◌, ◌-◌, ◌<◌, ◌≤◌, inl, Bool, true, false, ◌&&◌, cond, List, [], ◌∷◌}
-use Rattle.std.proofs.Common.{◌++◌, length, get_or, take, drop, refl, ap, sym, ◌∙◌, subst, append_assoc, append-nil, arith}
-use Rattle.std.proofs.Common.{length-drop}
+use Rattle.std.proofs.Common.{◌++◌, length, get_or, take, drop, refl, ap, sym, ◌∙◌, subst, append_assoc, append-nil}
+use Rattle.std.proofs.Common.{arith, length-drop}
 use Rattle.std.specs.Prelude.{is_none, nat_le, nat_lt, Option, Some, None, slice_range}
 use Rattle.std.specs.List.{All, prefix_len}
 use Rattle.std.specs.Option.{is_some}
@@ -22,10 +22,11 @@ use Rattle.md_content.specs.ContentReads.{content_events, content_readings, want
 use Rattle.md_content.specs.Joined.{content_behind, ends_content, goes_on, is_content, joined, joined_with}
 use Rattle.md_content.specs.Lines.{begins_chunk, lines_from}
 use Rattle.md_content.specs.Paragraph.{text_link}
-use Rattle.md_content.specs.ParagraphLines.{HasLines, IsParagraph, Reached, past_prefixes}
+use Rattle.md_content.specs.ParagraphLines.{HasLines, IsParagraph, Reached, is_unlinked, past_prefixes}
 use Rattle.md_content.specs.LabelLook.{may_define_in}
 use Rattle.md_content.specs.WholeLines.{after_of, are_lines, is_followed, is_within_line, lines_of, paragraph_of}
-use Rattle.md_content.proofs.LinesLemmas.{joined-stays, leads-line, lines-placed, lines-split, past-prefix, prefix-stays}
+use Rattle.md_content.proofs.LinesLemmas.{joined-stays, leads-line, lines-placed, lines-split, past-prefix}
+use Rattle.md_content.proofs.LinesLemmas.{prefix-stays}
 use Rattle.md_content.proofs.WholeLines.{first-vs, followed, has-byte, whole-lines, within}
 use Rattle.md_seam.specs.declared.inline.Chunk.{Chunk}
 use Rattle.md_seam.specs.Events.Inline.{is_line_ending}
@@ -130,7 +131,8 @@ shows-line : (bytes : List ℕ) (options : ParseOptions) (events rest left now a
     (suc (length cs)) →
     LeadsTo bytes options events left chunks rest all →
     Shown bytes options events (drop (with + 2) rest) (all ++ (front ++ lines_of (c ∷ []))) c.after cs
-shows-line bytes options events rest left now all front chunks with c [] d begins is lines whole stands own begun leads =
+shows-line bytes options events rest left now all front chunks with c [] d begins is lines whole stands own begun
+    leads =
     let put : List Event = front ++ lines_of (c ∷ []) in
     let ends : List Event = exit parts.Paragraph c.after ∷ [] in
     let on = line-placed bytes options events rest left now all chunks with (length now) c [] d begins is lines refl
@@ -177,8 +179,8 @@ pub shows-first : (bytes : List ℕ) (options : ParseOptions) (events rest all :
     Shown bytes options events (drop (with + 2) rest) (all ++ enter parts.Paragraph c.first ∷ lines_of (c ∷ [])) c.after
     cs
 shows-first bytes options events rest all with c cs d begins is lines are whole reads leads =
-    shows-line bytes options events rest [] (paragraph_of (c ∷ cs)) all (enter parts.Paragraph c.first ∷ []) 0 with c cs d
-    begins is lines whole refl (λ q es. first-share c q es (line-byte bytes c cs are whole)) (sym reads, refl) leads
+    shows-line bytes options events rest [] (paragraph_of (c ∷ cs)) all (enter parts.Paragraph c.first ∷ []) 0 with c cs
+    d begins is lines whole refl (λ q es. first-share c q es (line-byte bytes c cs are whole)) (sym reads, refl) leads
 
 -- and a further line
 pub shows-next : (bytes : List ℕ) (options : ParseOptions) (events rest all : List Event) (with : ℕ) (c : Chunk)
@@ -221,6 +223,47 @@ lines-prefixes (e ∷ es) = by (is_plain_prefix e) refl (lines-prefixes es)
         (past-prefix e es (ap is_some (plain-unwanted e plain))
         (and_parts (is_prefix e.name) (is_none e.link) plain).0)
     by false other behind = ap (λ (x : Bool). lines_from (drop (cond x (1 + run) 0) (e ∷ es))) other
+
+-- where a line begins behind them, they are the events without a link
+pub unlinked-prefixes : (events : List Event) → begins_chunk (past_prefixes events) ≡ true →
+    prefix_len is_unlinked events ≡ prefix_len is_plain_prefix events
+unlinked-prefixes [] h = refl
+unlinked-prefixes (e ∷ es) h = by (is_plain_prefix e) refl h (unlinked-prefixes es)
+  where
+    run : ℕ
+    run = prefix_len is_plain_prefix es
+
+    linked : (k : Kind) (l : Option Link) → is_some (wanted_at wants_content k l) ≡ true → is_none l ≡ false
+    linked k None h = absurd (true≢false (sym (none k h)))
+      where
+        none : (k : Kind) → is_some (wanted_at wants_content k None) ≡ true → false ≡ true
+        none Enter h = h
+        none Exit h = h
+    linked k (Some l) h = refl
+
+    wants_first : (l : List Event) → begins_chunk (e ∷ l) ≡ true → is_some (wanted wants_content e) ≡ true
+    wants_first [] h = absurd (true≢false (sym h))
+    wants_first (f ∷ l) h = h
+
+    by : (x : Bool) → is_plain_prefix e ≡ x →
+        begins_chunk (drop (cond (is_plain_prefix e) (1 + run) 0) (e ∷ es)) ≡ true →
+        (begins_chunk (past_prefixes es) ≡ true → prefix_len is_unlinked es ≡ run) →
+        cond (is_unlinked e) (1 + prefix_len is_unlinked es) 0 ≡ cond (is_plain_prefix e) (1 + run) 0
+    by true plain h behind =
+        let more : 1 + run ≡ suc run = omega arith in
+        let there : begins_chunk (drop (suc run) (e ∷ es)) ≡ true =
+        subst (λ (n : ℕ). begins_chunk (drop n (e ∷ es)) ≡ true) more
+        (subst (λ (x : Bool). begins_chunk (drop (cond x (1 + run) 0) (e ∷ es)) ≡ true) plain h) in
+        ap (λ (x : Bool). cond x (1 + prefix_len is_unlinked es) 0)
+        (and_parts (is_prefix e.name) (is_none e.link) plain).1
+        ∙ ap (λ (n : ℕ). 1 + n) (behind there)
+        ∙ sym (ap (λ (x : Bool). cond x (1 + run) 0) plain)
+    by false other h behind =
+        let here : begins_chunk (e ∷ es) ≡ true =
+        subst (λ (x : Bool). begins_chunk (drop (cond x (1 + run) 0) (e ∷ es)) ≡ true) other h in
+        ap (λ (x : Bool). cond x (1 + prefix_len is_unlinked es) 0)
+        (linked e.kind e.link (wants_first es here))
+        ∙ sym (ap (λ (x : Bool). cond x (1 + run) 0) other)
 
 -- they stay as they are
 pub leads-prefixes : (bytes : List ℕ) (options : ParseOptions) (events left rest all : List Event) (chunks : ℕ) →
@@ -287,11 +330,11 @@ from-unbegun bytes options events left rest all chunks none leads =
 -- A paragraph is written.
 
 -- some of its lines are, the last of which ends at `after`
-pub record Behind (bytes : List ℕ) (options : ParseOptions) (events all rest : List Event) (after : Point) : Type 0 where
+pub record Behind (bytes : List ℕ) (options : ParseOptions) (items all rest : List Event) (after : Point) : Type 0 where
   pub given : ArePlaced bytes all
   pub left : ArePlaced bytes rest
   pub end : IsPlaced bytes after
-  pub shown : Shown bytes options events rest all after (lines_from rest)
+  pub shown : Shown bytes options items rest all after (lines_from rest)
 
 -- so many lines are left, of which the next is behind container prefixes
 abbrev pub HasFurther : ℕ → List Event → Type 0
@@ -533,7 +576,8 @@ counts-more events at behind next more h two is far counts n has =
     (counts (suc n) (h, on.1, subst (HasLines n) (sym on.0) has))
 
 -- the lines of the part, from one on
-pub whole-more : (events : List Event) (at behind next : ℕ) (d : Event) (q : Point) → begins_chunk (drop at events) ≡ true →
+pub whole-more : (events : List Event) (at behind next : ℕ) (d : Event) (q : Point) →
+    begins_chunk (drop at events) ≡ true →
     begins_chunk (drop next events) ≡ true → joined_with (drop (at + 1) events) ≡ 2 →
     behind ≡ 3 + prefix_len is_plain_prefix (drop 3 (drop (at + 1) events)) → next ≡ at + 1 + behind →
     is_followed (chunk_of (get_or events at d) (get_or events (at + 3) d))

@@ -1,5 +1,5 @@
 -- A paragraph in a list in which its lines are not joined yet.
-use Rattle.std.specs.Prelude.{◌≡◌, ℕ, zero, suc, true, List, [], ◌++◌, drop}
+use Rattle.std.specs.Prelude.{◌≡◌, ℕ, zero, suc, Bool, true, List, [], ◌++◌, drop, is_none}
 use Rattle.std.specs.List.{prefix_len}
 use Rattle.md_engine.specs.declared.configuration.ParseOptions.{ParseOptions}
 use Rattle.md_engine.specs.declared.event.Event.{Event}
@@ -9,6 +9,10 @@ use Rattle.md_content.specs.Lines.{begins_chunk, lines_from}
 use Rattle.md_content.specs.WholeLines.{are_lines, paragraph_of}
 use Rattle.md_seam.specs.Parts.{ArePlaced}
 use Rattle.md_seam.specs.Substituted.{Substituted, is_plain_prefix}
+
+-- whether an event has no link
+abbrev pub is_unlinked : Event → Bool
+is_unlinked e = is_none e.link
 
 -- the events behind those of container prefixes
 abbrev pub past_prefixes : List Event → List Event

@@ -13,16 +13,17 @@
 //       ^ the line that it goes on with
 // ```
 
-ghost use Rattle.std.specs.Prelude.{◌≡◌, ◌≤◌, ◌<◌, ◌+◌, ◌&&◌, ◌∷◌, ◌++◌, length, drop, IfOk, IfSome, List, None, OnOk, []};
-ghost use Rattle.std.specs.Prelude.{true};
+ghost use Rattle.std.specs.Prelude.{◌≡◌, ◌≤◌, ◌<◌, ◌+◌, ◌&&◌, ◌∷◌, ◌++◌, length, drop, IfOk, IfSome, List, None, []};
+ghost use Rattle.std.specs.Prelude.{OnOk, get_or, true};
 ghost use Rattle.std.specs.List.{prefix_len};
 ghost use Rattle.md_content.specs.ContentReads.{content_events, content_readings, wants_content};
 ghost use Rattle.md_content.specs.Joined.{ends_content, goes_on, is_content, is_of_prefix, joined, joined_with};
 ghost use Rattle.md_content.specs.Lines.{begins_chunk, is_passed, lines_from};
-ghost use Rattle.md_content.specs.ParagraphLines.{GivesParagraph, HasLines, IsParagraph};
+ghost use Rattle.md_content.specs.ParagraphLines.{GivesParagraph, HasLines, IsParagraph, is_unlinked};
 ghost use Rattle.md_content.specs.WholeLines.{lines_of};
 ghost use Rattle.md_engine.specs.declared.event.Event.{Event};
 ghost use Rattle.md_engine.specs.declared.event.Name.{Name};
+ghost use Rattle.md_meaning.specs.Ascii.{left_bracket};
 ghost use Rattle.md_seam.specs.Events.Inline.{is_line_ending};
 ghost use Rattle.md_seam.specs.Events.Nested.{is_enter};
 ghost use Rattle.md_seam.specs.Parts.{ArePlaced};
@@ -52,23 +53,17 @@ fn is_ending(event: &Event) -> bool
     matches!(event.name, Name::LineEnding)
 }
 
-/// Whether an event belongs to a container prefix.
-struct IsOfPrefix;
-
-impl Test for IsOfPrefix {
-    ghost passes = { λ test. is_of_prefix };
-
-    fn passes(&self, event: &Event) -> bool {
-        is_prefix(event.name)
-    }
-}
-
 /// How many of the events come before the first that belongs to no container prefix.
 fn prefixes(events: &[Event]) -> usize
     ensures value { result ≡ prefix_len is_of_prefix events.now }
     ensures within { result ≤ length events.now }
 {
-    passing(&IsOfPrefix, events)
+    for (at, event) in events.iter().enumerate() {
+        if !is_prefix(event.name) {
+            return at;
+        }
+    }
+    events.len()
 }
 
 /// Whether an event belongs to a container prefix, and begins no chunk.
@@ -136,7 +131,26 @@ fn begins_chunk(events: &[Event]) -> bool
     }
 }
 
-/// Where the next line of the part begins among the events behind the begin of a line, behind the ending of that line and
+/// Whether an event has no link.
+struct IsUnlinked;
+
+impl Test for IsUnlinked {
+    ghost passes = { λ test. is_unlinked };
+
+    fn passes(&self, event: &Event) -> bool {
+        event.link.is_none()
+    }
+}
+
+/// How many of the events come before the first that has a link.
+fn unlinked(events: &[Event]) -> usize
+    ensures value { result ≡ prefix_len is_unlinked events.now }
+    ensures within { result ≤ length events.now }
+{
+    passing(&IsUnlinked, events)
+}
+
+/// Where the next line of the part begins among the events behind the begin of a line: behind its ending and
 /// container prefixes. `None` where none does, or where that is not known.
 fn next_line(events: &[Event]) -> Option<usize>
     ensures line { IfSome result (λ next. (next ≡ 3 + prefix_len is_plain_prefix (drop 3 events.now))
@@ -177,13 +191,23 @@ fn chunk_of(first: &Event, last: &Event) -> Chunk
     }
 }
 
-/// How many lines follow the first in the part that begins with these events, if it is a paragraph: `None` where that is
-/// not known.
+/// Whether there is a `[` at this place, with which most definitions begin.
+fn is_bracket(bytes: &[u8], at: usize) -> bool
+    ensures { result ≡ true → get_or bytes.now at 0 ≡ left_bracket }
+{
+    at < bytes.len() && bytes[at] == b'['
+}
+
+/// How many lines follow the first in the part that begins with these events, if it is a paragraph: `None` where that
+/// is not known, as behind a `[`.
 fn further_lines(bytes: &[u8], events: &[Event]) -> Option<usize>
     requires begins { begins_chunk events.now ≡ true }
     requires placed { ArePlaced bytes.now events.now }
     ensures { IfSome result (λ more. IsParagraph bytes.now more events.now) }
 {
+    if is_bracket(bytes, events[0].point.index) {
+        return None;
+    }
     let mut at = 0;
     let mut more = 0;
     while let Some(behind) = next_line(&events[at + 1..]) {
@@ -264,7 +288,7 @@ fn put_paragraph(all: &mut Rewriting, further: usize) -> Result<(), Message>
     put_line(all, &line)?;
     while more > 0 {
         more -= 1;
-        let many = plain_prefixes(all.left());
+        let many = unlinked(all.left());
         all.hold_many(many);
         line = take_line(all, more);
         put_line(all, &line)?;

@@ -1,5 +1,5 @@
-use Rattle.std.proofs.Common.{◌≡◌, ◌+◌, ◌<◌, ◌∙◌, ℕ, List, [], ap, arith, cond, drop, false, get_or, length, length-drop}
-use Rattle.std.proofs.Common.{refl, subst, sym, true}
+use Rattle.std.proofs.Common.{◌≡◌, ◌+◌, ◌<◌, ◌∙◌, ℕ, List, [], ap, arith, cond, drop, false, get_or, length}
+use Rattle.std.proofs.Common.{length-drop, refl, subst, sym, true}
 use Rattle.std.specs.Prelude.{None, nat_lt, slice_range}
 use Rattle.std.proofs.lemmas.List.{drop-drop}
 use Rattle.md_engine.specs.declared.event.Event.{Event}
@@ -134,8 +134,8 @@ returns c =
     let within : is_within_line (chunk_of (get_or events at unset) (get_or events (at + 1) unset)) ≡ true =
     ap is_within_line (sym c.chunk_of-else-not-ends_part.ensures) ∙ sym c.is_within_line.ensures
     ∙ c.if-not-is_within_line.false in
-    let refused : may_define_in (slice_range bytes (get_or events 0 unset).point.index (get_or events last unset).point.index)
-    ≡ false =
+    let first : ℕ = (get_or events 0 unset).point.index in
+    let refused : may_define_in (slice_range bytes first (get_or events last unset).point.index) ≡ false =
     subst (λ (k : Chunk). may_define_in (slice_range bytes k.first.index k.after.index) ≡ false) c.chunk_of-2.ensures
     (c.may_define_at.ensures c.if-may_define_at.false) in
     paragraph-found bytes events more last unset c.requires.placed has

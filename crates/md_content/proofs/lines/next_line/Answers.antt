@@ -26,7 +26,8 @@ returns-then-begins_line-clause-line c =
     let run : c.plain_prefixes-next.result ≡ prefix_len is_plain_prefix (drop 3 events) =
     rw (to-end events 3) at c.plain_prefixes-next.ensures.value in
     let ends : ends_content (get_or events 0 unset) ≡ true = sym c.ends_line.ensures ∙ c.if-not-ends_line.false in
-    let ending : is_line_ending (get_or events 1 unset).name ≡ true = sym c.is_ending.ensures ∙ c.if-not-is_ending.false in
+    let ending : is_line_ending (get_or events 1 unset).name ≡ true =
+    sym c.is_ending.ensures ∙ c.if-not-is_ending.false in
     let lt : 3 + c.plain_prefixes-next.result < length events = omega arith in (
       ap (λ (n : ℕ). 3 + n) run,
       joins-two events c.plain_prefixes-next.result unset (omega arith) ends ending run lt

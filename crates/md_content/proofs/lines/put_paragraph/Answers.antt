@@ -1,5 +1,5 @@
-use Rattle.std.proofs.Common.{◌≡◌, ◌+◌, ◌-◌, ◌<◌, ◌++◌, ◌∙◌, ◌∷◌, ℕ, List, [], ap, arith, drop, length, length-drop, subst}
-use Rattle.std.proofs.Common.{sym, take}
+use Rattle.std.proofs.Common.{◌≡◌, ◌+◌, ◌-◌, ◌<◌, ◌++◌, ◌∙◌, ◌∷◌, ℕ, List, [], ap, arith, drop, length, length-drop}
+use Rattle.std.proofs.Common.{subst, sym, take}
 use Rattle.std.specs.List.{prefix_len}
 use Rattle.std.specs.Prelude.{None, OnOk}
 use Rattle.std.specs.declared.result.Result.{Result}
@@ -9,10 +9,11 @@ use Rattle.md_engine.specs.declared.event.Kind.TheVariants.{Enter}
 use Rattle.md_engine.specs.declared.event.Name.TheVariants.{Frontmatter, Paragraph}
 use Rattle.md_content.specs.Joined.{joined_with}
 use Rattle.md_content.specs.Lines.{lines_from}
-use Rattle.md_content.specs.ParagraphLines.{GivesParagraph, HasLines, past_prefixes}
+use Rattle.md_content.specs.ParagraphLines.{GivesParagraph, HasLines, is_unlinked, past_prefixes}
 use Rattle.md_content.specs.WholeLines.{lines_of}
 use Rattle.md_content.proofs.ParagraphLines.{HasFurther, begins, fewer-left, further-has, given-end, given-first}
 use Rattle.md_content.proofs.ParagraphLines.{given-more, has-further, paragraph-all, paragraph-first, paragraph-more}
+use Rattle.md_content.proofs.ParagraphLines.{unlinked-prefixes}
 use Rattle.md_content.proofs.lines.put_paragraph.Goals as goal
 use Rattle.md_seam.specs.declared.inline.Chunk.{Chunk}
 use Rattle.md_seam.specs.Events.Nested.{enter, exit}
@@ -55,8 +56,8 @@ loop-more-init c =
           subst (λ (l : List Event). length l < length rest) (sym next)
           (fewer-left rest (joined_with (drop 1 rest)) (begins c.args.further rest c.requires));
       behind = λ bytes options events is reached.
-          paragraph-first bytes options events (given_of old) rest (given_of all) (left_of all) c.args.further line unset
-          is reached lines next given;
+          paragraph-first bytes options events (given_of old) rest (given_of all) (left_of all) c.args.further line
+          unset is reached lines next given;
     }
 
 pub loop-more-preserved : goal.loop-more-preserved
@@ -72,8 +73,9 @@ loop-more-preserved c =
     let line : Chunk = c.take_line-line-in-loop-more.result in
     let taken = c.take_line-line-in-loop-more.ensures in
     let has : HasLines more now = further-has c.loop-more.more rest c.loop-more-test.true inv.lines in
-    let many : c.plain_prefixes-many.result ≡ n =
-    c.plain_prefixes-many.ensures.value ∙ ap (prefix_len is_plain_prefix) c.left.ensures in
+    let many : c.unlinked-many.result ≡ n =
+    c.unlinked-many.ensures.value ∙ ap (prefix_len is_unlinked) c.left.ensures
+    ∙ unlinked-prefixes rest (begins more now has) in
     let now_is : left_of on ≡ now = c.hold_many.ensures.left ∙ ap (λ (k : ℕ). drop k rest) many in
     let left : left_of all ≡ left_of c.take_line-line-in-loop-more.new.all = c.put_line-in-loop-more.ensures.left in
     let next : left_of all ≡ drop (joined_with (drop 1 now) + 2) now =
@@ -96,9 +98,22 @@ loop-more-preserved c =
           (fewer-left now (joined_with (drop 1 now)) (begins more now has)) in
           omega (arith, size, length-drop n rest, inv.fewer);
       behind = λ bytes options events is reached.
-          paragraph-more bytes options events (given_of old) rest (given_of all) (left_of all) c.loop-more.line.after more
-          line unset (inv.behind bytes options events is reached) has lines next given;
+          paragraph-more bytes options events (given_of old) rest (given_of all) (left_of all) c.loop-more.line.after
+          more line unset (inv.behind bytes options events is reached) has lines next given;
     }
+
+pub take_line-line-requires-in-loop-more : goal.take_line-line-requires-in-loop-more
+take_line-line-requires-in-loop-more c =
+    let rest : List Event = left_of c.loop-more.all in
+    let now : List Event = past_prefixes rest in
+    let more : ℕ = c.loop-more.more - 1 in
+    let has : HasLines more now = further-has c.loop-more.more rest c.loop-more-test.true c.loop-more.invariant.lines in
+    let many : c.unlinked-many.result ≡ prefix_len is_plain_prefix rest =
+    c.unlinked-many.ensures.value ∙ ap (prefix_len is_unlinked) c.left.ensures
+    ∙ unlinked-prefixes rest (begins more now has) in
+    let now_is : left_of c.hold_many.new.self ≡ now =
+    c.hold_many.ensures.left ∙ ap (λ (k : ℕ). drop k rest) many in
+    subst (HasLines more) (sym now_is) has
 
 pub returns-clause-given : goal.returns-clause-given
 returns-clause-given c =
