@@ -13,7 +13,9 @@ pub returns-then-same-len : goal.returns-then-same-len
 returns-then-same-len c =
     let w : World = world c.args.tokenizer.now in
     let all : prefix_len stays_by_name w.events ≡ length w.events =
-    sym (c.until_changed-same.ensures.value ∙ ap (λ (es : List Event). prefix_len stays_by_name es) c.deref.ensures.value)
+    sym
+    (c.until_changed-same.ensures.value
+    ∙ ap (λ (es : List Event). prefix_len stays_by_name es) c.deref.ensures.value)
     ∙ c.if-same-len.true ∙ c.len.ensures ∙ sym c.deref.ensures.len
     ∙ ap (λ (es : List Event). length es) c.deref.ensures.value in
     ap (λ (es : List Event). record w { events = es })
