@@ -12,7 +12,7 @@ ghost use Rattle.md_front_rooms.specs.Front.{body_point};
 ghost use Rattle.md_registry.specs.Resolving.{lines_joined};
 ghost use Rattle.md_leaves.specs.Spanned.{passes_on};
 ghost use Rattle.md_leaves.specs.Turned.{HoldNoUnderline};
-ghost use Rattle.markdown_blocks.specs.Alone.{passes_alone, stays_alone};
+ghost use Rattle.markdown_blocks.specs.Alone.{may_change, passes_alone, stays_by_name};
 ghost use Rattle.markdown_blocks.specs.ContentRead.{AreSideBySide, ReadIf, holds_content};
 ghost use Rattle.markdown_blocks.specs.FlowReads.{FlowReads};
 ghost use Rattle.md_order.specs.Alone.{MayPass};
@@ -38,9 +38,8 @@ use md_flow::flow::FlowTable;
 use md_flow::resolve;
 use md_leaves::spans;
 use md_leaves::spans::Place;
-use md_order::wanted::Wanted;
 use md_registry::choices;
-use md_resolve::pass::{is_same, pass_all};
+use md_resolve::pass::pass_all;
 use md_seam::inline::{Chunk, Inline, PartKind};
 use md_seam::subtokenize::{Reader, subtokenize};
 use md_seam::walks::{Test, passing};
@@ -191,14 +190,6 @@ fn join_lines(
     Ok(true)
 }
 
-/// All four resolvers.
-const ALL: Wanted = Wanted {
-    items: true,
-    atx: true,
-    setext: true,
-    tables: true,
-};
-
 /// Whether an event is of a line of text.
 #[inline(always)]
 fn is_content(event: &Event) -> bool
@@ -237,24 +228,42 @@ fn until_read(events: &[Event], known: usize) -> usize
     known + passing(&PassesAlone, &events[known..])
 }
 
-/// Whether an event stays as it is where content is read, lines are joined and the resolvers run.
-struct StaysAlone;
+/// Whether events of this name are of a line of text, or may change where lines are joined or the resolvers run.
+///
+/// Names that are no neighbours are asked for apart: so this is a test of a bit, where one match is a jump by a table.
+#[inline(always)]
+fn may_change(name: Name) -> bool
+    ensures { result ≡ may_change name }
+{
+    matches!(name, Name::ListItem)
+        || matches!(name, Name::HeadingAtx)
+        || matches!(name, Name::HeadingSetextUnderline)
+        || matches!(name, Name::CodeIndented | Name::CodeFenced)
+        || matches!(name, Name::CodeFlowChunk | Name::MathFlow)
+        || matches!(name, Name::HtmlFlow)
+        || matches!(name, Name::GfmTable)
+        || matches!(name, Name::Content)
+}
 
-impl Test for StaysAlone {
-    ghost passes = { λ test. stays_alone };
+/// Whether the name of an event shows that it stays as it is where content is read, lines are joined and the resolvers
+/// run.
+struct StaysByName;
+
+impl Test for StaysByName {
+    ghost passes = { λ test. stays_by_name };
 
     #[inline(always)]
     fn passes(&self, event: &Event) -> bool {
-        passes_alone(event) && is_same(ALL, event)
+        !may_change(event.name)
     }
 }
 
-/// How many events are in front of the first that may not stay as it is.
+/// How many events are in front of the first whose name does not show that it stays as it is.
 fn until_changed(events: &[Event]) -> usize
-    ensures value { result ≡ prefix_len stays_alone events.now }
+    ensures value { result ≡ prefix_len stays_by_name events.now }
     ensures within { result ≤ length events.now }
 {
-    passing(&StaysAlone, events)
+    passing(&StaysByName, events)
 }
 
 /// Whether a line of text is among a few events.

@@ -4,7 +4,7 @@ use Rattle.md_engine.specs.Found.{Found, found_in}
 use Rattle.md_engine.specs.World.{World, world}
 use Rattle.md_engine.specs.declared.event.Event.{Event}
 use Rattle.md_engine.specs.declared.event.Point.{Point}
-use Rattle.markdown_blocks.specs.Alone.{stays_alone}
+use Rattle.markdown_blocks.specs.Alone.{stays_by_name}
 use Rattle.markdown_blocks.specs.ContentRead.{ReadIf}
 use Rattle.markdown_blocks.proofs.ContentAre.{joined-alone}
 use Rattle.markdown_blocks.proofs.FlowReads.{FlowFlushed, flow-flushed-from, flow-reads, flushed-frames, flushed-side}
@@ -15,8 +15,10 @@ use Rattle.markdown_blocks.proofs.parser.read_flow.Goals as goal
 pub returns-then-same-len : goal.returns-then-same-len
 returns-then-same-len c =
     let w : World = world c.flush.new.tokenizer in
-    let all : prefix_len stays_alone w.events ≡ length w.events =
-    sym (c.until_changed-same.ensures.value ∙ ap (λ (es : List Event). prefix_len stays_alone es) c.deref.ensures.value)
+    let all : prefix_len stays_by_name w.events ≡ length w.events =
+    sym
+    (c.until_changed-same.ensures.value
+    ∙ ap (λ (es : List Event). prefix_len stays_by_name es) c.deref.ensures.value)
     ∙ c.if-same-len.true ∙ c.len.ensures ∙ sym c.deref.ensures.len
     ∙ ap (λ (es : List Event). length es) c.deref.ensures.value in
     flow-reads c.args.bytes.now c.args.options.now c.args.start _ _ _
@@ -39,8 +41,8 @@ read_content-requires-clause-side c =
 pub read_content-requires-clause-known : goal.read_content-requires-clause-known
 read_content-requires-clause-known c =
     let w : World = world c.flush.new.tokenizer in
-    let is : c.until_changed-same.result ≡ prefix_len stays_alone w.events =
-    c.until_changed-same.ensures.value ∙ ap (λ (es : List Event). prefix_len stays_alone es) c.deref.ensures.value in
+    let is : c.until_changed-same.result ≡ prefix_len stays_by_name w.events =
+    c.until_changed-same.ensures.value ∙ ap (λ (es : List Event). prefix_len stays_by_name es) c.deref.ensures.value in
     omega (arith, is, stay-alone w.events)
 
 pub resolve_blocks-requires-clause-frames : goal.resolve_blocks-requires-clause-frames
