@@ -64,7 +64,6 @@ pass_of, tables, cells = "md_resolve/src/pass.rt", "md_tables/src/tables.rt", "m
 for name, old, new in [
     ("md_order/src/wanted.rt", "pub tables: bool,", "pub tables: bool, pub wrong: u8,"),
     ("md_order/src/wanted.rt", "tables: false,", "tables: false, wrong: 0,"),
-    ("markdown_blocks/src/parser.rt", "tables: true,", "tables: true, wrong: 0,"),
     (pass_of, "= wanted_of(names);", "= Wanted { wrong: tokenizer.options.constructs.wrong, ..wanted_of(names) };"),
     (pass_of, "self.table(alloc)", "self.table(alloc, wanted.wrong)"),
     (pass_of, "fn table(&mut self, alloc: Global)", "fn table(&mut self, alloc: Global, wrong: u8)"),

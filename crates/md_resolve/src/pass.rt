@@ -20,7 +20,7 @@ ghost use Rattle.md_leaves.specs.Turned.{HoldNoUnderline, is_turned, on_by, turn
 ghost use Rattle.md_leaves.specs.Turned as setext;
 ghost use Rattle.md_order.specs.Alone.{MayPass, is_set};
 ghost use Rattle.md_order.specs.InOrder.{every, in_order, wanted_of};
-ghost use Rattle.md_order.specs.Left.{MayStay, is_passed, is_same};
+ghost use Rattle.md_order.specs.Left.{MayStay, is_passed};
 ghost use Rattle.md_order.specs.Nests.{MayNest};
 ghost use Rattle.md_seam.specs.Events.Nested.{Nested};
 ghost use Rattle.md_seam.specs.Events.Spelled.{role};
@@ -426,20 +426,6 @@ pub fn set_all(
     walk.all.give();
     let Walk { all, .. } = walk;
     Ok(all.finish())
-}
-
-/// Whether an event stays where all do: no item, heading, underline or table that is to be set begins there.
-#[inline(always)]
-pub fn is_same(wanted: Wanted, event: &Event) -> bool
-    ensures { result ≡ is_same wanted event.now }
-{
-    if !is_set(event.name) {
-        return true;
-    }
-    !(wanted.items && is_item(event.name)
-        || wanted.atx && begins_heading(event)
-        || wanted.setext && underlines::is_underline(event.name)
-        || wanted.tables && begins_table(event))
 }
 
 /// Runs the resolvers of these names in one pass: those of items, of ATX headings, of setext headings and of tables, as

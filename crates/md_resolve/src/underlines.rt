@@ -19,7 +19,7 @@ fn is_paragraph(name: Name) -> bool
 
 /// Whether these events are of an underline.
 #[inline(always)]
-pub(crate) fn is_underline(name: Name) -> bool
+fn is_underline(name: Name) -> bool
     ensures { result ≡ is_underline name }
 {
     matches!(name, Name::HeadingSetextUnderline)
