@@ -7,9 +7,9 @@ use Rattle.md_engine.specs.declared.event.Name.{Name}
 use Rattle.md_engine.specs.declared.event.Name.TheVariants as n
 use Rattle.md_containers.specs.Listed.{is_item}
 use Rattle.md_leaves.specs.HeadingText.{begins, ends, is_heading}
-use Rattle.md_leaves.specs.Turned.{passes as is_unturned}
+use Rattle.md_leaves.specs.Turned.{is_underline, passes as is_unturned}
 use Rattle.md_order.specs.Alone.{is_set}
-use Rattle.md_order.specs.Left.{is_passed}
+use Rattle.md_order.specs.Left.{is_passed, is_same}
 use Rattle.md_order.specs.declared.wanted.Wanted.{Wanted}
 use Rattle.md_order.proofs.Names.{bare-unturned, tableless, unset-bare, unset-item}
 use Rattle.md_seam.specs.Events.Nested.{is_enter, is_exit}
@@ -28,6 +28,12 @@ pub passed-by : (w : Wanted) (e : Event) → (w.items && is_item (role e.name)) 
     (w.atx && begins is_heading e) ≡ false → (w.setext && not (is_unturned e)) ≡ false →
     (w.tables && begins_table (bound_of e)) ≡ false → is_passed w e ≡ true
 passed-by w e a b c d = rw (a, b, c, d) refl
+
+-- one that is in no block that is set, nor an underline, stays where it is
+pub same-by : (w : Wanted) (e : Event) → (w.items && is_item (role e.name)) ≡ false →
+    (w.atx && begins is_heading e) ≡ false → (w.setext && is_underline e.name) ≡ false →
+    (w.tables && begins_table (bound_of e)) ≡ false → is_same w e ≡ true
+same-by w e a b c d = rw (a, b, c, d) refl
 
 -- others pass
 pub unset-passed : (w : Wanted) (e : Event) → is_set e.name ≡ false → is_passed w e ≡ true
