@@ -60,8 +60,19 @@ if [ -z "$proved" ]; then
     exit 0
 fi
 echo "quick: proves $proved"
-# shellcheck disable=SC2086 # names of crates
-rt ci $proved
+if rt help 2>&1 | grep -q 'rt ci .*NAME'; then
+    # shellcheck disable=SC2086 # names of crates
+    rt ci $proved
+else
+    said_by_check=$(mktemp)
+    for name in $proved; do
+        (cd "crates/$name" && ../../scripts/rt.py check >"$said_by_check" 2>&1) || {
+            tail -n 40 "$said_by_check"
+            exit 1
+        }
+    done
+    rm -f "$said_by_check"
+fi
 cases=$(mktemp -d)
 trap 'rm -rf "$cases"' EXIT
 for body in blocks plain; do

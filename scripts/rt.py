@@ -1,9 +1,9 @@
 #!/usr/bin/env python3
-"""Runs `rt ci`, and takes the sum of a crate's files once.
+"""Runs `rt` with these arguments, and takes the sum of a crate's files once: `scripts/rt.py ci`, or `check` in a crate.
 
 By this sum `rt` knows whether the build of a library is that of its files. Some kits take it again for each path in
-crates.txt from a crate to a library, which is millions of times in this repository. No check depends on it. Where the
-kit is another program than this expects, `rt ci` runs as it is.
+crates.txt from a crate to a library, which is millions of times in this repository. No proof depends on it. Where the
+kit is another program than this expects, `rt` runs as it is.
 """
 import importlib.machinery
 import importlib.util
@@ -39,9 +39,9 @@ def main():
     rt = loaded(os.path.realpath(shutil.which("rt") or sys.exit("rt is not on the path")))
     crate = getattr(getattr(rt, "rtlib", None), "Crate", None)
     if not hasattr(crate, "stamp") or not hasattr(rt, "main"):
-        os.execvp("rt", ["rt", "ci"])
+        os.execvp("rt", ["rt", *sys.argv[1:]])
     take_sums_once(crate)
-    return rt.main(["ci"])
+    return rt.main(sys.argv[1:])
 
 
 if __name__ == "__main__":
