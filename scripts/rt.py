@@ -1,13 +1,14 @@
 #!/usr/bin/env python3
 """Runs `rt` with these arguments, and takes the sum of a crate's files once: `scripts/rt.py ci`, or `check` in a crate.
 
-By this sum `rt` knows whether the build of a library is that of its files. Some kits take it again for each path in
-crates.txt from a crate to a library, which is millions of times in this repository. No proof depends on it. Where the
-kit is another program than this expects, `rt` runs as it is.
+By this sum `rt` knows whether the build of a library is that of its files. Kits whose `rt ci` takes no names of crates
+take it again for each path in crates.txt from a crate to a library, which is millions of times in this repository. No
+proof depends on it. With another kit `rt` runs as it is.
 """
 import importlib.machinery
 import importlib.util
 import os
+import re
 import shutil
 import sys
 
@@ -38,7 +39,8 @@ def take_sums_once(crate):
 def main():
     rt = loaded(os.path.realpath(shutil.which("rt") or sys.exit("rt is not on the path")))
     crate = getattr(getattr(rt, "rtlib", None), "Crate", None)
-    if not hasattr(crate, "stamp") or not hasattr(rt, "main"):
+    takes_names = re.search(r"rt ci .*NAME", getattr(rt, "__doc__", None) or "")
+    if takes_names or not hasattr(crate, "stamp") or not hasattr(rt, "main"):
         os.execvp("rt", ["rt", *sys.argv[1:]])
     take_sums_once(crate)
     return rt.main(sys.argv[1:])
