@@ -2,7 +2,7 @@
 # Refuses requests for memory of built programs (`rt ci` or `rt run` builds them: `out`), one in each run, over each request in turn
 # until a run meets no refusal (`scripts/refuse.c`).
 #
-# - Of `memory_calls`, those of one call of the library: `parse`, `parse_with`, `outline`, `wrap::quote`, `wrap::item`,
+# - Of `memory_calls`, those of one call of the library: `parse`, `parse_with`, `outline`, `outline_part`, `wrap::quote`, `wrap::item`,
 #   `wrap::footnote`, and the `run` of `blocks`, all on one text. What the program asks for before and after the call is counted apart. A refused run ends with status 3
 #   and prints nothing, and the last run prints what is given here. The states that take no memory answer while each request is refused.
 # - Of `blocks`, `events` and `references_example`, those of the whole program: on the texts of their stored runs, and the first two with
@@ -68,6 +68,7 @@ CALLS = {
     "parse": (TEXT_OUTLINE, b"", 0),
     "parse_with": (TEXT_OUTLINE, b"", 0),
     "outline": (TEXT_OUTLINE, b"", 0),
+    "outline_part": (TEXT_OUTLINE, b"", 0),
     "quote": (b"\n".join(b"> " + line for line in TEXT.split(b"\n")), b"", 0),
     "item": (b"+ " + TEXT.replace(b"\n", b"\n  "), b"", 0),
     "footnote": (b"[^x]: " + TEXT.replace(b"\n", b"\n    "), b"", 0),

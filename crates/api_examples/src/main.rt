@@ -8,7 +8,7 @@ use markdown_blocks::event::{Event, Kind, Name};
 use markdown_blocks::label::normal_form;
 use markdown_blocks::message::Message;
 use markdown_blocks::names::{is_block, is_container, is_prefix, is_text_part};
-use markdown_blocks::outline::outline;
+use markdown_blocks::outline::{outline, outline_part};
 use markdown_blocks::parser::{MAX_LEN, parse, parse_with};
 use markdown_blocks::plain::Plain;
 use markdown_blocks::slice::{Position, Slice};
@@ -71,6 +71,23 @@ fn outlined(alloc: Global, text: &str) -> Result<String, Message>
     Ok(lines)
 }
 
+/// The words of an outline, part by part.
+fn outline_words(alloc: Global, text: &str) -> Result<String, Message>
+    requires { IsSmall text.now }
+{
+    let (events, state) = parse(alloc, text, &ParseOptions::ALL)?;
+    let mut words = String::new(alloc);
+    let mut rest = events.as_slice();
+    while !rest.is_empty() {
+        let part = outline_part(alloc, rest, &state)?;
+        for line in part.lines.iter() {
+            write!(words, "{:?} ", line.word)?;
+        }
+        rest = rest.split_at(part.events).1;
+    }
+    Ok(words)
+}
+
 /// A text in a list item in a quote; `None` where it gets too long.
 fn wrapped(alloc: Global, text: &str, options: &ParseOptions) -> Result<Option<String>, Message>
     requires { IsSmall text.now }
@@ -129,6 +146,7 @@ fn report(alloc: Global) -> Result<String, Message> {
     )?;
     writeln!(lines, "{:?}", label_count(alloc, "[a]: b\n\n[^c]: d")?)?;
     writeln!(lines, "{}", outlined(alloc, "> # a\n")?)?;
+    writeln!(lines, "{}", outline_words(alloc, "> # a\n")?)?;
     if let Some(text) = wrapped(alloc, "a\nb", &ParseOptions::GFM)? {
         writeln!(lines, "{text:?}")?;
     }

@@ -3,6 +3,7 @@
 
 ghost use Rattle.blocks_body.specs.Built.{Outlines, built_from};
 
+pub mod printed;
 pub mod run;
 
 use markdown_blocks::outline::outline;

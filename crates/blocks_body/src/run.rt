@@ -4,8 +4,7 @@ ghost use Rattle.md_program.specs.Ends.{Runs};
 ghost use Rattle.md_program.specs.Printed.{PrintsOutline};
 ghost use Rattle.blocks_body.specs.Built.{Outlines, built_from};
 
-use crate::Blocks;
-use md_program::printing::OutlineOf;
+use crate::printed::PartByPart;
 use std::alloc::Global;
 use std::io::{Read, Write};
 
@@ -28,5 +27,5 @@ pub fn run<R: Read, W: Write, E: Write>(
         (W.contents output.old) (W.contents output.new)
         (E.contents errors.old) (E.contents errors.new) result }
 {
-    md_program::run::run::<OutlineOf<Blocks>, R, W, E>(alloc, NAME, args, input, output, errors)
+    md_program::run::run::<PartByPart, R, W, E>(alloc, NAME, args, input, output, errors)
 }

@@ -12,6 +12,8 @@ mod marks;
 #[cfg(test)]
 mod outlines;
 #[cfg(test)]
+mod parts;
+#[cfg(test)]
 mod tables;
 #[cfg(test)]
 mod wraps;

@@ -2,6 +2,5 @@
 pub mod Found
 pub mod Lines
 pub mod Parts
-pub mod Shifted
 pub mod Taken
 pub mod Whole

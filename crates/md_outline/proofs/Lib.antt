@@ -1,8 +1,10 @@
 pub mod AlertLemmas
 pub mod BlocksStay
 pub mod ClosedTrees
+pub mod CountOpen
 pub mod DefinedLemmas
 pub mod DefinedPass
+pub mod FirstBlocks
 pub mod FirstLine
 pub mod FootnoteLemmas
 pub mod FrontPass
@@ -18,7 +20,9 @@ pub mod ListLemmas
 pub mod OutlineAgrees
 pub mod OutlineDepths
 pub mod OutlineLemmas
+pub mod PartsOpen
 pub mod RoleLemmas
+pub mod Shifted
 pub mod SiteTexts
 pub mod TabledLemmas
 pub mod TablesPass

@@ -6,6 +6,7 @@ ghost use Rattle.md_seam.specs.Events.Spelled as spelled;
 ghost use Rattle.md_outline.specs.Outlined.{Outlines};
 ghost use Rattle.md_outline.specs.DefinitionState.{part_word};
 ghost use Rattle.md_outline.specs.LinedState.{shown_spaces};
+ghost use Rattle.md_outline.specs.OutlinePart.{OutlinesPart};
 ghost use Rattle.md_outline.specs.OutlineSteps.{IsCutAt, IsCutBy, cell_begun, counted_at, delimiter_ended};
 ghost use Rattle.md_outline.specs.OutlineSteps.{fence_begun};
 ghost use Rattle.md_outline.specs.OutlineSteps.{head_marked, is_titled, label_ended, leaf_ended, marker_begun};
@@ -24,6 +25,7 @@ mod heading;
 mod lined;
 mod lines;
 mod paragraph;
+mod part;
 mod role;
 mod table;
 
@@ -35,6 +37,7 @@ use crate::outline::lined::{
 };
 use crate::outline::lines::{first_of, next, part, push, push_lines};
 use crate::outline::paragraph::{push_block, push_piece};
+use crate::outline::part::part_end;
 use crate::outline::role::{Leaf, Note, Purpose, Role, push_leaf, role_of};
 use crate::outline::table::{count_column, fill_cell, push_cell, push_delimiter, push_row};
 use md_engine::event::{Event, Kind, Name, Point};
@@ -574,4 +577,34 @@ pub fn outline<'a>(
         reading.read(event)?;
     }
     Ok(reading.lines)
+}
+
+/// The outline of the first blocks of a text.
+#[derive(Drop)]
+pub struct OutlinePart<'a> {
+    /// The lines of the outline of these blocks, from the first to the last.
+    pub lines: Vec<OutlineLine<'a>>,
+    /// How many events these blocks are: the outline goes on with those behind them.
+    pub events: usize,
+}
+
+/// The outline of the first blocks of what `parse` has read, so that not all lines of a long text have to be in memory
+/// at once.
+///
+/// The lines of this part and then the outline of the events behind it, `&events[part.events..]`, are the outline of
+/// all. It is of some thousand events or more: as many as its last block needs, and all if there are fewer. So a loop
+/// over the parts ends, and only of no events a part is of none.
+///
+/// An `Err` says that memory ran out; then nothing is handed out.
+pub fn outline_part<'a>(
+    alloc: Global,
+    events: &[Event],
+    state: &ParseState<'a>,
+) -> Result<OutlinePart<'a>, Message>
+    ensures { IfOk result
+        (λ part. OutlinesPart events.now state.now.bytes.now part.lines.items part.events) }
+{
+    let end = part_end(events);
+    let lines = outline(alloc, &events[..end], state)?;
+    Ok(OutlinePart { lines, events: end })
 }

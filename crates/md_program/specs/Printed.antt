@@ -70,12 +70,14 @@ printed_label label = codes "= " ++ label ++ line_end
 unfoldable pub printed_labels : List ℕ → List (List ℕ) → List ℕ
 printed_labels name labels = name ++ decimal (length labels) ++ line_end ++ flat_map printed_label labels
 
--- the lines, an empty line, and the labels of definitions and footnotes
+-- behind the lines: an empty line, and the labels of definitions and footnotes
+unfoldable pub printed_end : List (List ℕ) → List (List ℕ) → List ℕ
+printed_end definitions footnotes =
+    line_end ++ printed_labels (codes "definitions ") definitions ++ printed_labels (codes "footnotes ") footnotes
+
+-- the lines, and what is behind them
 unfoldable pub printed : Listing → List ℕ
-printed listing =
-    flat_map printed_line listing.lines ++ line_end
-    ++ printed_labels (codes "definitions ") listing.definitions
-    ++ printed_labels (codes "footnotes ") listing.footnotes
+printed listing = flat_map printed_line listing.lines ++ printed_end listing.definitions listing.footnotes
 
 -- what is printed of a text: the printed form of a listing that may be answered to it, under what stands for the
 -- options

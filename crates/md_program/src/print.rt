@@ -1,9 +1,10 @@
 // The printed form of an outline.
-ghost use Rattle.std.specs.Prelude.{◌≡◌, ◌++◌, OnOk, IfOk, List, map, codes, string_bytes, encode_utf8};
+ghost use Rattle.std.specs.Prelude.{◌≡◌, ◌++◌, OnOk, IfOk, List, [], map, codes, string_bytes, encode_utf8};
 ghost use Rattle.std.specs.List.{flat_map, repeat};
 ghost use Rattle.md_program.specs.Listing.{listing_of};
 ghost use Rattle.md_meaning.specs.Outline.{entry_of};
-ghost use Rattle.md_program.specs.Printed.{alert_head, head, open_mark, printed, printed_labels, printed_line};
+ghost use Rattle.md_program.specs.Printed.{alert_head, head, open_mark, printed, printed_end};
+ghost use Rattle.md_program.specs.Printed.{printed_labels, printed_line};
 
 use crate::body::Outlined;
 use crate::streams::ROOM;
@@ -18,11 +19,19 @@ use std::alloc::{AllocError, Global};
 pub fn print(alloc: Global, outlined: &Outlined) -> Result<String, Message>
     ensures { IfOk result (λ text. string_bytes text ≡ printed (listing_of outlined.now)) }
 {
-    let Ok(mut text) = String::with_capacity(alloc, ROOM) else {
-        return Err(Message);
-    };
+    let mut text = empty(alloc)?;
     match push_all(&mut text, outlined) {
         Ok(()) => Ok(text),
+        Err(_) => Err(Message),
+    }
+}
+
+/// An empty text with room for a short output.
+pub fn empty(alloc: Global) -> Result<String, Message>
+    ensures { IfOk result (λ text. string_bytes text ≡ []) }
+{
+    match String::with_capacity(alloc, ROOM) {
+        Ok(text) => Ok(text),
         Err(_) => Err(Message),
     }
 }
@@ -32,13 +41,31 @@ fn push_all(text: &mut String, outlined: &Outlined) -> Result<(), AllocError>
     ensures { OnOk result (string_bytes text.new ≡ string_bytes text.old ++ printed (listing_of outlined.now)) }
 {
     push_lines(text, outlined.lines.as_slice())?;
-    text.push_str("\n")?;
-    push_labels(text, "definitions ", outlined.definitions.as_slice())?;
-    push_labels(text, "footnotes ", outlined.footnotes.as_slice())
+    push_end(
+        text,
+        outlined.definitions.as_slice(),
+        outlined.footnotes.as_slice(),
+    )
 }
 
+/// Puts behind the text what is printed behind the lines: an empty line, and the two lists of labels.
+#[tactic(auto, unfolding(crate::specs::Printed::printed_end))]
+pub fn push_end(
+    text: &mut String,
+    definitions: &[String],
+    footnotes: &[String],
+) -> Result<(), AllocError>
+    ensures { OnOk result (string_bytes text.new ≡ string_bytes text.old
+        ++ printed_end (map string_bytes definitions.now) (map string_bytes footnotes.now)) }
+{
+    text.push_str("\n")?;
+    push_labels(text, "definitions ", definitions)?;
+    push_labels(text, "footnotes ", footnotes)
+}
+
+/// Puts the lines of an outline behind the text.
 #[inline(never)]
-fn push_lines(text: &mut String, lines: &[OutlineLine]) -> Result<(), AllocError>
+pub fn push_lines(text: &mut String, lines: &[OutlineLine]) -> Result<(), AllocError>
     ensures { OnOk result
         (string_bytes text.new ≡ string_bytes text.old ++ flat_map printed_line (map entry_of lines.now)) }
 {

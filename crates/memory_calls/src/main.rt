@@ -1,7 +1,8 @@
 // The program `memory_calls`: it makes one call of the library between two requests for memory of known sizes, so that
 // a test can refuse the requests of that call alone (`scripts/refuse_memory.sh`). Its argument names the call:
 //
-//     parse, parse_with, outline    it prints the outline of the text
+//     parse, parse_with, outline, outline_part
+//                                   it prints the outline of the text
 //     quote, item, footnote         it prints the text in that container
 //     run                           it prints what `blocks_body::run::run` prints of its standard input
 //     states                        the states that take no memory, of those that can be called on their own;
@@ -19,7 +20,7 @@ use blocks_body::run::run;
 use markdown_blocks::configuration::ParseOptions;
 use markdown_blocks::event::Event;
 use markdown_blocks::message::Message;
-use markdown_blocks::outline::outline;
+use markdown_blocks::outline::{outline, outline_part};
 use markdown_blocks::parser::{ParseState, parse, parse_with};
 use markdown_blocks::wrap::{footnote, item, quote};
 use md_program::body::{Body, MOST, Outlined};
@@ -99,6 +100,24 @@ fn outlined(alloc: Global, text: &str, options: &ParseOptions) -> Result<String,
     print(alloc, &outlined)
 }
 
+/// The same, with only the first part of the outline between the marks, which is all of it.
+fn outlined_part(alloc: Global, text: &str, options: &ParseOptions) -> Result<String, Message>
+    requires size { IsSmall text.now }
+    requires built { IsWithoutMdx options.now }
+{
+    let (events, state) = parse(alloc, text, options)?;
+    let _before = mark(alloc, BEFORE)?;
+    let part = outline_part(alloc, &events, &state);
+    let _after = mark(alloc, AFTER)?;
+    let part = part?;
+    let outlined = Outlined {
+        lines: part.lines,
+        definitions: state.definitions,
+        footnotes: state.gfm_footnote_definitions,
+    };
+    print(alloc, &outlined)
+}
+
 /// The text in a quote.
 fn in_quote(alloc: Global, text: &str, options: &ParseOptions) -> Result<String, Message>
     requires { IsSmall text.now }
@@ -140,6 +159,7 @@ fn answer(alloc: Global, word: &str) -> Result<String, Message> {
         "parse" => parsed(alloc, text, &options),
         "parse_with" => parsed_with(alloc, text, &options),
         "outline" => outlined(alloc, text, &options),
+        "outline_part" => outlined_part(alloc, text, &options),
         "quote" => in_quote(alloc, text, &options),
         "item" => in_item(alloc, text, &options),
         "footnote" => in_footnote(alloc, text, &options),

@@ -1,0 +1,11 @@
+use Rattle.md_outline.proofs.FirstBlocks.{part-begins}
+use Rattle.md_outline.proofs.outline.outline_part.Goals as goal
+
+pub returns : goal.returns
+returns c = record {
+  within = c.part_end-end.ensures.within;
+  shorter = c.part_end-end.ensures.some;
+  begins =
+      part-begins c.args.events.now c.part_end-end.result c.args.state.now.bytes.now c.in_ok-lines.lines.items
+      c.part_end-end.ensures.closed c.in_ok-lines.ensures;
+}
