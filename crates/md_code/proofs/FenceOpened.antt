@@ -29,7 +29,7 @@ use Rattle.md_seam.specs.Ahead.{begins_white, from_ending, line_end, white_rest}
 use Rattle.md_seam.specs.Events.Nested.{exit}
 use Rattle.md_seam.specs.Look.{first_seen}
 use Rattle.md_seam.specs.Spaces.{IsRest, any_size, calmed, small_indent}
-use Rattle.md_seam.proofs.AheadLemmas.{small-some}
+use Rattle.md_seam.proofs.AheadLemmas.{small-some, white-all}
 use Rattle.md_seam.proofs.RestCells.{white-length}
 use Rattle.md_seam.proofs.SpacesTermination.{rest-calm, rest-size}
 
@@ -79,17 +79,6 @@ refused-dark m b is e = go (b == m) refl
     go : (x : Bool) → (b == m) ≡ x → (x && not (m == 126)) ≡ false
     go true f = let bad : true ≡ false = sym e ∙ marker-dark m b is f in cc
     go false f = refl
-
--- all whitespace is taken
-pub white-all : (room : ℕ) (cells : List Cell) → length cells ≤ room → begins_white (white_rest room cells) ≡ false
-white-all room [] le = refl
-white-all zero (c ∷ cs) le = absurd (omega (arith, le))
-white-all (suc room) (c ∷ cs) le = go (is_white c.byte) refl (white-all room cs (omega (arith, le)))
-  where
-    go : (x : Bool) → is_white c.byte ≡ x → begins_white (white_rest room cs) ≡ false →
-        begins_white (cond x (white_rest room cs) (c ∷ cs)) ≡ false
-    go true e next = next
-    go false e next = e
 
 -- Behind the sequence.
 

@@ -1,18 +1,15 @@
 -- Where one comes to behind bytes of text.
 use Rattle.std.proofs.Common.{◌≡◌, ℕ, ◌+◌, ◌<◌, ◌⊎◌, inl, inr, Bool, true, false, ◌&&◌, nat_eq, nat_lt, cond}
-use Rattle.std.proofs.Common.{List, ◌∷◌, ◌++◌, [], length, None, Some, refl, sym, ◌∙◌, ap, ap₂, arith, subst}
+use Rattle.std.proofs.Common.{List, length, None, Some, refl, sym, ◌∙◌, ap, ap₂, arith, subst}
 use Rattle.std.proofs.lemmas.Bool.Decides.{nat_tests}
 use Rattle.std.specs.Prelude.{slice_index}
 use Rattle.md_engine.specs.declared.class.Class.TheVariants as class
-use Rattle.md_engine.specs.declared.event.Event.{Event}
 use Rattle.md_engine.specs.declared.event.Point.{Point}
-use Rattle.md_engine.specs.declared.tokenizer.Frame.{Frame}
 use Rattle.md_engine.specs.Classes.{has}
 use Rattle.md_engine.specs.Place.{IsPlaced, is_ending, next_point, seen_at}
-use Rattle.md_engine.specs.Sound.{IsSound}
 use Rattle.md_engine.specs.World.{Setting, after, line_begun, looks_at}
 use Rattle.md_engine.proofs.ClassLemmas.{further-next, no-ending}
-use Rattle.md_engine.proofs.Sound.{placed-next, sound-add, sound-moved}
+use Rattle.md_engine.proofs.Sound.{placed-next}
 use Rattle.md_containers.specs.Ahead.{ahead}
 
 -- text stands at an index
@@ -37,16 +34,6 @@ pub ahead-more : (n : ℕ) (p : Point) → ahead 1 (ahead n p) ≡ ahead (n + 1)
 ahead-more n p =
     let more : (m : ℕ) → m + n + 1 ≡ m + (n + 1) = λ m. omega arith in
     ap₂ (λ (i c : ℕ). record p { column = c; index = i; vs = 0 }) (more p.index) (more p.column)
-
--- A tokenizer stays sound where an event is added at a place of the text that is not its point.
-pub sound-put : (bytes : List ℕ) (p : Point) (limit : ℕ) (events : List Event) (e : Event) (frames : List Frame)
-    (skips : List Point) →
-    IsSound bytes p limit events frames skips → IsPlaced bytes e.point →
-    IsSound bytes p limit (events ++ e ∷ []) frames skips
-sound-put bytes p limit events e frames skips h k =
-    sound-moved bytes e.point p limit (events ++ e ∷ []) frames skips
-    (sound-add bytes e.point limit events e frames skips
-    (sound-moved bytes p e.point limit events frames skips h k) refl) h.placed
 
 -- What is seen is the byte that stands there, unless it ends the line or is a column of a tab.
 pub seen-byte : (x : Setting) (p : Point) (b : ℕ) → looks_at x p ≡ Some b → nat_eq b 10 ≡ false →

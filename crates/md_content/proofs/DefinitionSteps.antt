@@ -41,7 +41,7 @@ use Rattle.md_seam.specs.Spaces.{any_size}
 use Rattle.md_seam.proofs.AheadLemmas.{none-rest}
 use Rattle.md_seam.proofs.FeedLines.{Stops, behind_last, cell, feed-next, feed-none, past-next}
 use Rattle.md_seam.proofs.PlacesLemmas.{at-next}
-use Rattle.md_content.proofs.PointOrder.{placed-same}
+use Rattle.md_seam.proofs.PointOrder.{placed-same}
 use Rattle.std.proofs.lemmas.List.Elements.{All-cons, All-nil}
 
 -- all bytes of such a line are one column wide

@@ -9,14 +9,12 @@ pub mod DefinitionsTermination
 pub mod DefinitionsMeaning
 pub mod States
 pub mod StaysLemmas
-pub mod LineTaken
 pub mod ContentMeaning
 pub mod ContentRuns
 pub mod JoinedLemmas
 pub mod LinesLemmas
 pub mod ContentReadsLemmas
 pub mod SettledLemmas
-pub mod PointOrder
 pub mod LineReads
 pub mod LabelLook
 pub mod WholeLines

@@ -19,7 +19,7 @@ use Rattle.md_content.specs.ParagraphRule.{line_events}
 use Rattle.md_seam.specs.Ahead.{point_after}
 use Rattle.md_seam.specs.Events.Nested.{enter_link, exit}
 use Rattle.md_seam.proofs.FeedLines.{feed-next, feed-none}
-use Rattle.md_content.proofs.PointOrder.{Before, next-within, placed-same, reached-column, walk-before}
+use Rattle.md_seam.proofs.PointOrder.{Before, next-within, placed-same, reached-column, walk-before}
 
 -- The order of points, and their lines.
 

@@ -32,7 +32,7 @@ use Rattle.md_seam.specs.Ahead.{point_after}
 use Rattle.md_seam.specs.declared.inline.Chunk.{Chunk}
 use Rattle.md_seam.specs.Events.Nested.{enter, enter_link, exit}
 use Rattle.md_seam.specs.Parts.{AreChunks, ArePlaced, IsChunk}
-use Rattle.md_content.proofs.PointOrder.{Before}
+use Rattle.md_seam.proofs.PointOrder.{Before}
 
 -- Chunks that are lines.
 

@@ -1,6 +1,5 @@
 -- A line of content, before it is read.
-use Rattle.std.specs.Prelude.{refl, ℕ, zero, suc, ◌+◌, ◌-◌, ◌≤◌, Bool, true, false, nat_lt, List, [], ◌∷◌, ◌++◌}
-use Rattle.std.specs.Prelude.{slice_index}
+use Rattle.std.specs.Prelude.{refl, ℕ, ◌-◌, ◌≤◌, Bool, true, false, nat_lt, List}
 use Rattle.md_meaning.specs.Rest.{Rest}
 use Rattle.md_engine.specs.declared.event.Point.{Point}
 use Rattle.md_engine.specs.declared.event.Link.{Link}
@@ -19,18 +18,10 @@ use Rattle.md_link_definitions.specs.OpenText.{begun_rest, text_behind}
 use Rattle.md_seam.specs.Lent.{whole_from}
 use Rattle.md_seam.specs.Spaces.{IsRest, ends_line, rest_ready}
 use Rattle.md_seam.specs.Transition.{Transition, entered_link, exited, taken}
+use Rattle.md_seam.specs.WholeLine.{line_taken}
 
 abbrev pub content_link : Link
 content_link = record { previous = false; next = false; content = content.Content }
-
--- so many bytes of a text from an index on; behind its end 0 is seen
-unfoldable pub bytes_on : List ℕ → ℕ → ℕ → List ℕ
-bytes_on bytes from zero = []
-bytes_on bytes from (suc n) = bytes_on bytes from n ++ slice_index bytes (from + n) ∷ []
-
--- what was taken of a line: a byte within which the point lies counts, and not one within which the line began
-abbrev pub line_taken : List ℕ → Scratch → Point → List ℕ
-line_taken bytes s p = bytes_on bytes s.start (whole_from p - s.start)
 
 -- and as the rest that began there, in its column and perhaps within a tab
 abbrev pub rest_taken : List ℕ → Scratch → Point → Rest

@@ -22,7 +22,8 @@ ghost use Rattle.md_engine.specs.declared.state.Name.{Name as StateName};
 ghost use Rattle.md_engine.specs.declared.state.State.{State};
 ghost use Rattle.md_engine.specs.declared.state.content.State.{State as ContentState};
 ghost use Rattle.md_content.specs.States.{content_scheme, content_transition};
-ghost use Rattle.md_content.specs.Chunks.{chunk_inside_code, chunk_start_transition, chunk_transition, line_taken};
+ghost use Rattle.md_content.specs.Chunks.{chunk_inside_code, chunk_start_transition, chunk_transition};
+ghost use Rattle.md_seam.specs.WholeLine.{line_taken};
 ghost use Rattle.md_content.specs.Chunks.{rest_taken};
 ghost use Rattle.md_link_definitions.specs.OpenText.{text_behind};
 ghost use Rattle.md_content.specs.ContentReads.{content_events, is_piece_end, settled};
@@ -30,14 +31,13 @@ ghost use Rattle.md_content.specs.Resolves.{Resolves, found_in_content, has_neit
 ghost use Rattle.md_content.specs.LabelLook.{may_close, may_define_in};
 ghost use Rattle.md_content.specs.WholeLines.{are_lines, is_followed, is_within_line, paragraph_of};
 ghost use Rattle.md_engine.specs.declared.configuration.ParseOptions.{ParseOptions};
-ghost use Rattle.md_seam.specs.Lent.{whole_from};
 ghost use Rattle.md_seam.specs.Parts.{AreChunks, ArePlaced, IsChunk};
 ghost use Rattle.md_seam.specs.Spaces.{ends_line};
 ghost use Rattle.md_seam.specs.Stays.{TakesEach};
 ghost use Rattle.md_seam.specs.Transition.{IsAt, NeedsNothing};
 
 pub use crate::definitions::{definition_after, definition_before};
-use crate::labels::{begins_label, between, labels};
+use crate::labels::{begins_label, labels};
 use crate::lines::read_lines;
 use crate::whole_definitions::write_definitions;
 use crate::{definitions, paragraph};
@@ -55,23 +55,12 @@ use md_engine::tokenizer::{HeldLeaf, Scratch, Tokenizer};
 use md_link_definitions::open_text::text_behind;
 use md_link_definitions::{definition, destination, label, space_or_tab_eol, title};
 use md_seam::inline::Chunk;
+use md_seam::slice::{between, whole_from};
 use md_seam::space_or_tab;
 use md_seam::subtokenize::Reader;
 use md_seam::walks::{Test, passing};
 use std::alloc::Global;
 use std::mem;
-
-/// The first byte that does not begin before the point.
-fn whole_from(tokenizer: &Tokenizer) -> usize
-    ensures { result ≡ whole_from (world tokenizer.now).point }
-{
-    let index = tokenizer.point.index;
-    if tokenizer.point.vs > 0 {
-        index + 1
-    } else {
-        index
-    }
-}
 
 /// What was taken of a line. A byte within which the point lies counts, and not one within which the line began.
 fn line_taken<'a>(tokenizer: &Tokenizer<'a>) -> &'a [u8]
@@ -81,7 +70,7 @@ fn line_taken<'a>(tokenizer: &Tokenizer<'a>) -> &'a [u8]
     between(
         tokenizer.bytes,
         tokenizer.scratch.start,
-        whole_from(tokenizer),
+        whole_from(tokenizer.point),
     )
 }
 
@@ -115,7 +104,7 @@ pub fn chunk_start(tokenizer: &mut Tokenizer) -> State
         content: Content::Content,
     };
     or_error!(tokenizer.enter_link(Name::Content, link));
-    tokenizer.scratch.start = whole_from(tokenizer);
+    tokenizer.scratch.start = whole_from(tokenizer.point);
     tokenizer.scratch.size = tokenizer.point.column.saturating_sub(1);
     tokenizer.scratch.seen = tokenizer.point.vs > 0;
     State::Retry(StateName::Content(ContentState::ChunkInside))

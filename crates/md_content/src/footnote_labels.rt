@@ -6,9 +6,10 @@ ghost use Rattle.md_content.specs.FootnoteLabels.{footnote_labels_in, is_footnot
 ghost use Rattle.md_seam.specs.Events.Nested.{is_enter, is_exit};
 ghost use Rattle.md_seam.specs.Events.Spelled.{byte_at};
 
-use crate::labels::{between, push_label};
+use crate::labels::push_label;
 use md_engine::event::{Event, Kind, Name, Point};
 use md_engine::message::Message;
+use md_seam::slice::between;
 use md_seam::walks::{Test, passing};
 use std::alloc::Global;
 

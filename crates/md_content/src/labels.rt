@@ -2,7 +2,7 @@
 //
 // A label may reach over lines. Its text is what its chunks are over, without the prefixes of containers between them.
 
-ghost use Rattle.std.specs.Prelude.{◌≡◌, ◌≤◌, ◌&&◌, [], ◌∷◌, ◌++◌, length, map, not, string_bytes, slice_range, IfOk};
+ghost use Rattle.std.specs.Prelude.{◌≡◌, ◌≤◌, ◌&&◌, [], ◌∷◌, ◌++◌, length, map, not, string_bytes, IfOk};
 ghost use Rattle.std.specs.Prelude.{OnOk};
 ghost use Rattle.std.specs.List.{position_or_len};
 ghost use Rattle.md_meaning.specs.Label.{normal_form};
@@ -15,6 +15,7 @@ use md_engine::event::{Event, Kind, Name};
 use md_engine::message::Message;
 use md_grammars::label::normal_form;
 use md_grammars::memory::push;
+use md_seam::slice::between;
 use md_seam::walks::{Test, passing};
 use std::alloc::Global;
 
@@ -57,18 +58,6 @@ fn push_bytes(text: &mut Vec<u8>, bytes: &[u8]) -> Result<(), Message>
         push(text, unended(*byte))?;
     }
     Ok(())
-}
-
-/// The bytes from one place to another.
-pub fn between(bytes: &[u8], from: usize, to: usize) -> &[u8]
-    ensures { result.now ≡ slice_range bytes.now from to }
-{
-    let end = to.min(bytes.len());
-    if from < end {
-        &bytes[from..end]
-    } else {
-        &bytes[..0]
-    }
 }
 
 /// Reads the text of a label that has begun before these events. After an `Err` it is cut off.

@@ -268,3 +268,13 @@ begun-before x p i s at inside is lt =
     let got : slice_get x.skips i ≡ Some s = slice_get_read x.skips (length x.skips) i s refl inside is in
     let no : nat_le p.index s.index ≡ false = grind (arith, nat_tests) in
     rw (← at, got, no) refl
+
+-- an event is added at a place that need not be the point
+pub sound-put : (bytes : List ℕ) (p : Point) (limit : ℕ) (events : List Event) (e : Event) (frames : List Frame)
+    (skips : List Point) →
+    IsSound bytes p limit events frames skips → IsPlaced bytes e.point →
+    IsSound bytes p limit (events ++ e ∷ []) frames skips
+sound-put bytes p limit events e frames skips h k =
+    sound-moved bytes e.point p limit (events ++ e ∷ []) frames skips
+    (sound-add bytes e.point limit events e frames skips (sound-moved bytes p e.point limit events frames skips h k) refl)
+    h.placed

@@ -1,23 +1,20 @@
 -- The line of an ATX heading (CommonMark 4.2): what stands in it is the parts of the heading on that line.
-use Rattle.std.proofs.Common.{◌≡◌, ℕ, suc, ◌+◌, Bool, true, false, cond, List, [], ◌∷◌, ◌++◌, length, take, drop}
-use Rattle.std.proofs.Common.{refl, sym, ap, ap₂, ◌∙◌, append_assoc, append-nil, Some, None, take-add, arith}
+use Rattle.std.proofs.Common.{◌≡◌, ℕ, suc, ◌+◌, Bool, false, cond, List, [], ◌∷◌, ◌++◌, length, take, drop, refl, sym}
+use Rattle.std.proofs.Common.{ap, ap₂, ◌∙◌, append_assoc, Some, None, take-add, arith}
 use Rattle.std.specs.Prelude.{◌==◌}
-use Rattle.std.specs.List.{AllPass, prefix_len}
-use Rattle.std.proofs.lemmas.Bool.{eqb-true}
+use Rattle.std.specs.List.{AllPass}
 use Rattle.std.proofs.lemmas.Bool.Decides.{nat_tests}
-use Rattle.std.proofs.lemmas.List.{drop-drop, drop_at, take-append-drop, take_at}
-use Rattle.std.proofs.lemmas.List.Elements.{All-nil}
+use Rattle.std.proofs.lemmas.List.{drop_at, take_at}
 use Rattle.md_engine.specs.declared.event.Content.TheVariants.{Text}
 use Rattle.md_engine.specs.declared.event.Event.{Event}
 use Rattle.md_engine.specs.declared.event.Name.TheVariants as n
 use Rattle.md_engine.specs.declared.event.Point.{Point}
-use Rattle.md_leaves.specs.HeadingRule.{Apart}
+use Rattle.md_leaves.specs.HeadingRuns.{Apart, chunk_unless_empty, line_runs}
 use Rattle.md_leaves.specs.HeadingText.{linked_text}
-use Rattle.md_leaves.specs.HeadingTitle.{chunk_unless_empty, front_len, line_runs, text_of, title_of, unread_title}
+use Rattle.md_leaves.specs.HeadingTitle.{front_len, text_of, title_of, unread_title}
 use Rattle.md_leaves.proofs.TitleLemmas.{parts-drop, parts-take, title-text}
-use Rattle.md_leaves.proofs.TitleRuns.{hash-runs, hashes-stop, is_hash, pass-first, runs-cut, white-runs, white-stops}
-use Rattle.md_leaves.proofs.TitleTexts.{Behind, Closed, Empty, Parted, Plain, Shape, first-front, front-passes}
-use Rattle.md_leaves.proofs.TitleTexts.{front-stops, parted}
+use Rattle.md_leaves.proofs.TitleRuns.{hash-runs, is_hash, pass-first, three-runs, white-runs}
+use Rattle.md_leaves.proofs.TitleTexts.{Parted, Shape, parted}
 use Rattle.md_leaves.proofs.HeadingLemmas.{white-no_hash}
 use Rattle.md_meaning.specs.Bytes.{begins}
 use Rattle.md_meaning.specs.Leaves.{heading_text}
@@ -28,7 +25,7 @@ use Rattle.md_frame.specs.LineColumns.{part_over}
 use Rattle.md_exact.specs.Leaves.{heading_line}
 use Rattle.md_exact.specs.Places.{TextLine, past}
 use Rattle.md_exact_lines.proofs.BeginsAt.{BeginsAt, rest_bytes}
-use Rattle.md_exact_lines.proofs.Parts.{IsBehind, piece-end, past-behind, piece-is, run-behind, split-one}
+use Rattle.md_exact_lines.proofs.Parts.{IsBehind, piece-end, past-behind, piece-is, run-behind}
 use Rattle.md_exact_lines.proofs.Parts.{stands-bytes, text-is, text_over, white-behind}
 
 -- Runs of whitespace, of `#` and of whitespace again.
@@ -55,72 +52,14 @@ Three white hashes more p =
     part_over n.SpaceOrTab white p q
     ++ (part_over n.HeadingAtxSequence hashes q r ++ part_over n.SpaceOrTab more r (past_text more r))
 
-three-runs : (white hashes more : List ℕ) (p : Point) → AllPass is_white white → AllPass is_hash hashes →
+three-over : (white hashes more : List ℕ) (p : Point) → AllPass is_white white → AllPass is_hash hashes →
     AllPass is_white more → begins is_white (hashes ++ more) ≡ false →
     line_runs Apart (white ++ (hashes ++ more)) p ≡ Three white hashes more p
-three-runs white hashes more p w h m none =
+three-over white hashes more p w h m none =
     let q : Point = past_text white p in
-    let r : Point = past_text hashes q in
-    runs-cut Apart white (hashes ++ more) p (white-stops white (hashes ++ more) w none)
+    three-runs white hashes more p w h m none
     ∙ ap₂ (λ (es fs : List Event). es ++ fs) (white-over white p w)
-    (runs-cut Apart hashes more q (hashes-stop hashes more h (no_hash more m))
-    ∙ ap₂ (λ (es fs : List Event). es ++ fs) (hashes-over hashes q h) (white-over more r m))
-
--- What stands behind the text.
-record BackIs (back : List ℕ) : Type 0 where
-  white : List ℕ
-  hashes : List ℕ
-  more : List ℕ
-  is : back ≡ white ++ (hashes ++ more)
-  white_is : AllPass is_white white
-  hashes_are : AllPass is_hash hashes
-  more_is : AllPass is_white more
-  apart : begins is_white (hashes ++ more) ≡ false
-
-hash-black : (b : ℕ) (hashes : List ℕ) → AllPass is_hash (b ∷ hashes) → is_white b ≡ false
-hash-black b hashes h = ap is_white (eqb-true b 35 (pass-first is_hash b hashes h))
-
-back-is : (text back : List ℕ) → Shape text back → BackIs back
-back-is text back (Empty none nil) = record {
-  white = [];
-  hashes = [];
-  more = [];
-  is = nil;
-  white_is = All-nil (λ (b : ℕ). is_white b ≡ true);
-  hashes_are = All-nil (λ (b : ℕ). is_hash b ≡ true);
-  more_is = All-nil (λ (b : ℕ). is_white b ≡ true);
-  apart = refl;
-}
-back-is text back (Closed b hashes white none is h w) = record {
-  white = [];
-  hashes = b ∷ hashes;
-  more = white;
-  is = is;
-  white_is = All-nil (λ (b : ℕ). is_white b ≡ true);
-  hashes_are = h;
-  more_is = w;
-  apart = hash-black b hashes h;
-}
-back-is text back (Plain run w) = record {
-  white = back;
-  hashes = [];
-  more = [];
-  is = sym (append-nil back);
-  white_is = w;
-  hashes_are = All-nil (λ (b : ℕ). is_hash b ≡ true);
-  more_is = All-nil (λ (b : ℕ). is_white b ≡ true);
-  apart = refl;
-}
-back-is text back (Behind c gap b hashes white run is g h w) = record {
-  white = c ∷ gap;
-  hashes = b ∷ hashes;
-  more = white;
-  is = is;
-  white_is = g;
-  hashes_are = h;
-  more_is = w;
-  apart = hash-black b hashes h;
-}
+    (ap₂ (λ (es fs : List Event). es ++ fs) (hashes-over hashes q h) (white-over more (past_text hashes q) m))
 
 -- The text.
 text-linked : (bytes : List ℕ) (p q : Point) →
@@ -129,24 +68,6 @@ text-linked [] p q = refl
 text-linked (b ∷ bytes) p q =
     let some : (suc (length bytes) == 0) ≡ false = grind (arith, nat_tests) in
     ap (λ (t : Bool). linked_text (cond t None (Some (record { first = p; after = q })))) (sym some)
-
--- what is left behind a run at the front
-left-behind : (f : ℕ → Bool) (all xs ys : List ℕ) → all ≡ xs ++ ys → AllPass f xs → begins f ys ≡ false →
-    drop (prefix_len f all) all ≡ ys
-left-behind f all xs ys e passes none =
-    (split-one f (take (prefix_len f all) all) (drop (prefix_len f all) all) xs ys
-    (take-append-drop (prefix_len f all) all ∙ e) (front-passes f all) passes (front-stops f all) none).back_is
-
--- the bytes behind the opening sequence, of which the text is known
-behind-opening : (line : List ℕ) (x : Parted line) → text_of line ≡ heading_text (x.gap ++ (text_of line ++ x.back))
-behind-opening line x =
-    let text : List ℕ = x.gap ++ (text_of line ++ x.back) in
-    let indent : ℕ = prefix_len is_white line in
-    let opening : drop indent line ≡ x.hashes ++ text =
-    left-behind is_white line x.indent (x.hashes ++ text) x.whole x.indent_is x.behind_indent in
-    ap heading_text
-    (sym (drop-drop (run_len 35 (drop indent line)) indent line)
-    ∙ left-behind is_hash (drop indent line) x.hashes text opening x.hashes_are x.behind_hashes)
 
 -- The whole line.
 parts-joined : {a b c d e f g i j k l m o q : List Event} → i ≡ a → j ≡ b → k ≡ c → l ≡ d → m ≡ e → o ≡ f → q ≡ g →
@@ -179,8 +100,8 @@ heading-line line r p at =
     text : List ℕ
     text = text_of all
 
-    back : BackIs x.back
-    back = back-is text x.back x.shape
+    back : Shape x.back
+    back = x.shape
 
     rest3 : List ℕ
     rest3 = text ++ x.back
@@ -240,7 +161,7 @@ heading-line line r p at =
 
     size : length text ≡ length (heading_text opened.bytes)
     size =
-        ap (λ (l : List ℕ). length l) (behind-opening all x)
+        ap (λ (l : List ℕ). length l) x.text_is
         ∙ ap (λ (l : List ℕ). length (heading_text l)) (sym second.stands.bytes_are)
 
     fourth : IsBehind line begin text x.back p3 end
@@ -274,16 +195,11 @@ heading-line line r p at =
         ap₂ (λ (es fs : List Event). es ++ fs)
         (ap₂ (λ (es fs : List Event). es ++ fs)
         (ap (λ (l : List ℕ). line_runs Apart l p) (parts-take all x)
-        ∙ three-runs x.indent x.hashes x.gap p x.indent_is x.hashes_are x.gap_is apart)
+        ∙ three-over x.indent x.hashes x.gap p x.indent_is x.hashes_are x.gap_is x.apart)
         (ap₂ (λ (q e : Point). linked_text (chunk_unless_empty (length text) q e)) from to))
         (ap₂ (λ (l : List ℕ) (q : Point). line_runs Apart l q) (parts-drop all x ∙ back.is) to
-        ∙ three-runs back.white back.hashes back.more p4 back.white_is back.hashes_are back.more_is back.apart)
+        ∙ three-over back.white back.hashes back.more p4 back.white_is back.hashes_are back.more_is back.apart)
       where
-        apart : begins is_white (x.hashes ++ x.gap) ≡ false
-        apart =
-            first-front is_white (x.hashes ++ x.gap) rest3
-            (ap (begins is_white) (append_assoc x.hashes x.gap rest3) ∙ x.behind_indent)
-
         from : past_text (take (front_len all) all) p ≡ p3
         from =
             ap (λ (l : List ℕ). past_text l p) (parts-take all x)

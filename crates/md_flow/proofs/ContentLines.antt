@@ -3,7 +3,7 @@
 use Rattle.std.proofs.Common.{◌≡◌, ◌<◌, ◌≤◌, ◌∙◌, ◌++◌, Bool, true, false, List, [], ◌∷◌, ap, append_assoc, arith}
 use Rattle.std.proofs.Common.{Some, length, nat_eq, not, refl, subst, sym}
 use Rattle.md_content.specs.Chunks.{begun, chunk_inside_code, chunk_start_transition, content_link, rest_taken, unbegun}
-use Rattle.md_content.proofs.LineTaken.{whole-behind}
+use Rattle.md_seam.proofs.LineTaken.{whole-behind}
 use Rattle.md_content.proofs.StaysLemmas.{chunk-takes, not-ending}
 use Rattle.md_engine.specs.declared.event.Event.{Event}
 use Rattle.md_engine.specs.declared.event.Kind.TheVariants.{Enter}

@@ -1,4 +1,4 @@
--- How a tokenizer stays sound where what is added lies at a place of the text that is not its point.
+-- How a tokenizer stays sound where an attempt goes back to a place of the text that is not its point.
 use Rattle.std.proofs.Common.{◌≡◌, ℕ, ◌+◌, List, [], ◌∷◌, ◌++◌, length, refl}
 use Rattle.std.specs.Prelude.{slice_index}
 use Rattle.md_engine.specs.declared.event.Event.{Event}
@@ -6,17 +6,7 @@ use Rattle.md_engine.specs.declared.event.Point.{Point}
 use Rattle.md_engine.specs.declared.tokenizer.Frame.{Frame}
 use Rattle.md_engine.specs.Place.{IsPlaced, next_point}
 use Rattle.md_engine.specs.Sound.{IsSound}
-use Rattle.md_engine.proofs.Sound.{sound-add, sound-begun, sound-moved}
-
--- an event is added
-pub sound-put : (bytes : List ℕ) (p : Point) (limit : ℕ) (events : List Event) (e : Event) (frames : List Frame)
-    (skips : List Point) →
-    IsSound bytes p limit events frames skips → IsPlaced bytes e.point →
-    IsSound bytes p limit (events ++ e ∷ []) frames skips
-sound-put bytes p limit events e frames skips h k =
-    sound-moved bytes e.point p limit (events ++ e ∷ []) frames skips
-    (sound-add bytes e.point limit events e frames skips (sound-moved bytes p e.point limit events frames skips h k) refl)
-    h.placed
+use Rattle.md_engine.proofs.Sound.{sound-begun, sound-moved}
 
 -- an attempt begins
 pub sound-tried : (bytes : List ℕ) (p : Point) (limit : ℕ) (events : List Event) (f : Frame) (frames : List Frame)

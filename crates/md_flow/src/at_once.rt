@@ -7,7 +7,8 @@
 // too. The pages of the states can be read without them.
 
 ghost use Rattle.std.specs.Prelude.{Bool, IfSome, OnOk, Some, false, length, true, ◌≡◌, ◌≢◌, ◌<◌, ◌≤◌, ◌^◌};
-ghost use Rattle.md_content.specs.Chunks.{begun, line_taken};
+ghost use Rattle.md_content.specs.Chunks.{begun};
+ghost use Rattle.md_seam.specs.WholeLine.{line_taken};
 ghost use Rattle.md_engine.specs.Going.{SeesOn};
 ghost use Rattle.md_engine.specs.Place.{IsPlaced};
 ghost use Rattle.md_engine.specs.Run.{Runs, RunsHere};
@@ -31,7 +32,6 @@ ghost use Rattle.md_engine.specs.declared.state.flow.State.{State as FlowState};
 ghost use Rattle.md_engine.specs.declared.state.heading_atx.State.{State as HeadingState};
 ghost use Rattle.md_engine.specs.declared.state.list_item.State.{State as ItemState};
 
-use crate::parts::add_part;
 use crate::{constructs, document, fences, flow, html_lines};
 use md_engine::class::is_white;
 use md_engine::event::{Content, Event, Kind, Link, Name, Point};
@@ -51,6 +51,8 @@ use md_engine::tokenizer::{Container, Frame, Tokenizer};
 use md_leaves::{blank_line, heading_atx};
 use md_link_definitions::open_text::text_behind;
 use md_registry::choices;
+use md_seam::parts::add_part;
+use md_seam::slice::whole_from;
 use md_seam::space_or_tab;
 use md_tables::row::{Row, place_of};
 use md_tables::{gfm_table, row_words};
@@ -183,19 +185,6 @@ const CONTENT_LINK: Link = Link {
     next: false,
     content: Content::Content,
 };
-
-/// The first byte that does not begin before a point.
-#[inline(always)]
-fn whole_from(point: Point) -> usize
-    requires { point.index < 2 ^ 62 }
-    ensures { result ≡ whole_from point }
-{
-    if point.vs > 0 {
-        point.index + 1
-    } else {
-        point.index
-    }
-}
 
 /// Begins an attempt at a line of content, and the line, at a point in front of that where the tokenizer stands.
 #[inline(never)]
@@ -613,7 +602,7 @@ pub fn call_white(tokenizer: &mut Tokenizer, state: WhiteState) -> State
     space_or_tab::call_at_once(tokenizer, state)
 }
 
-/// Calls a state of a heading; words of it are taken at once.
+/// Calls a state of a heading; its text is taken at once.
 #[inline(always)]
 fn call_heading(tokenizer: &mut Tokenizer, state: HeadingState) -> State
     requires current { (world tokenizer.old).current ≡ looks (world tokenizer.old) }
@@ -624,7 +613,7 @@ fn call_heading(tokenizer: &mut Tokenizer, state: HeadingState) -> State
     ensures sees { result ≢ State.Error → SeesOn result (world tokenizer.old) (world tokenizer.new) }
 {
     match state {
-        HeadingState::AtBreak => heading_atx::words(tokenizer),
+        HeadingState::AtBreak => heading_atx::text(tokenizer),
         HeadingState::SequenceOpen => heading_atx::opens(tokenizer),
         _ => heading_atx::call(tokenizer, state),
     }

@@ -35,7 +35,6 @@ ghost use Rattle.md_registry.specs.Flow.{opener_transition};
 ghost use Rattle.md_registry.specs.FlowRule.{DocumentMeans, HasOpen};
 ghost use Rattle.md_registry.specs.Registry.{opener_at};
 
-use crate::parts::add_part;
 use crate::resolve;
 use md_containers::frontmatter;
 use md_engine::event::{Name, Point};
@@ -54,6 +53,7 @@ use md_engine::tokenizer::{Container, ContainerKind, Flags, HeldLeaf, Tokenizer}
 use md_leaves::blank_line::ends_line;
 use md_leaves::partial_bom;
 use md_registry::choices;
+use md_seam::parts::add_part;
 use md_seam::space_or_tab;
 
 /// At the start of the text: before a byte order mark, if there is one.

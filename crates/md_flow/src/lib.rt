@@ -7,5 +7,4 @@ pub mod document;
 mod fences;
 pub mod flow;
 mod html_lines;
-mod parts;
 pub mod resolve;

@@ -8,6 +8,7 @@ pub mod blocks;
 pub mod bytes;
 pub mod columns;
 pub mod definition;
+pub mod heading;
 pub mod html;
 pub mod label;
 pub mod lines;

@@ -12,7 +12,7 @@ use md_engine::message::Message;
 use std::alloc::Global;
 
 /// How many bytes stand before the first line ending.
-fn line_len(text: &[u8]) -> usize
+pub fn line_len(text: &[u8]) -> usize
     ensures value { result ≡ prefix_len (λ b. not (lines.is_ending b)) text.now }
     ensures bound { result ≤ length text.now }
 {

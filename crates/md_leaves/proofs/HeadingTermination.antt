@@ -1,7 +1,7 @@
 -- A heading stands and ends in any table that has it.
-use Rattle.std.proofs.Common.{◌≡◌, ℕ, ◌<◌, Bool, true, false, cond, ◌&&◌, nat_lt, Option, Some, None, List, refl, arith}
+use Rattle.std.proofs.Common.{◌≡◌, ℕ, ◌<◌, ◌≤◌, Bool, true, false, cond, ◌&&◌, nat_lt, Option, Some, None, List, refl, arith}
 use Rattle.std.proofs.Common.{ap, sym, ◌∙◌}
-use Rattle.std.proofs.lemmas.Bool.{and_parts}
+use Rattle.std.proofs.lemmas.Bool.{and_parts, eqb-true}
 use Rattle.std.proofs.lemmas.Bool.Decides.{nat_tests}
 use Rattle.md_engine.specs.declared.event.Event.{Event}
 use Rattle.md_engine.specs.declared.event.Name.TheVariants as parts
@@ -9,20 +9,28 @@ use Rattle.md_engine.specs.declared.state.Name.{Name as StateName}
 use Rattle.md_engine.specs.declared.state.Name.TheVariants as n
 use Rattle.md_engine.specs.declared.state.heading_atx.State.{State as HeadingState}
 use Rattle.md_engine.specs.declared.state.heading_atx.State.TheVariants as its
+use Rattle.md_engine.specs.declared.state.State.TheVariants.{Next, Retry}
 use Rattle.md_engine.specs.declared.tokenizer.Scratch.{Scratch}
 use Rattle.md_engine.specs.Scheme.{Ends, Fits, Grown, Scheme, Position, after_all, ranked, seen, position, spot_at}
-use Rattle.md_engine.specs.World.{Setting, World, looks}
+use Rattle.md_engine.specs.World.{Setting, World, after, looks}
 use Rattle.md_engine.proofs.Falls.{later, later_at, seen_grows}
 use Rattle.md_engine.proofs.Local.{accepts, consumes, refuses, turns}
 use Rattle.md_engine.proofs.Points.{stays, takes}
-use Rattle.md_leaves.specs.Heading.{at_break_code, before_code, behind_part, data_code, heading_link, heading_ready}
+use Rattle.md_leaves.specs.Heading.{IsInText, at_break_code, before_code, behind_part, data_code, heading_ready}
 use Rattle.md_leaves.specs.Heading.{heading_scheme, heading_transition, sees_text, sequence_further_code}
-use Rattle.md_leaves.specs.Heading.{sequence_open_code, without_size}
-use Rattle.md_leaves.proofs.BreakTermination.{low-rank}
-use Rattle.md_seam.specs.Spaces.{IsRest, calmed, is_current, rest_ready, sees_white, any_size}
-use Rattle.md_seam.specs.Transition.{entered, entered_link, exited}
+use Rattle.md_leaves.specs.Heading.{sequence_open_code, text_added, text_begun, text_ended, without_size}
 use Rattle.md_leaves.proofs.LeafStart.{FitsStart, good-start}
-use Rattle.md_seam.proofs.SpacesTermination.{Does, WhiteFits, rest-calm, rest-none, rest-size, seen-in, white_try}
+use Rattle.md_seam.specs.Lent.{whole_from}
+use Rattle.md_seam.specs.Spaces.{IsRest, calmed, ends_line, is_current, rest_ready, sees_white, any_size}
+use Rattle.md_seam.specs.Transition.{entered, exited, taken}
+use Rattle.md_seam.proofs.LineTaken.{whole-behind}
+use Rattle.md_seam.proofs.SpacesTermination.{Does, WhiteFits, goes-on, rest-calm, rest-none, rest-size, seen-in, white_try}
+
+-- the states in its text
+abbrev IsTextState : HeadingState → Type 0
+IsTextState its.SequenceFurther = Unit {0}
+IsTextState its.Data = Unit {0}
+IsTextState _ = ⊥
 
 pub record HeadingFits (T : Scheme) : Type 1 where
   pub white : WhiteFits T
@@ -114,52 +122,99 @@ sequence_open_ends T w false false z has r e f g =
     good-behind T w (n.HeadingAtx its.SequenceOpen) (exited w parts.HeadingAtxSequence).events
     (without_size w.scratch) z has (has.each its.SequenceOpen) r.0.rest r.1 g (omega arith) (rw f (omega arith))
 
--- a `#` is text
+-- where its text begins
+text-begins : (T : Scheme) (w : World) → rest_ready (position w) (after_all T w.frames) →
+    (next : HeadingState) → HeadingFits T → IsTextState next →
+    sees_text (seen (position w)) ≡ true →
+    Does T (n.HeadingAtx its.AtBreak) w
+    (record { to = Retry (n.HeadingAtx next); world = record w { scratch = text_begun w.point w.scratch } })
+text-begins T w r its.SequenceFurther has text e = (
+  turns T heading_scheme _ _ w w.events (text_begun w.point w.scratch) (has.each its.AtBreak)
+      (has.each its.SequenceFurther) (
+        record { begun = omega arith; rest = ap text_ended r.0 },
+        later IsRest IsRest (position w) (after_all T w.frames) w.point (text_begun w.point w.scratch)
+            (stays w.setting.limit w.point) r.1,
+      )
+      (omega arith) (rw e (omega arith)),
+  refl,
+)
+text-begins T w r its.Data has text e = (
+  turns T heading_scheme _ _ w w.events (text_begun w.point w.scratch) (has.each its.AtBreak)
+      (has.each its.Data) (
+        record { begun = omega arith; rest = ap text_ended r.0 },
+        later IsRest IsRest (position w) (after_all T w.frames) w.point (text_begun w.point w.scratch)
+            (stays w.setting.limit w.point) r.1,
+      )
+      (omega arith) (rw e (omega arith)),
+  refl,
+)
+text-begins T w r state has text e = absurd text
+
 heading_at_break_ends : (T : Scheme) (w : World) (x y z : Bool) → HeadingFits T →
     rest_ready (position w) (after_all T w.frames) →
-    sees_text (seen (position w)) ≡ x → is_current 35 (seen (position w)) ≡ y →
+    sees_text (seen (position w)) ≡ x →
     Does T (n.HeadingAtx its.AtBreak) w (at_break_code w x y z)
-heading_at_break_ends T w true true z has r e f = (
-  turns T heading_scheme _ _ w (entered w parts.HeadingAtxSequence).events w.scratch (has.each its.AtBreak)
-      (has.each its.SequenceFurther) r (omega arith) (rw (e, f) (omega arith)),
-  refl,
-)
-heading_at_break_ends T w true false z has r e f = (
-  turns T heading_scheme _ _ w (entered_link w parts.Data heading_link).events w.scratch (has.each its.AtBreak)
-      (has.each its.Data) r (omega arith) (rw e (omega arith)),
-  refl,
-)
-heading_at_break_ends T w false y true has r e f =
+heading_at_break_ends T w true true z has r e = text-begins T w r its.SequenceFurther has tt e
+heading_at_break_ends T w true false z has r e = text-begins T w r its.Data has tt e
+heading_at_break_ends T w false y true has r e =
     (accepts T _ w _ _ (exited w parts.HeadingAtx).events w.scratch r.1 r.0, refl)
-heading_at_break_ends T w false y false has r e f =
+heading_at_break_ends T w false y false has r e =
     (refuses T _ w _ _ w.events w.scratch r.1 r.0, refl)
 
-sequence_further_ends : (T : Scheme) (w : World) (x y : Bool) → HeadingFits T →
-    rest_ready (position w) (after_all T w.frames) → is_current 35 (seen (position w)) ≡ x →
-    sees_white (seen (position w)) ≡ y → Does T (n.HeadingAtx its.SequenceFurther) w (sequence_further_code w x y)
-sequence_further_ends T w true y has r e f =
-    let inside = seen-in (position w) (is_current 35) refl e in (
+-- a byte of the line lies in front of the point behind it
+start-taken : (w : World) (o : Option ℕ) → o ≡ looks w → ends_line o ≡ false → w.scratch.start ≤ whole_from w.point →
+    w.scratch.start ≤ whole_from (after w.setting w.point)
+start-taken w None c e le = cc
+start-taken w (Some b) c e le = omega (arith, le, whole-behind w.setting w.point b e (sym c))
+
+-- in its text one byte more is taken
+text-goes_on : (T : Scheme) (state : HeadingState) (w : World) → HeadingFits T → IsTextState state →
+    IsInText (position w) → Ends IsRest IsRest (position w) (after_all T w.frames) → w.current ≡ looks w →
+    ends_line w.current ≡ false →
+    Does T (n.HeadingAtx state) w (record { to = Next (n.HeadingAtx state); world = taken w })
+text-goes_on T its.SequenceFurther w has text r ends c e =
+    let inside = goes-on w c e in (
       consumes T heading_scheme _ _ w w.events w.scratch (has.each its.SequenceFurther)
-          (has.each its.SequenceFurther) inside (r.0, later _ _ (position w) _ _ _ (takes w.setting w.point inside) r.1)
+          (has.each its.SequenceFurther) inside (
+            record { begun = start-taken w w.current c e r.begun; rest = r.rest },
+            later _ _ (position w) _ _ _ (takes w.setting w.point inside) ends,
+          )
           (omega arith),
       refl,
     )
-sequence_further_ends T w false y has r e f =
-    good-behind T w (n.HeadingAtx its.SequenceFurther) (exited w parts.HeadingAtxSequence).events w.scratch y has
-    (has.each its.SequenceFurther) r.0 r.1 f (rw e (omega arith)) (rw e (low-rank (sees_text (seen (position w)))))
-
-data_ends : (T : Scheme) (w : World) (x y : Bool) → HeadingFits T → rest_ready (position w) (after_all T w.frames) →
-    sees_text (seen (position w)) ≡ x → sees_white (seen (position w)) ≡ y →
-    Does T (n.HeadingAtx its.Data) w (data_code w x y)
-data_ends T w true y has r e f =
-    let inside = seen-in (position w) sees_text refl e in (
-      consumes T heading_scheme _ _ w w.events w.scratch (has.each its.Data) (has.each its.Data) inside
-          (r.0, later _ _ (position w) _ _ _ (takes w.setting w.point inside) r.1) (omega arith),
+text-goes_on T its.Data w has text r ends c e =
+    let inside = goes-on w c e in (
+      consumes T heading_scheme _ _ w w.events w.scratch (has.each its.Data) (has.each its.Data) inside (
+        record { begun = start-taken w w.current c e r.begun; rest = r.rest },
+        later _ _ (position w) _ _ _ (takes w.setting w.point inside) ends,
+      )
+          (omega arith),
       refl,
     )
-data_ends T w false y has r e f =
-    good-behind T w (n.HeadingAtx its.Data) (exited w parts.Data).events w.scratch y has (has.each its.Data) r.0 r.1 f
-    (rw e (omega arith)) (rw e (omega arith))
+text-goes_on T state w has text r ends c e = absurd text
+
+hash-goes_on : (o : Option ℕ) → is_current 35 o ≡ true → ends_line o ≡ false
+hash-goes_on None e = cc
+hash-goes_on (Some b) e = let is : b ≡ 35 = eqb-true b 35 e in rw is refl
+
+sequence_further_ends : (T : Scheme) (w : World) (x : Bool) → HeadingFits T →
+    IsInText (position w) → Ends IsRest IsRest (position w) (after_all T w.frames) → w.current ≡ looks w →
+    is_current 35 w.current ≡ x → Does T (n.HeadingAtx its.SequenceFurther) w (sequence_further_code w x)
+sequence_further_ends T w true has r ends c e =
+    text-goes_on T its.SequenceFurther w has tt r ends c (hash-goes_on w.current e)
+sequence_further_ends T w false has r ends c e = (
+  turns T heading_scheme _ _ w w.events w.scratch (has.each its.SequenceFurther) (has.each its.Data)
+      (r, later IsRest IsRest (position w) (after_all T w.frames) w.point w.scratch (stays w.setting.limit w.point) ends)
+      (omega arith) (omega arith),
+  refl,
+)
+
+data_ends : (T : Scheme) (w : World) (x : Bool) → HeadingFits T →
+    IsInText (position w) → Ends IsRest IsRest (position w) (after_all T w.frames) → w.current ≡ looks w →
+    ends_line w.current ≡ x → Does T (n.HeadingAtx its.Data) w (data_code w x)
+data_ends T w true has r ends c e =
+    (accepts T _ w IsRest IsRest (exited (text_added w) parts.HeadingAtx).events (text_ended w.scratch) ends r.rest, refl)
+data_ends T w false has r ends c e = text-goes_on T its.Data w has tt r ends c e
 
 -- each state of a heading
 pub heading_terminates : (T : Scheme) (state : HeadingState) (w : World) → HeadingFits T →
@@ -173,7 +228,6 @@ heading_terminates T its.SequenceOpen w has c r =
     sequence_open_ends T w _ _ _ has r (ap (λ (o : Option ℕ). is_current 35 o && nat_lt w.scratch.size 6) (sym c))
     (ap sees_text (sym c)) (ap sees_white (sym c))
 heading_terminates T its.AtBreak w has c r =
-    heading_at_break_ends T w _ _ _ has r (ap sees_text (sym c)) (ap (is_current 35) (sym c))
-heading_terminates T its.SequenceFurther w has c r =
-    sequence_further_ends T w _ _ has r (ap (is_current 35) (sym c)) (ap sees_white (sym c))
-heading_terminates T its.Data w has c r = data_ends T w _ _ has r (ap sees_text (sym c)) (ap sees_white (sym c))
+    heading_at_break_ends T w _ _ _ has r (ap sees_text (sym c))
+heading_terminates T its.SequenceFurther w has c r = sequence_further_ends T w _ has r.0 r.1 c refl
+heading_terminates T its.Data w has c r = data_ends T w _ has r.0 r.1 c refl

@@ -14,8 +14,7 @@ pub mod BomTermination
 pub mod HeadingLemmas
 pub mod HeadingMeaning
 pub mod HeadingWhole
-pub mod HeadingWords
-pub mod HeadingMarks
+pub mod HeadingCalls
 pub mod BomMeaning
 pub mod NonLazyTermination
 pub mod NonLazyMeaning
@@ -29,4 +28,6 @@ pub mod HeadingGrammar
 pub mod LeafStart
 pub mod LeafSteps
 pub mod TurnedLemmas
-pub mod WordsPassed
+pub mod OnLine
+pub mod RunsAdded
+pub mod TextBegun

@@ -1,29 +1,28 @@
 -- The walk over a heading's line gives its parts, with its text as one part.
 use Rattle.std.proofs.Common.{◌≡◌, ℕ, suc, ◌+◌, ◌≤◌, Bool, true, false, ◌||◌, List, [], ◌∷◌, ◌++◌, length, get_or, take}
-use Rattle.std.proofs.Common.{drop, Option, Some, None, refl, sym, ◌∙◌, ap, ap₂, arith, subst, append_assoc}
-use Rattle.std.proofs.Common.{length-append}
-use Rattle.std.specs.Prelude.{◌==◌, nat_le, not}
-use Rattle.std.specs.List.{AllPass}
-use Rattle.std.proofs.lemmas.Bool.{and_parts, false≢true, eqb-true}
+use Rattle.std.proofs.Common.{drop, Option, Some, None, refl, sym, ◌∙◌, ap, arith, append_assoc, length-append}
+use Rattle.std.specs.Prelude.{◌==◌, nat_le}
+use Rattle.std.specs.List.{AllPass, prefix_len}
+use Rattle.std.proofs.lemmas.Bool.{and_parts, eqb-true, false≢true}
 use Rattle.std.proofs.lemmas.Bool.Decides.{nat_tests}
 use Rattle.std.proofs.lemmas.List.{drop_at, take_at}
 use Rattle.std.proofs.lemmas.List.Elements.{All-append, All-nil}
 use Rattle.md_engine.specs.declared.event.Event.{Event}
 use Rattle.md_engine.specs.declared.event.Name.TheVariants as n
 use Rattle.md_engine.specs.declared.event.Point.{Point}
-use Rattle.md_leaves.specs.HeadingRule.{Apart, Hashes, Run, Text, White, goes_on, is_heading, is_opening}
+use Rattle.md_leaves.specs.HeadingRule.{is_heading, is_opening}
+use Rattle.md_leaves.specs.HeadingRuns.{Apart, chunk_unless_empty, line_runs, linked_data, text_events}
 use Rattle.md_leaves.specs.HeadingText.{Before, Opened, Outside, Within, linked_text, resolved, text_between}
-use Rattle.md_leaves.specs.HeadingTitle.{chunk_unless_empty, front_len, line_runs, text_of, title_of, unread_title}
-use Rattle.md_leaves.proofs.HeadingLemmas.{white-no_hash}
-use Rattle.md_leaves.proofs.TitleRuns.{Comes, before-hashes, before-white, hash-runs, hashes-stop, is_hash, last_run}
-use Rattle.md_leaves.proofs.TitleRuns.{opened-white, pass-first, runs-cut, text-walk, white-stops, within-hashes}
-use Rattle.md_leaves.proofs.TitleRuns.{within-white}
-use Rattle.md_leaves.proofs.TitleTexts.{Behind, Closed, Empty, Parted, Plain, Shape, first-front, is_solid, parted}
-use Rattle.md_seam.specs.declared.inline.Chunk.{Chunk}
+use Rattle.md_leaves.specs.HeadingTitle.{flow_title, front_len, text_of, title_of, unread_title}
+use Rattle.md_leaves.proofs.TitleRuns.{before-hashes, before-white, hash-runs, is_hash, opened-white, pass-first}
+use Rattle.md_leaves.proofs.TitleRuns.{pass-rest, three-runs, three_runs, within-hashes, within-white}
+use Rattle.md_leaves.proofs.TitleTexts.{Parted, Shape, parted, text_in}
 use Rattle.md_meaning.specs.Bytes.{begins}
-use Rattle.md_seam.specs.Events.Nested.{exit, pair}
-use Rattle.md_seam.specs.Events.Places.{past_text}
+use Rattle.md_meaning.specs.Leaves.{heading_text}
 use Rattle.md_meaning.specs.Rest.{is_white, run_len, trim_start}
+use Rattle.md_seam.specs.declared.inline.Chunk.{Chunk}
+use Rattle.md_seam.specs.Events.Nested.{exit}
+use Rattle.md_seam.specs.Events.Places.{past_text}
 use Rattle.md_seam.proofs.InlineLemmas.{past_text-append}
 
 -- the end of a heading, and what follows
@@ -38,158 +37,43 @@ ends-white : (white : List ℕ) (p q first : Point) (after last : Option Point) 
 ends-white white p q first after last closing since es w =
     within-white white p first after last closing since (ended q es) w ∙ (simp append_assoc)
 
-white-hash : (bytes : List ℕ) → AllPass is_white bytes → begins is_hash bytes ≡ false
-white-hash [] h = refl
-white-hash (b ∷ bs) h = white-no_hash b (pass-first is_white b bs h)
+-- behind a text, if there is one: a closing sequence and whitespace, each of which may stand there or not
+ends-hashes : (hashes more : List ℕ) (p q first : Point) (after : Option Point) (since es : List Event) →
+    AllPass is_hash hashes → AllPass is_white more →
+    let left = line_runs Apart more (past_text hashes p) in
+    resolved (Within first after after [] since) (line_runs Apart hashes p ++ (left ++ ended q es)) ≡
+    text_between first after ++ (since ++ (line_runs Apart hashes p ++ (left ++ ended q (resolved Outside es))))
+ends-hashes [] more p q first after since es h m = ends-white more p q first after after [] since es m
+ends-hashes (b ∷ bs) more p q first after since es h m =
+    let r = past_text (b ∷ bs) p in
+    within-hashes b bs p first after after [] since (line_runs Apart more r ++ ended q es) h
+    ∙ ends-white more r q first after (Some r) (since ++ line_runs Apart (b ∷ bs) p) [] es m
+    ∙ (simp append_assoc)
 
-white-text : (bytes : List ℕ) → AllPass is_white bytes → begins (goes_on Text) bytes ≡ false
-white-text [] h = refl
-white-text (b ∷ bs) h = ap not (pass-first is_white b bs h)
-
--- a closing sequence, and the whitespace behind it
-pub hashes-cut : (b : ℕ) (hashes white : List ℕ) (p : Point) → AllPass is_hash (b ∷ hashes) → AllPass is_white white →
-    line_runs Apart ((b ∷ hashes) ++ white) p ≡
-    line_runs Apart (b ∷ hashes) p ++ line_runs Apart white (past_text (b ∷ hashes) p)
-hashes-cut b hashes white p h w =
-    runs-cut Apart (b ∷ hashes) white p (hashes-stop (b ∷ hashes) white h (white-hash white w))
-
--- Behind the whitespace that follows the opening sequence.
-
--- the text and what is behind it, as they are to be
-abbrev Given : List ℕ → List ℕ → Point → Point → List Event → Type 0
-Given text back p q es =
+-- Behind the whitespace that follows the opening sequence: the text, and what stands behind it.
+ends-text : (text white hashes more : List ℕ) (p q : Point) (es : List Event) → AllPass is_white white →
+    AllPass is_hash hashes → AllPass is_white more → begins is_white (hashes ++ more) ≡ false →
+    begins is_white (text ++ (white ++ (hashes ++ more))) ≡ false →
     let end = past_text text p in
-    resolved Opened (line_runs Apart (text ++ back) p ++ ended q es) ≡
-    linked_text (chunk_unless_empty (length text) p end)
-    ++ (line_runs Apart back end ++ ended q (resolved Outside es))
-
-chunk-some : (n : ℕ) (p q : Point) → chunk_unless_empty (suc n) p q ≡ Some (record { first = p; after = q })
-chunk-some n p q =
-    let some : (suc n == 0) ≡ false = grind (arith, nat_tests) in
-    rw some refl
-
--- a closing sequence alone
-given-closed : (b : ℕ) (hashes white : List ℕ) (p q : Point) (es : List Event) → AllPass is_hash (b ∷ hashes) →
-    AllPass is_white white → Given [] ((b ∷ hashes) ++ white) p q es
-given-closed b hashes white p q es h w =
-    let r = past_text (b ∷ hashes) p in
-    let left = line_runs Apart white r in
-    let closing = pair n.HeadingAtxSequence p r in
-    let cut : line_runs Apart ((b ∷ hashes) ++ white) p ≡ closing ++ left = hashes-cut b hashes white p h w
-    ∙ ap (λ (t : List Event). t ++ left) (hash-runs b hashes p h) in
-    ap (λ (t : List Event). resolved Opened (t ++ ended q es)) cut
-    ∙ ends-white white r q p None (Some r) closing [] es w
-    ∙ sym (ap (λ (t : List Event). t ++ ended q (resolved Outside es)) cut)
-
--- text up to the whitespace at the line's end
-given-plain : (text back : List ℕ) (p q : Point) (es : List Event) → begins is_white (text ++ back) ≡ false →
-    last_run Apart text ≡ Text → AllPass is_white back → Given text back p q es
-given-plain [] back p q es start run w = cc
-given-plain (t ∷ ts) back p q es start run w =
-    let r = past_text (t ∷ ts) p in
-    let text = line_runs Apart (t ∷ ts) p in
-    let left = line_runs Apart back r in
-    let stops : begins (goes_on (last_run Apart (t ∷ ts))) back ≡ false = ap (λ (x : Run). begins (goes_on x) back) run
-    ∙ white-text back w in
-    let came : resolved Opened (text ++ (left ++ ended q es)) ≡
-    resolved (Within p (Some r) (Some r) [] []) (left ++ ended q es) =
-    subst (λ (x : Run). Comes x p r (left ++ ended q es) (resolved Opened (text ++ (left ++ ended q es)))) run
-    (text-walk t ts p (left ++ ended q es) start) in
-    ap (λ (es' : List Event). resolved Opened (es' ++ ended q es)) (runs-cut Apart (t ∷ ts) back p stops)
-    ∙ ap (resolved Opened) (append_assoc text left (ended q es))
-    ∙ came
-    ∙ ends-white back r q p (Some r) (Some r) [] [] es w
-    ∙ ap (λ (chunk : Option Chunk). linked_text chunk ++ (left ++ ended q (resolved Outside es)))
-    (sym (chunk-some (length ts) p r))
-
-solid-comes : (run : Run) (p r : Point) (es given : List Event) → is_solid run ≡ true → Comes run p r es given →
-    (after : Option Point) × (closing : List Event) × (given ≡ resolved (Within p after (Some r) closing []) es)
-solid-comes Apart p r es given e h = absurd (false≢true e)
-solid-comes White p r es given e h = absurd (false≢true e)
-solid-comes Hashes p r es given e h = h
-solid-comes Text p r es given e h = (Some r, [], h)
-
-solid-stops : (run : Run) (c : ℕ) → is_solid run ≡ true → is_white c ≡ true → goes_on run c ≡ false
-solid-stops Apart c e white = refl
-solid-stops White c e white = absurd (false≢true e)
-solid-stops Hashes c e white = white-no_hash c white
-solid-stops Text c e white = ap not white
-
--- a closing sequence behind text
-given-behind : (text : List ℕ) (c : ℕ) (gap : List ℕ) (b : ℕ) (hashes white : List ℕ) (p q : Point) (es : List Event) →
-    begins is_white (text ++ ((c ∷ gap) ++ ((b ∷ hashes) ++ white))) ≡ false →
-    is_solid (last_run Apart text) ≡ true → AllPass is_white (c ∷ gap) → AllPass is_hash (b ∷ hashes) →
-    AllPass is_white white → Given text ((c ∷ gap) ++ ((b ∷ hashes) ++ white)) p q es
-given-behind [] c gap b hashes white p q es start run g h w = cc
-given-behind (t ∷ ts) c gap b hashes white p q es start run g h w =
-    ap (λ (es' : List Event). resolved Opened (es' ++ ended q es))
-    (runs-cut Apart (t ∷ ts) behind p (solid-stops (last_run Apart (t ∷ ts)) c run (pass-first is_white c gap g)))
-    ∙ ap (λ (es' : List Event). resolved Opened ((text ++ es') ++ ended q es)) cut
-    ∙ ap (resolved Opened) apart
-    ∙ comes.2
-    ∙ within-white (c ∷ gap) r p comes.0 (Some r) comes.1 [] (seq ++ (left ++ ended q es)) g
-    ∙ within-hashes b hashes r2 p comes.0 (Some r) comes.1 parted_by (left ++ ended q es) h
-    ∙ ends-white white r3 q p (Some r) (Some r3) (parted_by ++ seq) [] es w
-    ∙ ap₂ (λ (chunk : Option Chunk) (es' : List Event). linked_text chunk ++ es') (sym (chunk-some (length ts) p r))
-    (joined ∙ sym (ap (λ (es' : List Event). es' ++ ended q (resolved Outside es)) cut))
-  where
-    behind : List ℕ
-    behind = (c ∷ gap) ++ ((b ∷ hashes) ++ white)
-
-    r : Point
-    r = past_text (t ∷ ts) p
-
-    r2 : Point
-    r2 = past_text (c ∷ gap) r
-
-    r3 : Point
-    r3 = past_text (b ∷ hashes) r2
-
-    text : List Event
-    text = line_runs Apart (t ∷ ts) p
-
-    parted_by : List Event
-    parted_by = line_runs Apart (c ∷ gap) r
-
-    seq : List Event
-    seq = line_runs Apart (b ∷ hashes) r2
-
-    left : List Event
-    left = line_runs Apart white r3
-
-    black : is_white b ≡ false
-    black = ap is_white (eqb-true b 35 (pass-first is_hash b hashes h))
-
-    cut : line_runs Apart behind r ≡ parted_by ++ (seq ++ left)
-    cut =
-        runs-cut Apart (c ∷ gap) ((b ∷ hashes) ++ white) r (white-stops (c ∷ gap) ((b ∷ hashes) ++ white) g black)
-        ∙ ap (λ (es' : List Event). parted_by ++ es') (hashes-cut b hashes white r2 h w)
-
-    apart : (text ++ (parted_by ++ (seq ++ left))) ++ ended q es ≡ text ++ (parted_by ++ (seq ++ (left ++ ended q es)))
-    apart = simp append_assoc
-
-    joined : (parted_by ++ seq) ++ (left ++ ended q (resolved Outside es)) ≡
-        (parted_by ++ (seq ++ left)) ++ ended q (resolved Outside es)
-    joined = simp append_assoc
-
-    comes : (after : Option Point) × (closing : List Event) ×
-        (resolved Opened (text ++ (parted_by ++ (seq ++ (left ++ ended q es)))) ≡
-        resolved (Within p after (Some r) closing []) (parted_by ++ (seq ++ (left ++ ended q es))))
-    comes =
-        solid-comes (last_run Apart (t ∷ ts)) p r (parted_by ++ (seq ++ (left ++ ended q es)))
-        (resolved Opened (text ++ (parted_by ++ (seq ++ (left ++ ended q es))))) run
-        (text-walk t ts p (parted_by ++ (seq ++ (left ++ ended q es))) start)
-
-given : (text back : List ℕ) (p q : Point) (es : List Event) → begins is_white (text ++ back) ≡ false →
-    Shape text back → Given text back p q es
-given text back p q es start (Empty none nil) = rw (none, nil) refl
-given text back p q es start (Closed b hashes white none is h w) =
-    rw (none, is) (given-closed b hashes white p q es h w)
-given text back p q es start (Plain run w) = given-plain text back p q es start run w
-given text back p q es start (Behind c gap b hashes white run is g h w) =
-    subst (λ (t : List ℕ). Given text t p q es) (sym is)
-    (given-behind text c gap b hashes white p q es
-    (ap (λ (t : List ℕ). begins is_white (text ++ t)) (sym is) ∙ start) run g h w)
+    let r = past_text white end in
+    let left = line_runs Apart more (past_text hashes r) in
+    let chunk = chunk_unless_empty (length text) p end in
+    resolved Opened
+    (linked_data chunk ++ (line_runs Apart white end ++ (line_runs Apart hashes r ++ (left ++ ended q es)))) ≡
+    linked_text chunk
+    ++ (line_runs Apart white end ++ (line_runs Apart hashes r ++ (left ++ ended q (resolved Outside es))))
+ends-text [] [] [] [] p q es w h m apart start = refl
+ends-text [] [] [] (b ∷ bs) p q es w h m apart start = absurd (false≢true (sym apart ∙ pass-first is_white b bs m))
+ends-text [] [] (b ∷ bs) more p q es w h m apart start =
+    rw (hash-runs b bs p h) (ends-white more (past_text (b ∷ bs) p) q p None (Some (past_text (b ∷ bs) p)) _ [] es m)
+ends-text [] (b ∷ bs) hashes more p q es w h m apart start =
+    absurd (false≢true (sym start ∙ pass-first is_white b bs w))
+ends-text (b ∷ bs) white hashes more p q es w h m apart start =
+    let end = past_text (b ∷ bs) p in
+    let some : (suc (length bs) == 0) ≡ false = grind (arith, nat_tests) in
+    rw some
+    (within-white white end p (Some end) (Some end) [] [] _ w
+    ∙ ends-hashes hashes more (past_text white end) q p (Some end) (line_runs Apart white end) es h m)
 
 -- The whole line.
 
@@ -260,113 +144,88 @@ title-fits line =
     front_len line + length (text_of line) = parts-size line x in
     omega arith
 
--- the runs of a line, piece by piece
+-- the runs in front of the text
 pub front-runs : (line : List ℕ) (x : Parted line) (p : Point) →
-    let p1 = past_text x.indent p in
-    let p2 = past_text x.hashes p1 in
-    line_runs Apart (x.indent ++ (x.hashes ++ x.gap)) p ≡
-    line_runs Apart x.indent p ++ (line_runs Apart x.hashes p1 ++ line_runs Apart x.gap p2)
-front-runs line x p =
-    let p1 = past_text x.indent p in
-    let rest = text_of line ++ x.back in
-    let none : begins is_white (x.hashes ++ x.gap) ≡
-    false = first-front is_white (x.hashes ++ x.gap) rest
-    (ap (begins is_white) (append_assoc x.hashes x.gap rest) ∙ x.behind_indent) in
-    let other : begins is_hash x.gap ≡ false = first-front is_hash x.gap rest x.behind_hashes in
-    runs-cut Apart x.indent (x.hashes ++ x.gap) p (white-stops x.indent (x.hashes ++ x.gap) x.indent_is none)
-    ∙ ap (λ (es : List Event). line_runs Apart x.indent p ++ es)
-    (runs-cut Apart x.hashes x.gap p1 (hashes-stop x.hashes x.gap x.hashes_are other))
+    line_runs Apart (x.indent ++ (x.hashes ++ x.gap)) p ≡ three_runs x.indent x.hashes x.gap p
+front-runs line x p = three-runs x.indent x.hashes x.gap p x.indent_is x.hashes_are x.gap_is x.apart
 
-all-runs : (line : List ℕ) (x : Parted line) (p : Point) →
+-- the events of a heading, with those of its text as they are given by its chunk
+title-parts : (line : List ℕ) (x : Parted line) (p : Point) (as_events : Option Chunk → List Event) →
     let p1 = past_text x.indent p in
     let p2 = past_text x.hashes p1 in
     let p3 = past_text x.gap p2 in
-    line_runs Apart line p ≡
+    let end = past_text (text_of line) p3 in
+    let title = title_of line p in
+    title.front ++ as_events title.text ++ title.back ≡
     line_runs Apart x.indent p
-    ++ (line_runs Apart x.hashes p1 ++ (line_runs Apart x.gap p2 ++ line_runs Apart (text_of line ++ x.back) p3))
-all-runs line x p =
+    ++ (line_runs Apart x.hashes p1
+    ++ (line_runs Apart x.gap p2
+    ++ (as_events (chunk_unless_empty (length (text_of line)) p3 end) ++ line_runs Apart x.back end)))
+title-parts line x p as_events =
+    rw (parts-take line x, parts-until line x, parts-drop line x, front-runs line x p, end, begin) (simp append_assoc)
+  where
+    front : List ℕ
+    front = x.indent ++ (x.hashes ++ x.gap)
+
+    p3 : Point
+    p3 = past_text x.gap (past_text x.hashes (past_text x.indent p))
+
+    begin : past_text front p ≡ p3
+    begin = past_text-append x.indent (x.hashes ++ x.gap) p ∙ past_text-append x.hashes x.gap (past_text x.indent p)
+
+    end : past_text (front ++ text_of line) p ≡ past_text (text_of line) p3
+    end = past_text-append front (text_of line) p ∙ ap (past_text (text_of line)) begin
+
+-- without the whitespace in front of it
+trim-white : (white rest : List ℕ) → AllPass is_white white → begins is_white rest ≡ false →
+    trim_start (white ++ rest) ≡ rest
+trim-white [] [] w e = refl
+trim-white [] (b ∷ bs) w e = rw e refl
+trim-white (b ∷ bs) rest w e =
+    let here : is_white b ≡ true = pass-first is_white b bs w in
+    let one : 1 + prefix_len is_white (bs ++ rest) ≡ suc (prefix_len is_white (bs ++ rest)) = omega arith in
+    rw (here, one) (trim-white bs rest (pass-rest is_white b bs w) e)
+
+-- the text, and what stands behind it, have the same text
+pub text-again : (line : List ℕ) (x : Parted line) → heading_text (text_of line ++ x.back) ≡ text_of line
+text-again line x =
+    let rest = text_of line ++ x.back in
+    ap text_in (trim-white [] rest (All-nil (λ (b : ℕ). is_white b ≡ true)) x.behind_gap)
+    ∙ ap text_in (sym (trim-white x.gap rest x.gap_is x.behind_gap))
+    ∙ sym x.text_is
+
+-- the events that a heading adds: the runs in front of its text, and what is added from the text on
+pub title-whole : (line : List ℕ) (x : Parted line) (p : Point) →
     let p1 = past_text x.indent p in
     let p2 = past_text x.hashes p1 in
-    let rest = text_of line ++ x.back in
-    ap (λ (bytes : List ℕ). line_runs Apart bytes p) x.whole
-    ∙ runs-cut Apart x.indent (x.hashes ++ (x.gap ++ rest)) p
-    (white-stops x.indent (x.hashes ++ (x.gap ++ rest)) x.indent_is x.behind_indent)
-    ∙ ap (λ (es : List Event). line_runs Apart x.indent p ++ es) (
-    runs-cut Apart x.hashes (x.gap ++ rest) p1 (hashes-stop x.hashes (x.gap ++ rest) x.hashes_are x.behind_hashes)
-    ∙ ap (λ (es : List Event). line_runs Apart x.hashes p1 ++ es)
-    (runs-cut Apart x.gap rest p2 (white-stops x.gap rest x.gap_is x.behind_gap))
-    )
-
--- the events of a heading's parts: its front, all up to the end of its text, and what is left
-abbrev Titled : List ℕ → List ℕ → List ℕ → ℕ → Point → List Event
-Titled front until left size p =
-    (line_runs Apart front p ++ linked_text (chunk_unless_empty size (past_text front p) (past_text until p)))
-    ++ line_runs Apart left (past_text until p)
-
-titled-runs : (indent hashes gap text left : List ℕ) (size : ℕ) (p : Point) (front : List Event) →
-    line_runs Apart (indent ++ (hashes ++ gap)) p ≡ front →
-    let p3 = past_text gap (past_text hashes (past_text indent p)) in
-    let end = past_text text p3 in
-    Titled (indent ++ (hashes ++ gap)) ((indent ++ (hashes ++ gap)) ++ text) left size p ≡
-    (front ++ linked_text (chunk_unless_empty size p3 end)) ++ line_runs Apart left end
-titled-runs indent hashes gap text left size p front is =
-    let p3 = past_text gap (past_text hashes (past_text indent p)) in
-    let begin : past_text (indent ++ (hashes ++ gap)) p ≡ p3 = past_text-append indent (hashes ++ gap) p
-    ∙ past_text-append hashes gap (past_text indent p) in
-    let until : past_text ((indent ++ (hashes ++ gap)) ++ text) p ≡
-    past_text text p3 = past_text-append (indent ++ (hashes ++ gap)) text p
-    ∙ ap (past_text text) begin in
-    ap
-    (λ (e : Point).
-    (line_runs Apart (indent ++ (hashes ++ gap)) p
-    ++ linked_text (chunk_unless_empty size (past_text (indent ++ (hashes ++ gap)) p) e))
-    ++ line_runs Apart left e) until
-    ∙ ap₂
-    (λ (es : List Event) (b : Point).
-    (es ++ linked_text (chunk_unless_empty size b (past_text text p3))) ++ line_runs Apart left (past_text text p3)) is
-    begin
-
-title-parts : (line : List ℕ) (x : Parted line) (p : Point) →
-    unread_title (title_of line p) ≡
-    Titled (x.indent ++ (x.hashes ++ x.gap)) ((x.indent ++ (x.hashes ++ x.gap)) ++ text_of line) x.back
-    (length (text_of line)) p
-title-parts line x p =
-    let size = length (text_of line) in
-    let end = front_len line + size in
-    let front = x.indent ++ (x.hashes ++ x.gap) in
-    ap (λ (t : List ℕ). Titled t (take end line) (drop end line) size p) (parts-take line x)
-    ∙ ap₂ (λ (t u : List ℕ). Titled front t u size p) (parts-until line x) (parts-drop line x)
-
-apart-all : (a b c d e : List Event) → (a ++ (b ++ (c ++ d))) ++ e ≡ a ++ (b ++ (c ++ (d ++ e)))
-apart-all a b c d e = simp append_assoc
-
-joined-all : (a b c d e f : List Event) → a ++ (b ++ (c ++ (d ++ (e ++ f)))) ≡ (((a ++ (b ++ c)) ++ d) ++ e) ++ f
-joined-all a b c d e f = simp append_assoc
+    flow_title (title_of line p) ≡
+    line_runs Apart x.indent p
+    ++ (line_runs Apart x.hashes p1
+    ++ (line_runs Apart x.gap p2 ++ text_events (text_of line ++ x.back) (past_text x.gap p2)))
+title-whole line x p =
+    let text = text_of line in
+    rw (text-again line x, take_at text x.back (length text) refl, drop_at text x.back (length text) refl)
+    (title-parts line x p linked_data)
 
 -- in a heading the walk sets the text, and goes on behind it
 pub title-resolved : (line : List ℕ) (p q : Point) (es : List Event) → is_heading (trim_start line) ≡ true →
-    resolved Before (line_runs Apart line p ++ exit n.HeadingAtx q ∷ es) ≡
+    resolved Before (flow_title (title_of line p) ++ exit n.HeadingAtx q ∷ es) ≡
     unread_title (title_of line p) ++ exit n.HeadingAtx q ∷ resolved Outside es
 title-resolved line p q es heads =
-    ap (λ (t : List Event). resolved Before (t ++ ended q es)) (all-runs line x p)
-    ∙ ap (resolved Before) (apart-all i h g t (ended q es))
-    ∙ before-white x.indent p (h ++ (g ++ (t ++ ended q es))) x.indent_is
-    ∙ ap (λ (s : List Event). i ++ s) (
-    before-opening x.hashes p1 (g ++ (t ++ ended q es)) (hashes-some line x.hashes x.depth heads) x.hashes_are
-    ∙ ap (λ (s : List Event). h ++ s)
-    (opened-white x.gap p2 (t ++ ended q es) x.gap_is
-    ∙ ap (λ (s : List Event). g ++ s) (given (text_of line) x.back p3 q es x.behind_gap x.shape))
-    )
-    ∙ joined-all i h g (linked_text (chunk_unless_empty (length (text_of line)) p3 end)) (line_runs Apart x.back end)
-    (ended q (resolved Outside es))
-    ∙ ap (λ (s : List Event). s ++ ended q (resolved Outside es))
-    (sym
-    (title-parts line x p
-    ∙ titled-runs x.indent x.hashes x.gap (text_of line) x.back (length (text_of line)) p (i ++ (h ++ g))
-    (front-runs line x p)))
+    rw (title-parts line x p linked_data, title-parts line x p linked_text)
+    (simp append_assoc
+    (before-white x.indent p _ x.indent_is
+    ∙ ap (λ (s : List Event). line_runs Apart x.indent p ++ s) (
+    before-opening x.hashes p1 _ (hashes-some line x.hashes x.depth heads) x.hashes_are
+    ∙ ap (λ (s : List Event). line_runs Apart x.hashes p1 ++ s)
+    (opened-white x.gap p2 _ x.gap_is ∙ ap (λ (s : List Event). line_runs Apart x.gap p2 ++ s) behind)
+    )))
   where
     x : Parted line
     x = parted line
+
+    s : Shape x.back
+    s = x.shape
 
     p1 : Point
     p1 = past_text x.indent p
@@ -380,17 +239,17 @@ title-resolved line p q es heads =
     end : Point
     end = past_text (text_of line) p3
 
-    i : List Event
-    i = line_runs Apart x.indent p
+    chunk : Option Chunk
+    chunk = chunk_unless_empty (length (text_of line)) p3 end
 
-    h : List Event
-    h = line_runs Apart x.hashes p1
-
-    g : List Event
-    g = line_runs Apart x.gap p2
-
-    t : List Event
-    t = line_runs Apart (text_of line ++ x.back) p3
+    behind : resolved Opened (linked_data chunk ++ (line_runs Apart x.back end ++ ended q es)) ≡
+        linked_text chunk ++ (line_runs Apart x.back end ++ ended q (resolved Outside es))
+    behind =
+        rw (ap (λ (l : List ℕ). line_runs Apart l end) s.is
+        ∙ three-runs s.white s.hashes s.more end s.white_is s.hashes_are s.more_is s.apart)
+        (simp append_assoc
+        (ends-text (text_of line) s.white s.hashes s.more p3 q es s.white_is s.hashes_are s.more_is s.apart
+        (rw s.is at x.behind_gap)))
 
 -- Around the text stand whitespace and `#` alone.
 
@@ -401,34 +260,21 @@ marks-white : (bytes : List ℕ) → AllPass is_white bytes → AllPass is_mark 
 marks-white bytes h k d lt = ap (λ (x : Bool). x || (get_or bytes k d == 35)) (h k d lt)
 
 marks-hashes : (bytes : List ℕ) → AllPass is_hash bytes → AllPass is_mark bytes
-marks-hashes bytes h k d lt = go (is_white (get_or bytes k d)) (h k d lt)
-  where
-    go : (x : Bool) → (get_or bytes k d == 35) ≡ true → (x || (get_or bytes k d == 35)) ≡ true
-    go true e = refl
-    go false e = e
+marks-hashes bytes h k d lt = ap is_mark (eqb-true (get_or bytes k d) 35 (h k d lt))
 
-marks-append : (xs ys : List ℕ) → AllPass is_mark xs → AllPass is_mark ys → AllPass is_mark (xs ++ ys)
-marks-append xs ys h k = All-append (λ (b : ℕ). is_mark b ≡ true) xs ys h k
+marks-three : (white hashes more : List ℕ) → AllPass is_white white → AllPass is_hash hashes → AllPass is_white more →
+    AllPass is_mark (white ++ (hashes ++ more))
+marks-three white hashes more w h m =
+    All-append (λ (b : ℕ). is_mark b ≡ true) white (hashes ++ more) (marks-white white w)
+    (All-append (λ (b : ℕ). is_mark b ≡ true) hashes more (marks-hashes hashes h) (marks-white more m))
 
 pub front-marks : (line : List ℕ) → AllPass is_mark (take (front_len line) line)
 front-marks line =
     let x = parted line in
-    subst (AllPass is_mark) (sym (parts-take line x))
-    (marks-append x.indent (x.hashes ++ x.gap) (marks-white x.indent x.indent_is)
-    (marks-append x.hashes x.gap (marks-hashes x.hashes x.hashes_are) (marks-white x.gap x.gap_is)))
-
-back-marks : (text back : List ℕ) → Shape text back → AllPass is_mark back
-back-marks text back (Empty none nil) = subst (AllPass is_mark) (sym nil) (All-nil (λ (b : ℕ). is_mark b ≡ true))
-back-marks text back (Closed b hashes white none is h w) =
-    subst (AllPass is_mark) (sym is)
-    (marks-append (b ∷ hashes) white (marks-hashes (b ∷ hashes) h) (marks-white white w))
-back-marks text back (Plain run w) = marks-white back w
-back-marks text back (Behind c gap b hashes white run is g h w) =
-    subst (AllPass is_mark) (sym is)
-    (marks-append (c ∷ gap) ((b ∷ hashes) ++ white) (marks-white (c ∷ gap) g)
-    (marks-append (b ∷ hashes) white (marks-hashes (b ∷ hashes) h) (marks-white white w)))
+    rw (parts-take line x) (marks-three x.indent x.hashes x.gap x.indent_is x.hashes_are x.gap_is)
 
 pub behind-marks : (line : List ℕ) → AllPass is_mark (drop (front_len line + length (text_of line)) line)
 behind-marks line =
     let x = parted line in
-    subst (AllPass is_mark) (sym (parts-drop line x)) (back-marks (text_of line) x.back x.shape)
+    let s = x.shape in
+    rw (parts-drop line x, s.is) (marks-three s.white s.hashes s.more s.white_is s.hashes_are s.more_is)

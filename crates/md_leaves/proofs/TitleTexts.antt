@@ -3,19 +3,17 @@
 use Rattle.std.proofs.Common.{◌≡◌, ℕ, suc, ◌+◌, ◌-◌, Bool, true, false, cond, List, [], ◌∷◌, ◌++◌, length, take, drop}
 use Rattle.std.proofs.Common.{reverse, refl, sym, ◌∙◌, ap, arith, append_assoc, append-nil, length-append, length-drop}
 use Rattle.std.proofs.Common.{subst}
-use Rattle.std.specs.Prelude.{◌==◌}
 use Rattle.std.specs.List.{AllPass, prefix_len, suffix_len}
-use Rattle.std.proofs.lemmas.Bool.{false≢true}
+use Rattle.std.proofs.lemmas.Bool.{eqb-true, false≢true}
 use Rattle.std.proofs.lemmas.List.{drop-drop, length-reverse, reverse-append, reverse-reverse, take-append-drop}
 use Rattle.std.proofs.lemmas.List.{take_at}
 use Rattle.std.proofs.lemmas.List.Elements.{All-cons, All-nil}
 use Rattle.std.proofs.lemmas.List.Folds.{length-prefix_len}
 use Rattle.md_engine.proofs.Sound.{All-reverse}
-use Rattle.md_leaves.specs.HeadingRule.{Apart, Hashes, Run, Text, White, begun, goes_on}
 use Rattle.md_leaves.specs.HeadingTitle.{front_len, text_of}
-use Rattle.md_leaves.proofs.TitleRuns.{is_hash, last-append, last_run, pass-first, text-last}
+use Rattle.md_leaves.proofs.TitleRuns.{is_hash, pass-first}
 use Rattle.md_meaning.specs.Bytes.{begins}
-use Rattle.md_meaning.specs.Leaves.{without_closing}
+use Rattle.md_meaning.specs.Leaves.{heading_text, without_closing}
 use Rattle.md_meaning.specs.Rest.{is_parted, is_white, run_len, trim_end, trim_start}
 
 -- A list in two: what passes a test in front, or at its end.
@@ -75,90 +73,41 @@ kept-ends f bytes =
     ap (begins f) (ap reverse (kept-is f bytes) ∙ reverse-reverse (drop (suffix_len f bytes) (reverse bytes)))
     ∙ front-stops f (reverse bytes)
 
--- The last byte tells which run is open behind a text.
-
--- text or `#`
-abbrev pub is_solid : Run → Bool
-is_solid Hashes = true
-is_solid Text = true
-is_solid _ = false
-
-last-byte : (bytes : List ℕ) (b : ℕ) (front : List ℕ) → reverse bytes ≡ b ∷ front → bytes ≡ reverse front ++ b ∷ []
-last-byte bytes b front e = sym (reverse-reverse bytes) ∙ ap reverse e ∙ reverse-append (b ∷ []) front
-
-solid-begun : (b : ℕ) → is_white b ≡ false → is_solid (begun b) ≡ true
-solid-begun b e = go (b == 35) refl
-  where
-    go : (x : Bool) → (b == 35) ≡ x → is_solid (begun b) ≡ true
-    go true k = rw (e, k) refl
-    go false k = rw (e, k) refl
-
-solid-next : (run : Run) (b : ℕ) → is_white b ≡ false → is_solid (cond (goes_on run b) run (begun b)) ≡ true
-solid-next Apart b e = solid-begun b e
-solid-next White b e = ap (λ (x : Bool). is_solid (cond x White (begun b))) e ∙ solid-begun b e
-solid-next Hashes b e = go (b == 35)
-  where
-    go : (x : Bool) → is_solid (cond x Hashes (begun b)) ≡ true
-    go true = refl
-    go false = solid-begun b e
-solid-next Text b e = rw e refl
-
-text-next : (run : Run) (b : ℕ) → is_white b ≡ false → (b == 35) ≡ false → cond (goes_on run b) run (begun b) ≡ Text
-text-next Apart b e k = rw (e, k) refl
-text-next White b e k = rw (e, k) refl
-text-next Hashes b e k = rw (e, k) refl
-text-next Text b e k = rw e refl
-
--- behind a byte that is no whitespace
-solid-last : (bytes : List ℕ) (b : ℕ) (front : List ℕ) → reverse bytes ≡ b ∷ front → is_white b ≡ false →
-    is_solid (last_run Apart bytes) ≡ true
-solid-last bytes b front e black =
-    ap (λ (t : List ℕ). is_solid (last_run Apart t)) (last-byte bytes b front e)
-    ∙ ap is_solid (last-append Apart (reverse front) (b ∷ []))
-    ∙ solid-next (last_run Apart (reverse front)) b black
-
-text-behind : (bytes : List ℕ) (b : ℕ) (front : List ℕ) → reverse bytes ≡ b ∷ front → is_white b ≡ false →
-    (b == 35) ≡ false → last_run Apart bytes ≡ Text
-text-behind bytes b front e black other =
-    ap (last_run Apart) (last-byte bytes b front e) ∙ last-append Apart (reverse front) (b ∷ [])
-    ∙ text-next (last_run Apart (reverse front)) b black other
-
--- How a heading ends: with nothing, with a closing sequence alone, with text, or with a closing sequence behind text.
-pub data Shape (text back : List ℕ) : Type 0 where
-  Empty : text ≡ [] → back ≡ [] → Shape text back
-  Closed : (b : ℕ) (hashes white : List ℕ) → text ≡ [] → back ≡ (b ∷ hashes) ++ white → AllPass is_hash (b ∷ hashes) →
-      AllPass is_white white → Shape text back
-  Plain : last_run Apart text ≡ Text → AllPass is_white back → Shape text back
-  Behind : (c : ℕ) (gap : List ℕ) (b : ℕ) (hashes white : List ℕ) → is_solid (last_run Apart text) ≡ true →
-      back ≡ (c ∷ gap) ++ ((b ∷ hashes) ++ white) →
-      AllPass is_white (c ∷ gap) → AllPass is_hash (b ∷ hashes) → AllPass is_white white → Shape text back
+-- What stands behind a text: whitespace, a closing sequence and whitespace, each of which may stand there or not.
+pub record Shape (back : List ℕ) : Type 0 where
+  pub white : List ℕ
+  pub hashes : List ℕ
+  pub more : List ℕ
+  pub is : back ≡ white ++ (hashes ++ more)
+  pub white_is : AllPass is_white white
+  pub hashes_are : AllPass is_hash hashes
+  pub more_is : AllPass is_white more
+  -- the first whitespace is as long as it can be
+  pub apart : begins is_white (hashes ++ more) ≡ false
 
 -- the text and what stands behind it
 pub record Ending (rest text : List ℕ) : Type 0 where
   pub back : List ℕ
   pub whole : rest ≡ text ++ back
-  pub shape : Shape text back
-
-none-white : (bytes : List ℕ) → AllPass is_white bytes → begins is_white bytes ≡ false → bytes ≡ []
-none-white [] h e = refl
-none-white (b ∷ bs) h e = absurd (false≢true (sym e ∙ pass-first is_white b bs h))
+  pub shape : Shape back
 
 pub first-front : (f : ℕ → Bool) (xs ys : List ℕ) → begins f (xs ++ ys) ≡ false → begins f xs ≡ false
 first-front f [] ys e = refl
 first-front f (x ∷ xs) ys e = e
-
-none-reversed : (bytes : List ℕ) → reverse bytes ≡ [] → bytes ≡ []
-none-reversed bytes e = sym (reverse-reverse bytes) ∙ ap reverse e
 
 -- nothing is both parted and without whitespace at its end
 none-parted : (bytes : List ℕ) → is_parted bytes ≡ true → begins is_white bytes ≡ false → bytes ≡ []
 none-parted [] h e = refl
 none-parted (b ∷ bs) h e = absurd (false≢true (sym e ∙ h))
 
-ending : (rest : List ℕ) → begins is_white rest ≡ false →
-    Ending rest
-    (cond (is_parted (reverse (without_closing (trim_end rest)))) (trim_end (without_closing (trim_end rest)))
-    (trim_end rest))
+-- the text of a heading on a rest of a line that begins with no whitespace
+abbrev pub text_in : List ℕ → List ℕ
+text_in rest =
+    let body = trim_end rest in
+    let front = without_closing body in
+    cond (is_parted (reverse front)) (trim_end front) body
+
+ending : (rest : List ℕ) → begins is_white rest ≡ false → Ending rest (text_in rest)
 ending rest start = go (is_parted (reverse front)) refl
   where
     body : List ℕ
@@ -173,83 +122,53 @@ ending rest start = go (is_parted (reverse front)) refl
     hashes : List ℕ
     hashes = tail is_hash body
 
-    text : List ℕ
-    text = trim_end front
-
-    gap : List ℕ
-    gap = tail is_white front
-
-    open_end : (ys : List ℕ) → reverse front ≡ ys → is_parted ys ≡ false → begins is_hash ys ≡ false →
-        last_run Apart body ≡ Text
-    open_end [] e parted other = absurd (false≢true (sym parted))
-    open_end (b ∷ bs) e parted other =
-        ap (last_run Apart) (kept-whole is_hash body) ∙ last-append Apart front hashes
-        ∙ ap (λ (run : Run). last_run run hashes) (text-behind front b bs e parted other)
-        ∙ text-last hashes (tail-passes is_hash body)
-
-    solid_end : (t : ℕ) (ts : List ℕ) → text ≡ t ∷ ts → (ys : List ℕ) → reverse text ≡ ys → begins is_white ys ≡ false →
-        is_solid (last_run Apart text) ≡ true
-    solid_end t ts some [] e black = let bad : t ∷ ts ≡ [] = sym some ∙ none-reversed text e in cc
-    solid_end t ts some (y ∷ ys) e black = solid-last text y ys e black
-
-    apart : rest ≡ text ++ (gap ++ (hashes ++ white))
-    apart =
+    whole : rest ≡ trim_end front ++ (tail is_white front ++ (hashes ++ white))
+    whole =
         kept-whole is_white rest
         ∙ ap (λ (t : List ℕ). t ++ white)
         (kept-whole is_hash body ∙ ap (λ (t : List ℕ). t ++ hashes) (kept-whole is_white front))
-        ∙ append_assoc (text ++ gap) hashes white ∙ append_assoc text gap (hashes ++ white)
+        ∙ (simp append_assoc)
 
-    closed_end : is_parted (reverse front) ≡ true → (ts gs hs : List ℕ) → text ≡ ts → gap ≡ gs → hashes ≡ hs →
-        Ending rest text
-    closed_end parted ts gs [] ets egs ehs =
-        let same : body ≡ front = kept-whole is_hash body ∙ ap (λ (t : List ℕ). front ++ t) ehs ∙ append-nil front in
-        let none : front ≡
-        [] = none-reversed front
-        (none-parted (reverse front) parted
-        (ap (λ (t : List ℕ). begins is_white (reverse t)) (sym same) ∙ kept-ends is_white rest)) in
-        let left : rest ≡ white = kept-whole is_white rest ∙ ap (λ (t : List ℕ). t ++ white) (same ∙ none) in
-        let gone : white ≡
-        [] = none-white white (tail-passes is_white rest) (ap (begins is_white) (sym left) ∙ start) in
-        let blank : text ≡ [] = ap trim_end none in
-        record { back = []; whole = left ∙ gone ∙ sym (ap (λ (t : List ℕ). t ++ []) blank); shape = Empty blank refl }
-    closed_end parted [] gs (b ∷ hs) ets egs ehs =
-        let left : rest ≡ gap ++ (hashes ++ white) = apart ∙ ap (λ (t : List ℕ). t ++ (gap ++ (hashes ++ white))) ets in
-        let gone : gap ≡
-        [] = none-white gap (tail-passes is_white front)
-        (first-front is_white gap (hashes ++ white) (ap (begins is_white) (sym left) ∙ start)) in
-        record {
-          back = (b ∷ hs) ++ white;
-          whole =
-              apart ∙ ap (λ (t : List ℕ). text ++ (t ++ (hashes ++ white))) gone
-              ∙ ap (λ (t : List ℕ). text ++ (t ++ white)) ehs;
-          shape =
-              Closed b hs white ets refl (subst (AllPass is_hash) ehs (tail-passes is_hash body))
-              (tail-passes is_white rest);
-        }
-    closed_end parted (t ∷ ts) [] (b ∷ hs) ets egs ehs =
-        let same : front ≡ text = kept-whole is_white front ∙ ap (λ (t : List ℕ). text ++ t) egs ∙ append-nil text in
-        let none : front ≡
-        [] = none-reversed front
-        (none-parted (reverse front) parted
-        (ap (λ (t : List ℕ). begins is_white (reverse t)) same ∙ kept-ends is_white front)) in
-        let bad : t ∷ ts ≡ [] = sym ets ∙ ap trim_end none in cc
-    closed_end parted (t ∷ ts) (g ∷ gs) (b ∷ hs) ets egs ehs = record {
-      back = (g ∷ gs) ++ ((b ∷ hs) ++ white);
-      whole =
-          apart ∙ ap (λ (t : List ℕ). text ++ (t ++ (hashes ++ white))) egs
-          ∙ ap (λ (h : List ℕ). text ++ ((g ∷ gs) ++ (h ++ white))) ehs;
-      shape =
-          Behind g gs b hs white (solid_end t ts ets (reverse text) refl (kept-ends is_white front)) refl
-          (subst (AllPass is_white) egs (tail-passes is_white front))
-          (subst (AllPass is_hash) ehs (tail-passes is_hash body)) (tail-passes is_white rest);
+    -- where no `#` end it there is no text either
+    apart : is_parted (reverse front) ≡ true → (hs : List ℕ) → hashes ≡ hs → begins is_white (hs ++ white) ≡ false
+    apart parted [] e =
+        let same : body ≡ front = kept-whole is_hash body ∙ ap (λ (t : List ℕ). front ++ t) e ∙ append-nil front in
+        let none : reverse front ≡ [] = none-parted (reverse front) parted
+        (ap (λ (t : List ℕ). begins is_white (reverse t)) (sym same) ∙ kept-ends is_white rest) in
+        let left : rest ≡ white = kept-whole is_white rest
+        ∙ ap (λ (t : List ℕ). t ++ white) (same ∙ sym (reverse-reverse front) ∙ ap reverse none) in
+        ap (begins is_white) (sym left) ∙ start
+    apart parted (b ∷ hs) e =
+        ap is_white (eqb-true b 35 (pass-first is_hash b hs (subst (AllPass is_hash) e (tail-passes is_hash body))))
+
+    go : (x : Bool) → is_parted (reverse front) ≡ x → Ending rest (cond x (trim_end front) body)
+    go true e = record {
+      back = tail is_white front ++ (hashes ++ white);
+      whole = whole;
+      shape = record {
+        white = tail is_white front;
+        hashes = hashes;
+        more = white;
+        is = refl;
+        white_is = tail-passes is_white front;
+        hashes_are = tail-passes is_hash body;
+        more_is = tail-passes is_white rest;
+        apart = apart e hashes refl;
+      };
     }
-
-    go : (x : Bool) → is_parted (reverse front) ≡ x → Ending rest (cond x text body)
-    go true e = closed_end e text gap hashes refl refl refl
     go false e = record {
       back = white;
       whole = kept-whole is_white rest;
-      shape = Plain (open_end (reverse front) refl e (kept-ends is_hash body)) (tail-passes is_white rest);
+      shape = record {
+        white = white;
+        hashes = [];
+        more = [];
+        is = sym (append-nil white);
+        white_is = tail-passes is_white rest;
+        hashes_are = All-nil (λ (x : ℕ). is_hash x ≡ true);
+        more_is = All-nil (λ (x : ℕ). is_white x ≡ true);
+        apart = refl;
+      };
     }
 
 -- The parts of a line.
@@ -266,8 +185,10 @@ pub record Parted (line : List ℕ) : Type 0 where
   pub behind_indent : begins is_white (hashes ++ (gap ++ (text_of line ++ back))) ≡ false
   pub behind_hashes : begins is_hash (gap ++ (text_of line ++ back)) ≡ false
   pub behind_gap : begins is_white (text_of line ++ back) ≡ false
+  pub apart : begins is_white (hashes ++ gap) ≡ false
   pub depth : length hashes ≡ run_len 35 (trim_start line)
-  pub shape : Shape (text_of line) back
+  pub text_is : text_of line ≡ heading_text (gap ++ (text_of line ++ back))
+  pub shape : Shape back
 
 pub parted : (line : List ℕ) → Parted line
 parted line = record {
@@ -280,11 +201,14 @@ parted line = record {
   indent_is = front-passes is_white line;
   hashes_are = front-passes is_hash (drop k line);
   gap_is = front-passes is_white after;
-  behind_indent =
-      ap (begins is_white) (sym (from_hashes ∙ ap (λ (t : List ℕ). hashes ++ t) from_gap)) ∙ front-stops is_white line;
+  behind_indent = behind_indent;
   behind_hashes = ap (begins is_hash) (sym (same ∙ from_gap)) ∙ front-stops is_hash (drop k line);
   behind_gap = ap (begins is_white) (sym end.whole) ∙ front-stops is_white after;
+  apart =
+      first-front is_white (hashes ++ gap) (text_of line ++ end.back)
+      (ap (begins is_white) (append_assoc hashes gap (text_of line ++ end.back)) ∙ behind_indent);
   depth = length-prefix_len is_hash (drop k line);
+  text_is = ap heading_text from_gap;
   shape = end.shape;
 }
   where
@@ -323,6 +247,11 @@ parted line = record {
 
     from_gap : after ≡ gap ++ (text_of line ++ end.back)
     from_gap = sym (take-append-drop (prefix_len is_white after) after) ∙ ap (λ (t : List ℕ). gap ++ t) end.whole
+
+    behind_indent : begins is_white (hashes ++ (gap ++ (text_of line ++ end.back))) ≡ false
+    behind_indent =
+        ap (begins is_white) (sym (from_hashes ∙ ap (λ (t : List ℕ). hashes ++ t) from_gap))
+        ∙ front-stops is_white line
 
     sizes : front_len line ≡ length (indent ++ (hashes ++ gap))
     sizes =

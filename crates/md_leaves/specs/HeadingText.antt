@@ -6,7 +6,7 @@ use Rattle.md_engine.specs.declared.event.Event.{Event}
 use Rattle.md_engine.specs.declared.event.Name.{Name}
 use Rattle.md_engine.specs.declared.event.Name.TheVariants as n
 use Rattle.md_engine.specs.declared.event.Point.{Point}
-use Rattle.md_leaves.specs.Heading.{heading_link}
+use Rattle.md_leaves.specs.HeadingRuns.{heading_link}
 use Rattle.md_seam.specs.declared.inline.Chunk.{Chunk}
 use Rattle.md_seam.specs.Events.Nested.{around, enter_link, exit, is_enter, is_exit}
 use Rattle.md_seam.specs.Events.Tiles.{is_data}

@@ -1,21 +1,14 @@
 -- What stands in an ATX heading, by the bytes of its line (CommonMark 4.2).
-use Rattle.std.specs.Prelude.{ℕ, ◌+◌, ◌==◌, if◌then◌else◌, List, [], ◌∷◌, ◌++◌, length, take, drop, Option, Some, None}
+use Rattle.std.specs.Prelude.{ℕ, ◌+◌, List, ◌++◌, length, take, drop, Option}
 use Rattle.std.specs.List.{prefix_len}
 use Rattle.md_engine.specs.declared.event.Event.{Event}
 use Rattle.md_engine.specs.declared.event.Point.{Point}
-use Rattle.md_leaves.specs.HeadingRule.{Apart, Run, begun, closes, goes_on, opens}
+use Rattle.md_leaves.specs.HeadingRuns.{Apart, chunk_unless_empty, line_runs, linked_data}
 use Rattle.md_leaves.specs.HeadingText.{linked_text}
 use Rattle.md_seam.specs.declared.inline.Chunk.{Chunk}
 use Rattle.md_meaning.specs.Leaves.{heading_text}
-use Rattle.md_seam.specs.Events.Places.{past_byte, past_text}
+use Rattle.md_seam.specs.Events.Places.{past_text}
 use Rattle.md_meaning.specs.Rest.{is_white, run_len}
-
--- the runs that are left of a line: each is one part, as long as it can be
-abbrev pub line_runs : Run → List ℕ → Point → List Event
-line_runs run [] p = closes run p
-line_runs run (b ∷ bs) p =
-    if goes_on run b then line_runs run bs (past_byte b p)
-    else closes run p ++ opens (begun b) p ++ line_runs (begun b) bs (past_byte b p)
 
 -- The parts of a heading: its opening sequence with the whitespace around it, its text, and what stands behind that.
 pub record Title : Type 0 where
@@ -37,10 +30,6 @@ text_of line =
     let depth = run_len 35 (drop indent line) in
     heading_text (drop (indent + depth) line)
 
--- the chunk of a text of so many bytes, unless it is empty
-abbrev pub chunk_unless_empty : ℕ → Point → Point → Option Chunk
-chunk_unless_empty size p q = if size == 0 then None else Some (record { first = p; after = q })
-
 -- the parts of a heading on a line that begins at this point
 abbrev pub title_of : List ℕ → Point → Title
 title_of line p =
@@ -57,3 +46,7 @@ title_of line p =
 -- its events, with a text that is not read yet
 abbrev pub unread_title : Title → List Event
 unread_title title = title.front ++ linked_text title.text ++ title.back
+
+-- and as the states of a heading leave them: its text has no name yet
+abbrev pub flow_title : Title → List Event
+flow_title title = title.front ++ linked_data title.text ++ title.back

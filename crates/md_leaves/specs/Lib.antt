@@ -3,8 +3,9 @@ pub mod Bom
 pub mod Break
 pub mod Further
 pub mod Heading
+pub mod HeadingRuns
 pub mod HeadingText
-pub mod HeadingWords
+pub mod HeadingCalls
 pub mod HeadingSetext
 pub mod HeadingSetextRule
 pub mod Turned
@@ -13,6 +14,7 @@ pub mod MarkRuns
 pub mod Spanned
 pub mod SpannedWalk
 pub mod NonLazy
+pub mod OnLine
 pub mod BlankRule
 pub mod BomRule
 pub mod BreakRule

@@ -1,19 +1,10 @@
 -- Cells as a text has them: a tab reaches over columns, and each other byte is one cell.
-use Rattle.std.specs.Prelude.{◌≡◌, ◌⊎◌, ℕ, true, ◌==◌, ◌-◌, nat_lt, if◌then◌else◌, List, [], ◌∷◌, map}
+use Rattle.std.specs.Prelude.{◌≡◌, ◌⊎◌, ℕ, true, ◌-◌, nat_lt, List, [], ◌∷◌}
 use Rattle.md_meaning.specs.Rest.{Rest, is_white}
 use Rattle.md_engine.specs.declared.event.Point.{Point}
 use Rattle.md_engine.specs.Meaning.{Cell}
 use Rattle.md_link_definitions.specs.OpenText.{begun_rest}
-use Rattle.md_seam.specs.Ahead.{line_cells}
-
--- the cells at which a byte begins, from a point on: not the further columns of a tab
-abbrev pub whole_cells : Point → List Cell → List Cell
-whole_cells p [] = []
-whole_cells p (c ∷ cs) = if p.vs == 0 then c ∷ whole_cells c.after cs else whole_cells c.after cs
-
--- the bytes of the line that begin from a point on: a tab counts once, and not if the point lies within it
-abbrev pub whole_line : Point → List Cell → List ℕ
-whole_line p cells = map (λ (c : Cell). c.byte) (whole_cells p (line_cells cells))
+pub use Rattle.md_seam.specs.WholeLine.{whole_cells, whole_line}
 
 -- the rest of a line that begins at a point with these bytes, and that from a point on
 abbrev pub rest_here : Point → List ℕ → Rest

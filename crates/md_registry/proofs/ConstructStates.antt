@@ -240,7 +240,7 @@ construct-steps feed next (n.GfmTable state) w s c at =
     (record { white = white_has _ _ _; each = λ _ _ _. refl }) s at
 construct-steps feed next (n.HeadingAtx state) w s c at =
     heading_means _ feed state w _
-    (record { white = white_has _ _ _; each = λ _ _ _. refl }) s at
+    (record { white = white_has _ _ _; each = λ _ _ _. refl }) s c at
 construct-steps feed next (n.HeadingSetext state) w s c at =
     setext_means _ feed state w _
     (record { white = white_has _ _ _; each = λ _ _ _. refl }) s at

@@ -25,8 +25,8 @@ use Rattle.md_registry.specs.FlowRule.{behind_leaf, leaves_of}
 use Rattle.md_registry.specs.Registry.{leaf, row, trials}
 use Rattle.md_registry.proofs.ConstructStates.{NextIs}
 use Rattle.md_registry.proofs.Fence.Rests.{fence-rests}
-use Rattle.md_registry.proofs.LeafRests.{Rests, break-rests, heading-rests, html-rests, setext-rests, table-rests}
-use Rattle.md_registry.proofs.LeafRests.{tried-agree}
+use Rattle.md_registry.proofs.HeadingAtx.Rests.{heading-rests}
+use Rattle.md_registry.proofs.LeafRests.{Rests, break-rests, html-rests, setext-rests, table-rests, tried-agree}
 use Rattle.md_registry.proofs.Registry.{AreAsked, laws, trials-asked}
 
 -- Of the first leaves, tried in order, those of the second are left for a byte: each other may not begin with it.

@@ -5,9 +5,8 @@ use Rattle.md_engine.specs.declared.tokenizer.Scratch.{Scratch}
 use Rattle.md_engine.specs.Meaning.{Accepts, Cell, Fails, Here, Outcome, Refuses}
 use Rattle.md_engine.specs.World.{Flags}
 use Rattle.md_seam.specs.Spaces.{IsRest}
-use Rattle.md_frame.specs.LeafName.{GfmTable, HeadingAtx, HeadingSetext, HtmlFlow, LeafName, ThematicBreak}
+use Rattle.md_frame.specs.LeafName.{GfmTable, HeadingSetext, HtmlFlow, LeafName, ThematicBreak}
 use Rattle.md_frame.specs.Rule.{Rule, tried}
-use Rattle.md_leaf_rooms.proofs.HeadingAtx.Trial as heading
 use Rattle.md_leaf_rooms.proofs.HeadingSetext.Trial as setext
 use Rattle.md_leaf_rooms.proofs.ThematicBreak.Trial as break
 use Rattle.md_literal_rooms.proofs.HtmlFlow.Trial as html
@@ -41,12 +40,6 @@ taken-or-not : (x : Bool) (o a : Outcome) (h : Here) → IsRest h.scratch → Re
     (x ≡ false → o ≡ Refuses h.scratch h.flags) → RestsAfter o
 taken-or-not true o a h is fine took refused = subst RestsAfter (sym (took refl)) fine
 taken-or-not false o a h is fine took refused = subst RestsAfter (sym (refused refl)) is
-
-pub heading-rests : Rests HeadingAtx
-heading-rests options cells h is =
-    taken-or-not ((leaf HeadingAtx).takes options h.flags.leaf cells) _ _ h is tt
-    (heading.trial-took options cells h is)
-    (heading.trial-refused options cells h is)
 
 pub setext-rests : Rests HeadingSetext
 setext-rests options cells h is =

@@ -31,7 +31,7 @@ use Rattle.md_engine.proofs.Loops.{came-stays, not_error, reading-same}
 use Rattle.md_engine.proofs.Walks.{Within, then-stays, then-run, within-one}
 use Rattle.md_content.specs.Chunks.{chunk_inside_code}
 use Rattle.md_leaves.specs.Blank as blank
-use Rattle.md_leaves.proofs.HeadingWords.{remains-of, sees-from}
+use Rattle.md_leaves.proofs.HeadingCalls.{remains-of, sees-from}
 use Rattle.md_seam.specs.Look.{behind_code, first_behind, looks_behind, may_with}
 use Rattle.md_seam.specs.Spaces.{ends_line}
 use Rattle.md_seam.specs.Transition.{Transition, entered, exited, taken, tried}

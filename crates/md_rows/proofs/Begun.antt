@@ -33,7 +33,7 @@ use Rattle.md_front_rooms.proofs.Frontmatter.Lines.{Closes, IsFront, IsRest, Mor
 use Rattle.md_front_rooms.proofs.Frontmatter.Parts.{end-whole}
 use Rattle.md_front_rooms.proofs.Frontmatter.Whole.{FrontPart, IsFronted, block_first, front-fronted, mark-fronted}
 use Rattle.md_front_rooms.proofs.Frontmatter.Whole.{part-between}
-use Rattle.md_front_rooms.proofs.Frontmatter.Shifted.{read-behind}
+use Rattle.md_outline.proofs.Shifted.{read-behind}
 use Rattle.md_content_rooms.proofs.Labels.Trees.{defined_in, noted_in}
 use Rattle.md_front_rooms.proofs.MarkLemmas.{body-between, body-column, body-index, body-vs, without-mark}
 use Rattle.md_frame.proofs.PlainTells.{all-tell}

@@ -1,5 +1,6 @@
 -- What is known of the whitespace in front of a line, as a state is fed it.
-use Rattle.std.proofs.Common.{◌≡◌, ℕ, zero, suc, ◌≤◌, Bool, true, false, cond, nat_eq, List, [], ◌∷◌, refl, ap, arith}
+use Rattle.std.proofs.Common.{◌≡◌, ℕ, zero, suc, ◌≤◌, Bool, true, false, cond, nat_eq, List, [], ◌∷◌, length, refl, ap}
+use Rattle.std.proofs.Common.{arith}
 use Rattle.std.proofs.lemmas.Bool.Decides.{nat_tests}
 use Rattle.md_engine.specs.declared.configuration.ParseOptions.{ParseOptions}
 use Rattle.md_engine.specs.declared.event.Point.{Point}
@@ -58,3 +59,14 @@ small-some options = go options.constructs.code_indented
     go : (b : Bool) → 1 ≤ cond b 3 any_size
     go true = omega arith
     go false = omega arith
+
+-- all whitespace is taken
+pub white-all : (room : ℕ) (cells : List Cell) → length cells ≤ room → begins_white (white_rest room cells) ≡ false
+white-all room [] le = refl
+white-all zero (c ∷ cs) le = absurd (omega (arith, le))
+white-all (suc room) (c ∷ cs) le = go (is_white c.byte) refl (white-all room cs (omega (arith, le)))
+  where
+    go : (x : Bool) → is_white c.byte ≡ x → begins_white (white_rest room cs) ≡ false →
+        begins_white (cond x (white_rest room cs) (c ∷ cs)) ≡ false
+    go true e next = next
+    go false e next = e

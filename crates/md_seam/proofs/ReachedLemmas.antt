@@ -194,7 +194,7 @@ placed-column bytes p h lt e more = record {
         h.within
 
 -- the last column of a tab, or a byte of one column
-same-behind : (b : ℕ) (p : Point) → 1 ≤ p.column → ((b == 9) && not (p.column % 4 == 0)) ≡ false →
+pub same-behind : (b : ℕ) (p : Point) → 1 ≤ p.column → ((b == 9) && not (p.column % 4 == 0)) ≡ false →
     past_byte b p ≡ record p { column = p.column + 1; index = p.index + 1; vs = 0 }
 same-behind b p some h =
     ap (λ (c : ℕ). record { line = p.line; column = c; index = p.index + 1; vs = 0 })

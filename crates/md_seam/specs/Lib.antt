@@ -11,3 +11,4 @@ pub mod Substituted
 pub mod Events
 pub mod TextPart
 pub mod Lined
+pub mod WholeLine

@@ -5,6 +5,7 @@
 pub mod inline;
 pub mod moving;
 pub mod names;
+pub mod parts;
 pub mod plain;
 pub mod rewriting;
 pub mod slice;

@@ -1,6 +1,6 @@
 // Parts of the text, lent from it.
 
-ghost use Rattle.std.specs.Prelude.{◌≡◌, ◌+◌, ◌-◌, ◌%◌};
+ghost use Rattle.std.specs.Prelude.{◌≡◌, ◌+◌, ◌-◌, ◌%◌, ◌<◌, ◌^◌, slice_range};
 ghost use Rattle.md_seam.specs.Lent.{columns_behind, columns_in_front, lent, whole_from};
 
 use md_engine::event::Point;
@@ -59,4 +59,29 @@ fn columns_left(column: usize) -> usize
     ensures { result ≡ 4 - (column + 3) % 4 }
 {
     4 - (column % 4 + 3) % 4
+}
+
+/// The bytes from one index to another; none where the text has no such indices.
+pub fn between(bytes: &[u8], from: usize, to: usize) -> &[u8]
+    ensures { result.now ≡ slice_range bytes.now from to }
+{
+    let end = to.min(bytes.len());
+    if from < end {
+        &bytes[from..end]
+    } else {
+        &bytes[..0]
+    }
+}
+
+/// The first byte that does not begin before a point.
+#[inline(always)]
+pub fn whole_from(point: Point) -> usize
+    requires { point.index < 2 ^ 62 }
+    ensures { result ≡ whole_from point }
+{
+    if point.vs > 0 {
+        point.index + 1
+    } else {
+        point.index
+    }
 }

@@ -29,7 +29,7 @@ use Rattle.md_engine.proofs.StayLemmas.{seen-inside, some-falls, some-setting}
 use Rattle.md_engine.proofs.Walks.{TakesSo, Within, then-seen, then-stays, then-takes, then-waits}
 use Rattle.md_meaning.specs.Ascii.{pipe}
 use Rattle.md_meaning.specs.Rest.{is_white}
-use Rattle.md_leaves.proofs.HeadingWords.{sees-from}
+use Rattle.md_leaves.proofs.HeadingCalls.{sees-from}
 use Rattle.md_seam.specs.OneSpace.{spaced}
 use Rattle.md_seam.specs.Spaces.{any_size, sees_white, white_then}
 use Rattle.md_seam.specs.Stays.{TakesEach}

@@ -16,6 +16,7 @@ use crate::state::{Leaf, LeafResult, Opening, ParagraphContext};
 use md_engine::configuration::ParseOptions;
 use md_engine::message::Message;
 use md_grammars::bytes::{is_blank, is_parted, is_white, run_len, trim, trim_end, trim_start};
+use md_grammars::heading::heading_text;
 use md_grammars::html::{HtmlKind, html_ends, html_kind};
 use md_grammars::memory;
 use md_grammars::rest::Rest;
@@ -60,38 +61,6 @@ fn break_at<'a>(options: &ParseOptions, rest: &Rest<'a>) -> Option<LeafResult<'a
         Some(LeafResult::Finished(Block::Break))
     } else {
         None
-    }
-}
-
-/// How many `#` stand at the end.
-fn closing_len(text: &[u8]) -> usize
-    ensures value { result ≡ suffix_len (λ b. b == 35) text.now }
-    ensures bound { result ≤ length text.now }
-{
-    text.iter().rev().take_while(|byte| **byte == b'#').count()
-}
-
-/// Whether nothing is here, or a space or a tab stands last.
-fn ends_parted(text: &[u8]) -> bool
-    ensures { result ≡ is_parted (reverse text.now) }
-{
-    match text.last() {
-        None => true,
-        Some(byte) => is_white(*byte),
-    }
-}
-
-/// The text of a heading, from what follows its opening run: without a closing run that is all of it or stands behind
-/// whitespace (CommonMark 4.2).
-fn heading_text(after: &[u8]) -> &[u8]
-    ensures { result.now ≡ leaves.heading_text after.now }
-{
-    let text = trim(after);
-    let front = text.split_at(text.len() - closing_len(text)).0;
-    if ends_parted(front) {
-        trim_end(front)
-    } else {
-        text
     }
 }
 

@@ -1,33 +1,46 @@
 -- A heading by the cells of its line: it stands where the line definition says, and adds what its bytes say.
 use Rattle.md_engine.specs.declared.tokenizer.held_leaf.HeldLeaf.TheVariants as held_leaf
 use Rattle.std.proofs.Common.{◌≡◌, ℕ, zero, suc, ◌^◌, ◌<◌, ◌≤◌, Bool, true, false, cond, List, [], ◌∷◌, ◌++◌, length}
-use Rattle.std.proofs.Common.{refl, sym, ap, ap₂, ◌∙◌, subst, arith, ◌+◌, ◌&&◌}
+use Rattle.std.proofs.Common.{refl, sym, ap, ◌∙◌, subst, arith, ◌+◌, ◌-◌, ◌&&◌, append_assoc, append-nil, length-append}
 use Rattle.std.specs.Prelude.{◌==◌, nat_le}
-use Rattle.std.proofs.lemmas.Bool.{and_parts, eqb-true}
+use Rattle.std.specs.List.{AllPass}
+use Rattle.std.proofs.lemmas.Bool.{and_parts, eqb-true, false≢true}
 use Rattle.std.proofs.lemmas.Bool.Decides.{nat_tests}
 use Rattle.md_engine.specs.declared.configuration.ParseOptions.{ParseOptions}
 use Rattle.md_engine.specs.declared.event.Event.{Event}
-use Rattle.md_engine.specs.declared.event.Name.TheVariants.{HeadingAtx}
+use Rattle.md_engine.specs.declared.event.Name.TheVariants.{HeadingAtx, HeadingAtxSequence, SpaceOrTab}
 use Rattle.md_engine.specs.declared.event.Point.{Point}
 use Rattle.md_engine.specs.declared.tokenizer.Line.{Line}
+use Rattle.md_engine.specs.declared.tokenizer.TheConstants.Scratch.{REST}
 use Rattle.md_engine.specs.Meaning.{Cell}
-use Rattle.md_leaves.specs.HeadingRule.{Apart, Run, White, begun, closes, goes_on, heading_inside, is_heading}
-use Rattle.md_leaves.specs.HeadingRule.{is_heading_line, is_opening, opens, runs}
-use Rattle.md_leaves.specs.HeadingTitle.{line_runs}
-use Rattle.md_seam.specs.Ahead.{line_cells}
-use Rattle.md_seam.specs.Events.Nested.{around}
+use Rattle.md_leaves.specs.Heading.{text_begun, text_from}
+use Rattle.md_leaves.specs.HeadingRule.{gap_inside, hashes_inside, heading_inside, is_heading, is_heading_line}
+use Rattle.md_leaves.specs.HeadingRule.{is_opening, text_inside}
+use Rattle.md_leaves.specs.HeadingRuns.{Apart, line_runs, text_events}
+use Rattle.md_leaves.specs.HeadingTitle.{flow_title, text_of, title_of}
+use Rattle.md_leaves.proofs.TitleLemmas.{hashes-some, title-whole}
+use Rattle.md_leaves.proofs.TitleRuns.{hash-runs, is_hash, pass-first, pass-rest, white-runs}
+use Rattle.md_leaves.proofs.TitleTexts.{Parted, parted}
+use Rattle.md_seam.specs.Ahead.{begins_white, point_after, white_end, white_rest}
+use Rattle.md_seam.specs.Events.Nested.{around, enter, exit, pair}
 use Rattle.md_seam.specs.Events.Places.{past_byte, past_text}
-use Rattle.md_seam.specs.Spaces.{small_indent}
+use Rattle.md_seam.specs.Lent.{whole_from}
+use Rattle.md_seam.specs.Spaces.{any_size, small_indent}
+use Rattle.md_seam.specs.WholeLine.{whole_line}
+use Rattle.md_meaning.specs.Bytes.{begins}
+use Rattle.md_meaning.specs.Lines.{without_ending}
 use Rattle.md_meaning.specs.Rest.{Rest, has_small_indent, is_white, run_len, trim_start}
-use Rattle.md_seam.proofs.FeedLines.{Stops, bytes_of, cell, columns_more, spread, tab_cells}
-use Rattle.md_seam.proofs.RestCells.{RestAt, rest_cells}
 use Rattle.md_meaning.proofs.TextsLemmas.{NoEnding}
-use Rattle.md_tables.proofs.RunSpread.{AreSpread, HaveWhite, bytes-run, front-run}
+use Rattle.md_seam.proofs.AheadLemmas.{none-end, none-rest, white-all}
+use Rattle.md_seam.proofs.FeedLines.{Stops, byte-one, byte_cells, bytes_of, cell, columns_more, next_column}
+use Rattle.md_seam.proofs.FeedLines.{past_text-column, past_text-whole, spread, spread-end, stops-white, tab_cells}
+use Rattle.md_seam.proofs.RestCells.{RestAt, rest_cells}
 use Rattle.md_frame.specs.RestLine.{rest_line}
 use Rattle.md_leaf_rooms.specs.Leaf.HeadingAtx.{heading_leaf}
+use Rattle.md_frame.proofs.LineTexts.{no_ending-parts, past-whole, without-none}
 use Rattle.md_frame.proofs.MarkRuns.Fits.{Tells, line-fits}
-use Rattle.md_frame.proofs.RestFacts.{Indented, rest-line_end, rest-no_ending, rest-same, small-indented}
-use Rattle.md_seam.proofs.RestLines.{spread-line}
+use Rattle.md_frame.proofs.RestFacts.{Indented, rest-line_end, rest-no_ending, rest-same, rest-trim, small-indented}
+use Rattle.md_frame.proofs.TextBehind.{whole-rest}
 
 -- Where it stands.
 
@@ -137,39 +150,337 @@ heading-fits options said text behind r p stop is h k short =
 
 -- What it adds.
 
-abbrev heading_turns : Run → Point → List Event → List Event
-heading_turns run p es = cond (goes_on run 9) es (closes run p ++ opens White p ++ es)
+-- The cells of two pieces of a line.
+spread-both : (said : Line) (xs ys : List ℕ) (p : Point) (stop : List Cell) →
+    spread said (xs ++ ys) p ++ stop ≡ spread said xs p ++ (spread said ys (past_text xs p) ++ stop)
+spread-both said [] ys p stop = refl
+spread-both said (b ∷ xs) ys p stop =
+    append_assoc (byte_cells said b p) (spread said (xs ++ ys) (past_byte b p)) stop
+    ∙ ap (λ (l : List Cell). byte_cells said b p ++ l) (spread-both said xs ys (past_byte b p) stop)
+    ∙ sym
+    (append_assoc (byte_cells said b p) (spread said xs (past_byte b p))
+    (spread said ys (past_text xs (past_byte b p)) ++ stop))
 
-heading-are : AreSpread Run White heading_turns runs line_runs
-heading-are = record {
-  none = λ run p. refl;
-  byte = λ run b line cs bs p more.
-      ap₂ (λ (xs zs : List Event). cond (goes_on run b) xs (closes run p ++ opens (begun b) p ++ zs)) (more run)
-      (more (begun b));
-  column = column;
-  tab = tab;
-  more = λ byte at line cs q e. rw e refl;
-}
+-- Whitespace in front.
+
+-- cells each of which is whitespace
+abbrev AreWhite : List Cell → Type 0
+AreWhite [] = Unit {0}
+AreWhite (c ∷ cs) = (is_white c.byte ≡ true) × AreWhite cs
+
+white-append : (xs ys : List Cell) → AreWhite xs → AreWhite ys → AreWhite (xs ++ ys)
+white-append [] ys h k = k
+white-append (c ∷ xs) ys h k = (h.0, white-append xs ys h.1 k)
+
+white-tab : (said : Line) (n b : ℕ) (p : Point) → is_white b ≡ true → AreWhite (tab_cells said n b p)
+white-tab said zero b p e = (e, tt)
+white-tab said (suc n) b p e = (e, white-tab said n 32 (next_column p) refl)
+
+white-byte : (said : Line) (b : ℕ) (p : Point) → is_white b ≡ true → AreWhite (byte_cells said b p)
+white-byte said b p e = go (b == 9)
   where
-    column : (run : Run) (at : Point) (line : Line) (cs : List Cell) (p : Point) →
-        runs run (cell 9 at line ∷ cs) p ≡ heading_turns run p (runs White cs at)
-    column Apart at line cs p = refl
-    column _ at line cs p = refl
+    go : (t : Bool) → AreWhite (cond t (tab_cells said (columns_more p) 9 p) (cell b (past_byte b p) said ∷ []))
+    go true = white-tab said (columns_more p) 9 p refl
+    go false = (e, tt)
 
-    tab : (run : Run) (bs : List ℕ) (p : Point) →
-        line_runs run (9 ∷ bs) p ≡ heading_turns run p (line_runs White bs (past_byte 9 p))
-    tab Apart bs p = refl
-    tab _ bs p = refl
+white-spread : (said : Line) (bytes : List ℕ) (p : Point) → AllPass is_white bytes → AreWhite (spread said bytes p)
+white-spread said [] p h = tt
+white-spread said (b ∷ bs) p h =
+    white-append (byte_cells said b p) (spread said bs (past_byte b p))
+    (white-byte said b p (pass-first is_white b bs h))
+    (white-spread said bs (past_byte b p) (pass-rest is_white b bs h))
 
-heading-white : HaveWhite Run White Apart runs
-heading-white = record {
-  none = λ q. refl;
-  dark = λ c cs q e. rw e refl;
-  more = λ c cs q e. rw e refl;
-  opens = λ c cs p e. rw e refl;
-}
+-- where no whitespace is left, such cells are what was taken
+record Taken (room : ℕ) (xs rest : List Cell) (p : Point) : Type 0 where
+  left : white_rest room (xs ++ rest) ≡ rest
+  end : white_end room (xs ++ rest) p ≡ point_after xs p
 
--- What it adds for the cells of the rest of a line are the runs of its bytes.
+white-taken : (room : ℕ) (xs rest : List Cell) (p : Point) → AreWhite xs → begins_white rest ≡ false →
+    begins_white (white_rest room (xs ++ rest)) ≡ false → Taken room xs rest p
+white-taken room [] rest p white e h = record { left = none-rest room rest e; end = none-end room rest p e }
+white-taken zero (c ∷ xs) rest p white e h = absurd (false≢true (sym h ∙ white.0))
+white-taken (suc room) (c ∷ xs) rest p white e h =
+    let more : Taken room xs rest c.after = white-taken room xs rest c.after white.1 e
+    (sym
+    (ap (λ (t : Bool). begins_white (cond t (white_rest room (xs ++ rest)) (c ∷ (xs ++ rest)))) white.0)
+    ∙ h) in
+    record {
+      left = ap (λ (t : Bool). cond t (white_rest room (xs ++ rest)) (c ∷ (xs ++ rest))) white.0 ∙ more.left;
+      end = ap (λ (t : Bool). cond t (white_end room (xs ++ rest) c.after) p) white.0 ∙ more.end;
+    }
+
+-- a line goes on without whitespace by its cells where it does by its bytes
+spread-dark : (said : Line) (bytes : List ℕ) (p : Point) (stop : List Cell) → begins is_white bytes ≡ false →
+    Stops stop → begins_white (spread said bytes p ++ stop) ≡ false
+spread-dark said [] p stop e k = stops-white stop k
+spread-dark said (b ∷ bs) p stop e k =
+    ap (λ (l : List Cell). begins_white ((l ++ spread said bs (past_byte b p)) ++ stop)) (byte-one said b p e) ∙ e
+
+-- so whitespace in front of other bytes is taken as a whole
+spread-taken : (room : ℕ) (said : Line) (white bytes : List ℕ) (p : Point) (stop : List Cell) →
+    AllPass is_white white → begins is_white bytes ≡ false → Stops stop → 1 ≤ p.column →
+    let rest = spread said bytes (past_text white p) ++ stop in
+    begins_white (white_rest room (spread said white p ++ rest)) ≡ false →
+    (white_rest room (spread said white p ++ rest) ≡ rest) ×
+    (white_end room (spread said white p ++ rest) p ≡ past_text white p)
+spread-taken room said white bytes p stop are dark k one h =
+    let rest = spread said bytes (past_text white p) ++ stop in
+    let taken : Taken room (spread said white p) rest p = white-taken room (spread said white p) rest p
+    (white-spread said white p are) (spread-dark said bytes (past_text white p) stop dark k) h in
+    (taken.left, taken.end ∙ spread-end said white p one)
+
+-- it begins with whitespace, if there is some
+byte-white : (said : Line) (b : ℕ) (p : Point) (rest : List Cell) → is_white b ≡ true →
+    begins_white (byte_cells said b p ++ rest) ≡ true
+byte-white said b p rest e = go (b == 9) (columns_more p)
+  where
+    go : (t : Bool) (n : ℕ) →
+        begins_white (cond t (tab_cells said n 9 p) (cell b (past_byte b p) said ∷ []) ++ rest) ≡ true
+    go true zero = refl
+    go true (suc n) = refl
+    go false n = e
+
+spread-white : (said : Line) (b : ℕ) (bs : List ℕ) (p : Point) (rest : List Cell) → is_white b ≡ true →
+    begins_white (spread said (b ∷ bs) p ++ rest) ≡ true
+spread-white said b bs p rest e =
+    ap begins_white (append_assoc (byte_cells said b p) (spread said bs (past_byte b p)) rest)
+    ∙ byte-white said b p (spread said bs (past_byte b p) ++ rest) e
+
+-- the events of whitespace, and then of what follows it
+white-events : (said : Line) (white bytes : List ℕ) (p : Point) (stop : List Cell) (some none : List Event) →
+    AllPass is_white white → begins is_white bytes ≡ false → Stops stop →
+    let q = past_text white p in
+    (white ≡ [] → some ≡ none) →
+    cond (begins_white (spread said white p ++ (spread said bytes q ++ stop))) (pair SpaceOrTab p q ++ some) none ≡
+    line_runs Apart white p ++ some
+white-events said [] bytes p stop some none are dark k same =
+    ap (λ (t : Bool). cond t (pair SpaceOrTab p p ++ some) none) (spread-dark said bytes p stop dark k)
+    ∙ sym (same refl)
+white-events said (b ∷ bs) bytes p stop some none are dark k same =
+    let q = past_text (b ∷ bs) p in
+    ap (λ (t : Bool). cond t (pair SpaceOrTab p q ++ some) none)
+    (spread-white said b bs p (spread said bytes q ++ stop) (pass-first is_white b bs are))
+    ∙ ap (λ (es : List Event). es ++ some) (sym (white-runs b bs p are))
+
+-- The text, behind a byte.
+text-inside : (said : Line) (bytes : List ℕ) (p : Point) (stop : List Cell) → NoEnding bytes → Stops stop →
+    p.vs ≡ 0 → 1 ≤ p.column → text_inside (spread said bytes p ++ stop) p ≡ text_events bytes p
+text-inside said bytes p stop none k whole one =
+    ap (λ (l : List ℕ). text_from p (text_begun p REST) l) line
+    ∙ ap (λ (t : Bool). cond t (text_events (without_ending bytes) p) []) here
+    ∙ ap (λ (l : List ℕ). text_events l p) (without-none bytes none)
+  where
+    r : Rest
+    r = record { column = p.column - 1; spaces = 0; bytes = bytes }
+
+    line : whole_line p (spread said bytes p ++ stop) ≡ bytes
+    line = ap (λ (x : Rest). x.bytes) (whole-rest said r p stop none whole (omega arith) k)
+
+    here : ((p.vs == 0) && (p.index == whole_from p)) ≡ true
+    here = rw whole (grind (arith, nat_tests))
+
+-- Behind the opening sequence.
+gap-inside : (said : Line) (gap bytes : List ℕ) (p : Point) (stop : List Cell) → AllPass is_white gap →
+    begins is_white bytes ≡ false → NoEnding bytes → Stops stop → p.vs ≡ 0 → 1 ≤ p.column →
+    length (spread said gap p ++ (spread said bytes (past_text gap p) ++ stop)) ≤ any_size →
+    gap_inside (spread said gap p ++ (spread said bytes (past_text gap p) ++ stop)) p ≡
+    line_runs Apart gap p ++ text_events bytes (past_text gap p)
+gap-inside said gap bytes p stop are dark none k whole one short =
+    ap (λ (end : Point). by end (white_rest any_size cells)) taken.1
+    ∙ ap (by q) taken.0
+    ∙ ap (λ (es : List Event). cond (begins_white cells) (pair SpaceOrTab p q ++ es) (text_inside cells p)) text
+    ∙ white-events said gap bytes p stop (text_events bytes q) (text_inside cells p) are dark k same
+  where
+    q : Point
+    q = past_text gap p
+
+    cells : List Cell
+    cells = spread said gap p ++ (spread said bytes q ++ stop)
+
+    by : Point → List Cell → List Event
+    by end rest = cond (begins_white cells) (pair SpaceOrTab p end ++ text_inside rest end) (text_inside cells p)
+
+    taken : (white_rest any_size cells ≡ spread said bytes q ++ stop) × (white_end any_size cells p ≡ q)
+    taken = spread-taken any_size said gap bytes p stop are dark k one (white-all any_size cells short)
+
+    text : text_inside (spread said bytes q ++ stop) q ≡ text_events bytes q
+    text =
+        text-inside said bytes q stop none k (past_text-whole gap p whole) (past_text-column gap p one)
+
+    same : gap ≡ [] → text_events bytes q ≡ text_inside cells p
+    same e =
+        sym
+        (ap (λ (g : List ℕ). text_inside (spread said g p ++ (spread said bytes (past_text g p) ++ stop)) p) e
+        ∙ text-inside said bytes p stop none k whole one
+        ∙ ap (λ (g : List ℕ). text_events bytes (past_text g p)) (sym e))
+
+-- In it.
+
+-- what is no `#` ends it
+sequence-ends : (said : Line) (bytes : List ℕ) (p : Point) (stop : List Cell) → begins is_hash bytes ≡ false →
+    Stops stop →
+    hashes_inside (spread said bytes p ++ stop) p ≡
+    exit HeadingAtxSequence p ∷ gap_inside (spread said bytes p ++ stop) p
+sequence-ends said [] p [] e k = refl
+sequence-ends said [] p (c ∷ cs) e k =
+    let other : (c.byte == 35) ≡ false = ap (λ (b : ℕ). b == 35) (eqb-true c.byte 10 k) in
+    ap (λ (t : Bool). cond t (hashes_inside cs c.after) (exit HeadingAtxSequence p ∷ gap_inside (c ∷ cs) p)) other
+sequence-ends said (b ∷ bs) p stop e k = go (b == 9) (columns_more p)
+  where
+    left : List Cell
+    left = spread said bs (past_byte b p)
+
+    Ends : List Cell → Type 0
+    Ends cells = hashes_inside cells p ≡ exit HeadingAtxSequence p ∷ gap_inside cells p
+
+    go : (t : Bool) (n : ℕ) →
+        Ends ((cond t (tab_cells said n 9 p) (cell b (past_byte b p) said ∷ []) ++ left) ++ stop)
+    go true zero = refl
+    go true (suc n) = refl
+    go false n =
+        let first : Cell = cell b (past_byte b p) said in
+        ap
+        (λ (t : Bool).
+        cond t (hashes_inside (left ++ stop) (past_byte b p))
+        (exit HeadingAtxSequence p ∷ gap_inside (first ∷ (left ++ stop)) p)) e
+
+-- each `#` is one cell
+hashes-inside : (said : Line) (hashes bytes : List ℕ) (p : Point) (stop : List Cell) → AllPass is_hash hashes →
+    begins is_hash bytes ≡ false → Stops stop →
+    let q = past_text hashes p in
+    hashes_inside (spread said hashes p ++ (spread said bytes q ++ stop)) p ≡
+    exit HeadingAtxSequence q ∷ gap_inside (spread said bytes q ++ stop) q
+hashes-inside said [] bytes p stop are other k = sequence-ends said bytes p stop other k
+hashes-inside said (b ∷ bs) bytes p stop are other k =
+    let here : (b == 35) ≡ true = pass-first is_hash b bs are in
+    let black : is_white b ≡ false = ap is_white (eqb-true b 35 here) in
+    let more : List Cell = spread said bs (past_byte b p) in
+    let rest : List Cell = spread said bytes (past_text (b ∷ bs) p) ++ stop in
+    ap (λ (l : List Cell). hashes_inside ((l ++ more) ++ rest) p) (byte-one said b p black)
+    ∙ ap
+    (λ (t : Bool).
+    cond t (hashes_inside (more ++ rest) (past_byte b p))
+    (exit HeadingAtxSequence p ∷ gap_inside (cell b (past_byte b p) said ∷ (more ++ rest)) p)) here
+    ∙ hashes-inside said bs bytes (past_byte b p) stop (pass-rest is_hash b bs are) other k
+
+-- The opening sequence has a `#`.
+sequence-inside : (said : Line) (hashes bytes : List ℕ) (p : Point) (stop : List Cell) → (hashes ≡ [] → ⊥) →
+    AllPass is_hash hashes → begins is_hash bytes ≡ false → Stops stop →
+    let q = past_text hashes p in
+    enter HeadingAtxSequence p ∷ hashes_inside (spread said hashes p ++ (spread said bytes q ++ stop)) p ≡
+    line_runs Apart hashes p ++ gap_inside (spread said bytes q ++ stop) q
+sequence-inside said [] bytes p stop some are other k = absurd (some refl)
+sequence-inside said (b ∷ bs) bytes p stop some are other k =
+    let q = past_text (b ∷ bs) p in
+    ap (λ (es : List Event). enter HeadingAtxSequence p ∷ es) (hashes-inside said (b ∷ bs) bytes p stop are other k)
+    ∙ ap (λ (es : List Event). es ++ gap_inside (spread said bytes q ++ stop) q) (sym (hash-runs b bs p are))
+
+-- What stands in a heading, where its indent may be so large.
+abbrev front_inside : ℕ → List Cell → Point → List Event
+front_inside room cells p =
+    let q = white_end room cells p in
+    cond (begins_white cells) (pair SpaceOrTab p q) []
+    ++ enter HeadingAtxSequence q ∷ hashes_inside (white_rest room cells) q
+
+-- A tab that is cut is whitespace as well as one that is not.
+indent-same : (room : ℕ) (said : Line) (at : Point) (cs : List Cell) (p : Point) →
+    front_inside room (cell 32 at said ∷ cs) p ≡ front_inside room (cell 9 at said ∷ cs) p
+indent-same zero said at cs p = refl
+indent-same (suc room) said at cs p = refl
+
+dark-same : (room : ℕ) (said : Line) (at : Point) (cs : List Cell) →
+    begins_white (white_rest room (cell 32 at said ∷ cs)) ≡ begins_white (white_rest room (cell 9 at said ∷ cs))
+dark-same zero said at cs = refl
+dark-same (suc room) said at cs = refl
+
+-- By the cells of a line the same stands in it as by its bytes.
+front-inside : (room : ℕ) (said : Line) (line : List ℕ) (p : Point) (stop : List Cell) → NoEnding line → Stops stop →
+    1 ≤ p.column → begins_white (white_rest room (spread said line p ++ stop)) ≡ false →
+    length (spread said line p ++ stop) ≤ any_size → is_heading (trim_start line) ≡ true →
+    front_inside room (spread said line p ++ stop) p ≡ flow_title (title_of line p)
+front-inside room said line p stop none k one room_is short heading =
+    ap (λ (l : List Cell). front_inside room l p) cut
+    ∙ ap (λ (q : Point). by q (white_rest room cells)) taken.1
+    ∙ ap (by p1) taken.0
+    ∙ ap (λ (es : List Event). es ++ enter HeadingAtxSequence p1 ∷ hashes_inside left p1) indent
+    ∙ ap (λ (es : List Event). line_runs Apart x.indent p ++ es)
+    (ap (λ (l : List Cell). enter HeadingAtxSequence p1 ∷ hashes_inside l p1)
+    (spread-both said x.hashes (x.gap ++ text) p1 stop)
+    ∙ sequence-inside said x.hashes (x.gap ++ text) p1 stop (hashes-some line x.hashes x.depth heading)
+    x.hashes_are x.behind_hashes k
+    ∙ ap (λ (es : List Event). line_runs Apart x.hashes p1 ++ es)
+    (ap (λ (l : List Cell). gap_inside l p2) (spread-both said x.gap text p2 stop)
+    ∙ gap-inside said x.gap text p2 stop x.gap_is x.behind_gap text_none k (past-whole x.hashes p1 some)
+    (past_text-column x.hashes p1 (past_text-column x.indent p one)) fits))
+    ∙ sym (title-whole line x p)
+  where
+    x : Parted line
+    x = parted line
+
+    text : List ℕ
+    text = text_of line ++ x.back
+
+    p1 : Point
+    p1 = past_text x.indent p
+
+    p2 : Point
+    p2 = past_text x.hashes p1
+
+    p3 : Point
+    p3 = past_text x.gap p2
+
+    -- behind the indent
+    left : List Cell
+    left = spread said (x.hashes ++ (x.gap ++ text)) p1 ++ stop
+
+    cells : List Cell
+    cells = spread said x.indent p ++ left
+
+    cut : spread said line p ++ stop ≡ cells
+    cut =
+        ap (λ (l : List ℕ). spread said l p ++ stop) x.whole
+        ∙ spread-both said x.indent (x.hashes ++ (x.gap ++ text)) p stop
+
+    by : Point → List Cell → List Event
+    by q rest =
+        cond (begins_white cells) (pair SpaceOrTab p q) [] ++ enter HeadingAtxSequence q ∷ hashes_inside rest q
+
+    taken : (white_rest room cells ≡ left) × (white_end room cells p ≡ p1)
+    taken =
+        spread-taken room said x.indent (x.hashes ++ (x.gap ++ text)) p stop x.indent_is x.behind_indent k one
+        (sym (ap (λ (l : List Cell). begins_white (white_rest room l)) cut) ∙ room_is)
+
+    indent : cond (begins_white cells) (pair SpaceOrTab p p1) [] ≡ line_runs Apart x.indent p
+    indent =
+        white-events said x.indent (x.hashes ++ (x.gap ++ text)) p stop [] [] x.indent_is x.behind_indent k
+        (λ e. refl)
+        ∙ append-nil (line_runs Apart x.indent p)
+
+    some : 0 < length x.hashes
+    some =
+        let least : nat_le 1 (run_len 35 (trim_start line)) ≡
+        true = (and_parts (nat_le 1 (run_len 35 (trim_start line))) (is_opening 0 (trim_start line)) heading).0 in
+        let depth : 1 ≤ run_len 35 (trim_start line) = grind (arith, nat_tests, least) in
+        omega (arith, x.depth, depth)
+
+    text_none : NoEnding text
+    text_none =
+        (no_ending-parts x.gap text
+        (no_ending-parts x.hashes (x.gap ++ text)
+        (no_ending-parts x.indent (x.hashes ++ (x.gap ++ text)) (subst NoEnding x.whole none)).1).1).1
+
+    fits : length (spread said x.gap p2 ++ (spread said text p3 ++ stop)) ≤ any_size
+    fits =
+        let behind : List Cell = spread said x.gap p2 ++ (spread said text p3 ++ stop) in
+        let whole : length (spread said line p ++ stop) ≡
+        length (spread said x.indent p) + length left = ap length cut ∙ length-append (spread said x.indent p) left in
+        let hashes : length left ≡ length (spread said x.hashes p1) + length behind = ap length
+        (spread-both said x.hashes (x.gap ++ text) p1 stop
+        ∙ ap (λ (l : List Cell). spread said x.hashes p1 ++ l) (spread-both said x.gap text p2 stop))
+        ∙ length-append (spread said x.hashes p1) behind in
+        omega (arith, whole, hashes, short)
+
+-- What it adds for the cells of the rest of a line are the parts of its bytes.
 pub heading-adds : (options : ParseOptions) (said : Line) (text behind : List ℕ) (r : Rest) (p : Point)
     (stop : List Cell) →
     RestAt text behind r p → NoEnding r.bytes → Stops stop → length (rest_cells said r p ++ stop) < 2 ^ 63 →
@@ -184,22 +495,34 @@ heading-adds options said text behind r p stop is h k short starts =
     cells : List Cell
     cells = rest_cells said r p ++ stop
 
+    room : ℕ
+    room = small_indent options
+
     one : 1 ≤ p.column
     one = omega (arith, is.column)
 
+    parts : ((options.constructs.heading_atx && has_small_indent options r) ≡ true) ×
+        (is_heading (trim_start r.bytes) ≡ true)
+    parts =
+        and_parts (options.constructs.heading_atx && has_small_indent options r) (is_heading (trim_start r.bytes))
+        starts
+
     small : has_small_indent options r ≡ true
-    small =
-        (and_parts options.constructs.heading_atx (has_small_indent options r)
-        (and_parts (options.constructs.heading_atx && has_small_indent options r)
-        (is_heading (trim_start r.bytes)) starts).0).1
+    small = (and_parts options.constructs.heading_atx (has_small_indent options r) parts.0).1
 
     indented : Indented options said r p stop
     indented = small-indented options said text behind r p stop is h k short small
 
-    inside : heading_inside options cells p ≡ line_runs Apart (rest_line r) p
+    size : length cells ≡ length (spread said (rest_line r) p ++ stop)
+    size = rest-same ℕ length said (λ at cs. refl) r p stop one is.cut
+
+    inside : heading_inside options cells p ≡ flow_title (title_of (rest_line r) p)
     inside =
-        front-run Run White Apart runs heading-white (small_indent options) cells p indented.none
-        ∙ rest-same (List Event) (λ (l : List Cell). runs Apart (line_cells l) p) said
-        (λ at cs. refl) r p stop one is.cut
-        ∙ ap (λ (l : List Cell). runs Apart l p) (spread-line said (rest_line r) p stop (rest-no_ending r h) k)
-        ∙ bytes-run Run White heading_turns runs line_runs heading-are Apart said (rest_line r) p one
+        rest-same (List Event) (λ (l : List Cell). front_inside room l p) said
+        (λ at cs. indent-same room said at cs p) r p stop one is.cut
+        ∙ front-inside room said (rest_line r) p stop (rest-no_ending r h) k one
+        (sym
+        (rest-same Bool (λ (l : List Cell). begins_white (white_rest room l)) said (dark-same room said) r p stop one
+        is.cut)
+        ∙ indented.none)
+        (omega (arith, size, short)) (ap is_heading (rest-trim r) ∙ parts.1)

@@ -3,9 +3,10 @@ use Rattle.std.proofs.Common.{ℕ, List, ◌++◌, take, refl}
 use Rattle.std.specs.Prelude.{Option, Some, None}
 use Rattle.md_engine.specs.declared.event.Event.{Event}
 use Rattle.md_engine.specs.declared.event.Point.{Point}
-use Rattle.md_leaves.specs.HeadingRule as heading
+use Rattle.md_leaves.specs.HeadingRuns as heading
+use Rattle.md_leaves.specs.HeadingRuns.{line_runs}
 use Rattle.md_leaves.specs.HeadingText.{linked_text}
-use Rattle.md_leaves.specs.HeadingTitle.{Title, front_len, line_runs, title_of}
+use Rattle.md_leaves.specs.HeadingTitle.{Title, front_len, title_of}
 use Rattle.md_seam.specs.declared.inline.Chunk.{Chunk}
 use Rattle.md_seam.proofs.EndingsLemmas.{AreOthers, others-append}
 use Rattle.md_leaf_rooms.proofs.HeadingAtx.Places.{back_bytes, text_end}
@@ -16,13 +17,11 @@ closes-others : (run : heading.Run) (p : Point) → AreOthers (heading.closes ru
 closes-others heading.Apart p = refl
 closes-others heading.White p = refl
 closes-others heading.Hashes p = refl
-closes-others heading.Text p = refl
 
 opens-others : (run : heading.Run) (p : Point) → AreOthers (heading.opens run p)
 opens-others heading.Apart p = refl
 opens-others heading.White p = refl
 opens-others heading.Hashes p = refl
-opens-others heading.Text p = refl
 
 runs-others : (run : heading.Run) (xs : List ℕ) (p : Point) → AreOthers (line_runs run xs p)
 runs-others run xs p =

@@ -9,8 +9,8 @@ use Rattle.md_engine.specs.declared.event.Event.{Event}
 use Rattle.md_engine.specs.declared.event.Name.TheVariants as n
 use Rattle.md_engine.specs.declared.event.Point.{Point}
 use Rattle.md_containers.specs.ItemsStand.{IsPart}
-use Rattle.md_leaves.specs.HeadingRule as heading
-use Rattle.md_leaves.specs.HeadingTitle.{line_runs}
+use Rattle.md_leaves.specs.HeadingRuns as heading
+use Rattle.md_leaves.specs.HeadingRuns.{line_runs}
 use Rattle.md_leaves.proofs.TitleLemmas.{is_mark}
 use Rattle.md_leaves.proofs.TitleRuns.{pass-first, pass-rest}
 use Rattle.md_seam.specs.Events.Nested.{enter, exit}
@@ -52,7 +52,7 @@ hashes-are run (b ∷ xs) p h =
 
         by : (run : Run) → line_runs (heading_run run) (b ∷ xs) p ≡ mark_runs n.HeadingAtxSequence run 35 (b ∷ xs) p
         by Apart = rw (e, black) (ap (λ (es : List Event). enter n.HeadingAtxSequence p ∷ es) marks)
-        by Marks = rw e marks
+        by Marks = rw (e, black) marks
         by White =
             rw (e, black) (ap (λ (es : List Event). exit n.SpaceOrTab p ∷ enter n.HeadingAtxSequence p ∷ es) marks)
     go false e marks white = by run

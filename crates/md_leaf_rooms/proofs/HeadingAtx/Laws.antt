@@ -85,7 +85,7 @@ heading-facts options bytes r p q starts is =
 pub heading-laws : LeafLaws heading_resolver heading_leaf
 heading-laws = record {
   looked = λ options on. trial-looked options;
-  took = λ options cells h is few. trial-took options cells h is;
+  took = λ options cells h is few. trial-took options cells h is few;
   refused = λ options cells h asked. trial-refused options cells h;
   meets = λ options on r starts further. cc;
   shrinks = trial-shrinks;

@@ -6,9 +6,10 @@ use Rattle.md_engine.specs.declared.event.Event.{Event}
 use Rattle.md_engine.specs.declared.event.Name.{Name}
 use Rattle.md_engine.specs.declared.event.Name.TheVariants as n
 use Rattle.md_engine.specs.declared.event.Point.{Point}
-use Rattle.md_leaves.specs.HeadingRule.{Apart, Hashes, Run, Text as TextRun, White, begun, closes, goes_on, opens}
+use Rattle.md_leaves.specs.HeadingRuns.{Apart, Hashes, Run, White, begun, closes, goes_on, line_runs, linked_data}
+use Rattle.md_leaves.specs.HeadingRuns.{opens}
 use Rattle.md_leaves.specs.HeadingText.{linked_text}
-use Rattle.md_leaves.specs.HeadingTitle.{Title, front_len, line_runs, text_of, title_of, unread_title}
+use Rattle.md_leaves.specs.HeadingTitle.{Title, flow_title, front_len, text_of, title_of, unread_title}
 use Rattle.md_seam.specs.declared.inline.Chunk.{Chunk}
 use Rattle.md_seam.specs.Events.Nested.{exit}
 use Rattle.md_seam.specs.Events.Places.{past_byte, past_text}
@@ -31,13 +32,11 @@ closes-each : (P : Event → Type 0) → OfNames P → (run : Run) (p : Point) �
 closes-each P of Apart p = tt
 closes-each P of White p = (of.white _ refl, tt)
 closes-each P of Hashes p = (of.hashes _ refl, tt)
-closes-each P of TextRun p = (of.chunk _ refl, tt)
 
 opens-each : (P : Event → Type 0) → OfNames P → (run : Run) (p : Point) → Each P (opens run p)
 opens-each P of Apart p = tt
 opens-each P of White p = (of.white _ refl, tt)
 opens-each P of Hashes p = (of.hashes _ refl, tt)
-opens-each P of TextRun p = (of.chunk _ refl, tt)
 
 runs-each : (P : Event → Type 0) → OfNames P → (run : Run) (bs : List ℕ) (p : Point) → Each P (line_runs run bs p)
 runs-each P of run [] p = closes-each P of run p
@@ -58,14 +57,27 @@ text-each : (P : Event → Type 0) → OfNames P → (text : Option Chunk) → E
 text-each P of None = tt
 text-each P of (Some chunk) = (of.text _ refl, (of.chunk _ refl, (of.chunk _ refl, (of.text _ refl, tt))))
 
-title-each : (P : Event → Type 0) → OfNames P → (line : List ℕ) (p : Point) →
-    Each P (unread_title (title_of line p))
-title-each P of line p =
+data-each : (P : Event → Type 0) → OfNames P → (text : Option Chunk) → Each P (linked_data text)
+data-each P of None = tt
+data-each P of (Some chunk) = (of.chunk _ refl, (of.chunk _ refl, tt))
+
+-- and of what stands around these events
+title-each : (P : Event → Type 0) → OfNames P → (line : List ℕ) (p : Point) (text : List Event) → Each P text →
+    Each P ((title_of line p).front ++ text ++ (title_of line p).back)
+title-each P of line p text h =
     let title : Title = title_of line p in
-    each-append P (title.front ++ linked_text title.text) title.back
-    (each-append P title.front (linked_text title.text) (runs-each P of Apart (take (front_len line) line) p)
-    (text-each P of title.text))
+    each-append P (title.front ++ text) title.back
+    (each-append P title.front text (runs-each P of Apart (take (front_len line) line) p) h)
     (runs-each P of Apart (drop (front_len line + length (text_of line)) line) (text_end line p))
+
+unread-each : (P : Event → Type 0) → OfNames P → (line : List ℕ) (p : Point) →
+    Each P (unread_title (title_of line p))
+unread-each P of line p =
+    title-each P of line p (linked_text (title_of line p).text) (text-each P of (title_of line p).text)
+
+flow-each : (P : Event → Type 0) → OfNames P → (line : List ℕ) (p : Point) → Each P (flow_title (title_of line p))
+flow-each P of line p =
+    title-each P of line p (linked_data (title_of line p).text) (data-each P of (title_of line p).text)
 
 -- and of the heading itself
 around-each : (P : Event → Type 0) → ((e : Event) → e.name ≡ n.HeadingAtx → P e) → (line : List ℕ) (p : Point)
@@ -85,21 +97,22 @@ unspanned-parts = record {
   chunk = λ e is. rw is refl;
 }
 
-pub heading-unjoined : (line : List ℕ) (p : Point) → AreUnspanned (heading_around line p (line_runs Apart line p))
+pub heading-unjoined : (line : List ℕ) (p : Point) →
+    AreUnspanned (heading_around line p (flow_title (title_of line p)))
 heading-unjoined line p =
-    around-each IsUnspanned (λ e is. rw is refl) line p (line_runs Apart line p)
-    (runs-each IsUnspanned unspanned-parts Apart line p)
+    around-each IsUnspanned (λ e is. rw is refl) line p (flow_title (title_of line p))
+    (flow-each IsUnspanned unspanned-parts line p)
 
 pub heading-unspanned : (line : List ℕ) (p : Point) → AreUnspanned (heading_leaf.unread line p)
 heading-unspanned line p =
     around-each IsUnspanned (λ e is. rw is refl) line p (unread_title (title_of line p))
-    (title-each IsUnspanned unspanned-parts line p)
+    (unread-each IsUnspanned unspanned-parts line p)
 
 -- None is of a text or an underline.
 pub heading-unturned : (line : List ℕ) (p : Point) → AreUnturned (heading_leaf.unread line p)
 heading-unturned line p =
     around-each IsUnturned (λ e is. rw is refl) line p (unread_title (title_of line p))
-    (title-each IsUnturned
+    (unread-each IsUnturned
     (record {
       white = λ e is. rw is refl;
       hashes = λ e is. rw is refl;
@@ -123,13 +136,13 @@ heading-block = record {
   shuts = λ q. refl;
 }
 
-pub heading-alone : (line : List ℕ) (p : Point) → IsClosed (heading_around line p (line_runs Apart line p))
+pub heading-alone : (line : List ℕ) (p : Point) → IsClosed (heading_around line p (flow_title (title_of line p)))
 heading-alone line p =
-    closed-around n.HeadingAtx heading-block p (past_text line p) (line_runs Apart line p)
-    (runs-each IsUnset
+    closed-around n.HeadingAtx heading-block p (past_text line p) (flow_title (title_of line p))
+    (flow-each IsUnset
     (record {
       white = λ e is. rw is refl;
       hashes = λ e is. rw is refl;
       text = λ e is. rw is refl;
       chunk = λ e is. rw is refl;
-    }) Apart line p)
+    }) line p)

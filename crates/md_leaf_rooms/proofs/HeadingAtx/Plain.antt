@@ -4,8 +4,8 @@ use Rattle.std.specs.Prelude.{Some, None}
 use Rattle.md_engine.specs.declared.event.Event.{Event}
 use Rattle.md_engine.specs.declared.event.Name.TheVariants as n
 use Rattle.md_engine.specs.declared.event.Point.{Point}
-use Rattle.md_leaves.specs.HeadingRule.{Apart, Hashes, Run, Text as TextRun, White, closes, opens}
-use Rattle.md_leaves.specs.HeadingTitle.{Title, chunk_unless_empty, front_len, line_runs, text_of, title_of}
+use Rattle.md_leaves.specs.HeadingRuns.{Apart, Hashes, Run, White, chunk_unless_empty, closes, line_runs, opens}
+use Rattle.md_leaves.specs.HeadingTitle.{Title, front_len, text_of, title_of}
 use Rattle.md_seam.specs.declared.inline.Chunk.{Chunk}
 use Rattle.md_seam.specs.Events.Inline.{plain_chunk}
 use Rattle.md_seam.specs.Events.Nested.{enter, exit}
@@ -25,13 +25,11 @@ plain-closes : (bytes : List ℕ) (run : Run) (p : Point) → clear bytes p ≡ 
 plain-closes bytes Apart p h = plain-nil bytes
 plain-closes bytes White p h = plain-quiet bytes (closes White p) (tt, tt)
 plain-closes bytes Hashes p h = plain-cons bytes (exit n.HeadingAtxSequence p) [] refl h (plain-nil bytes)
-plain-closes bytes TextRun p h = plain-quiet bytes (closes TextRun p) (tt, tt)
 
 plain-opens : (bytes : List ℕ) (run : Run) (p : Point) → clear bytes p ≡ true → ArePlain bytes (opens run p)
 plain-opens bytes Apart p h = plain-nil bytes
 plain-opens bytes White p h = plain-quiet bytes (opens White p) (tt, tt)
 plain-opens bytes Hashes p h = plain-cons bytes (enter n.HeadingAtxSequence p) [] refl h (plain-nil bytes)
-plain-opens bytes TextRun p h = plain-quiet bytes (opens TextRun p) (tt, tt)
 
 -- what is left of runs
 plain-runs : (bytes : List ℕ) (run : Run) (xs : List ℕ) (p : Point) → clear bytes p ≡ true →

@@ -2,8 +2,7 @@
 use Rattle.std.proofs.Common.{ℕ, Bool, true, false, cond, List, [], ◌∷◌, ◌++◌}
 use Rattle.md_engine.specs.declared.event.Event.{Event}
 use Rattle.md_engine.specs.declared.event.Point.{Point}
-use Rattle.md_leaves.specs.HeadingRule.{Run, begun, closes, goes_on, opens}
-use Rattle.md_leaves.specs.HeadingTitle.{line_runs}
+use Rattle.md_leaves.specs.HeadingRuns.{Run, begun, closes, goes_on, line_runs, opens}
 use Rattle.md_seam.specs.Events.Places.{past_byte}
 
 -- a fact of events that holds where runs begin and end at points of this kind, which all points behind a byte are

@@ -2,7 +2,7 @@
 use Rattle.std.proofs.Common.{◌≡◌, ℕ, zero, suc, ◌+◌, ◌≤◌, Bool, true, false, cond, ◌&&◌, List, [], ◌∷◌, ◌++◌, length}
 use Rattle.std.proofs.Common.{take, drop, reverse, slice_range, refl, ap, sym, ◌∙◌, subst, drop-drop, inl, inr, ◌⊎◌}
 use Rattle.std.proofs.Common.{◌||◌, ◌<◌, arith}
-use Rattle.std.specs.Prelude.{◌==◌, nat_le, Option, Some, None, option_map}
+use Rattle.std.specs.Prelude.{◌==◌, nat_le, not, Option, Some, None, option_map}
 use Rattle.std.specs.List.{prefix_len}
 use Rattle.std.proofs.lemmas.Bool.{and_parts, eqb-true}
 use Rattle.std.proofs.lemmas.Bool.Decides.{nat_tests}
@@ -10,9 +10,11 @@ use Rattle.std.proofs.lemmas.List.Folds.{length-prefix_len}
 use Rattle.md_engine.specs.declared.event.Event.{Event}
 use Rattle.md_engine.specs.declared.event.Name.TheVariants as n
 use Rattle.md_engine.specs.declared.event.Point.{Point}
-use Rattle.md_leaves.specs.HeadingRule as rule
-use Rattle.md_leaves.specs.HeadingRule.{Apart, Hashes, Run, White, closes, goes_on, is_heading, opens}
-use Rattle.md_leaves.specs.HeadingTitle.{Title, chunk_unless_empty, front_len, line_runs, text_of, title_of}
+use Rattle.md_leaves.specs.HeadingRule.{is_heading}
+use Rattle.md_leaves.specs.HeadingRuns as runs
+use Rattle.md_leaves.specs.HeadingRuns.{Apart, Hashes, Run, White, chunk_unless_empty, closes, goes_on, line_runs}
+use Rattle.md_leaves.specs.HeadingRuns.{opens}
+use Rattle.md_leaves.specs.HeadingTitle.{Title, front_len, text_of, title_of}
 use Rattle.md_leaves.proofs.TitleLemmas.{title-fits}
 use Rattle.md_leaves.proofs.TitleRuns.{begun-hash, begun-white}
 use Rattle.md_seam.specs.declared.inline.Chunk.{Chunk}
@@ -88,16 +90,20 @@ run-goes run b bs p e =
     ap
     (λ (t : Bool).
     cond t (line_runs run bs (past_byte b p))
-    (closes run p ++ opens (rule.begun b) p ++ line_runs (rule.begun b) bs (past_byte b p))) e
+    (closes run p ++ opens (runs.begun b) p ++ line_runs (runs.begun b) bs (past_byte b p))) e
 
-run-turns : (run into : Run) (b : ℕ) (bs : List ℕ) (p : Point) → goes_on run b ≡ false → rule.begun b ≡ into →
+run-turns : (run into : Run) (b : ℕ) (bs : List ℕ) (p : Point) → goes_on run b ≡ false → runs.begun b ≡ into →
     line_runs run (b ∷ bs) p ≡ closes run p ++ opens into p ++ line_runs into bs (past_byte b p)
 run-turns run into b bs p e f =
     ap
     (λ (t : Bool).
     cond t (line_runs run bs (past_byte b p))
-    (closes run p ++ opens (rule.begun b) p ++ line_runs (rule.begun b) bs (past_byte b p))) e
+    (closes run p ++ opens (runs.begun b) p ++ line_runs (runs.begun b) bs (past_byte b p))) e
     ∙ ap (λ (x : Run). closes run p ++ opens x p ++ line_runs x bs (past_byte b p)) f
+
+-- a run of `#` goes on with `#`
+hash-goes : (b : ℕ) → (b == 35) ≡ true → goes_on Hashes b ≡ true
+hash-goes b e = ap (goes_on Hashes) (eqb-true b 35 e)
 
 -- The opening sequence.
 
@@ -161,12 +167,12 @@ read-opening bytes r first (b ∷ bs) p t l =
     go true e y f more =
         let size = count-one (λ (c : ℕ). c == 35) b bs e in
         let end : p.index + 1 + run_len 35 bs ≡ p.index + run_len 35 (b ∷ bs) = omega (arith, size) in
-        ap by (opening-hash b bs e) ∙ ap (read bytes r) (run-goes Hashes b (take (opening_len bs) bs) p e) ∙ more
+        ap by (opening-hash b bs e) ∙ ap (read bytes r) (run-goes Hashes b (take (opening_len bs) bs) p (hash-goes b e)) ∙ more
         ∙ ap to end
     go false e true f more =
         let left = take (prefix_len is_white bs) bs in
         ap by (opening-other b bs e ∙ count-one is_white b bs f)
-        ∙ ap (read bytes r) (run-turns Hashes White b left p e (begun-white b f))
+        ∙ ap (read bytes r) (run-turns Hashes White b left p (ap not f) (begun-white b f))
         ∙ read-quiet bytes (read_exit bytes (TextRole AsMarkers) p r) (line_runs White left (past_byte b p))
         (white-quiet bs (past_byte b p))
         ∙ read-markers bytes r first p t l
@@ -271,7 +277,6 @@ in-run : (run : Run) (p : Point) → InRun run (text_in run p)
 in-run Hashes p = (p, refl)
 in-run Apart p = refl
 in-run White p = refl
-in-run rule.Text p = refl
 
 -- a run begins
 read-opens : (bytes : List ℕ) (r : Reading) (run : Run) (p : Point) → r.text ≡ None →
@@ -279,7 +284,6 @@ read-opens : (bytes : List ℕ) (r : Reading) (run : Run) (p : Point) → r.text
 read-opens bytes r Hashes p t = refl
 read-opens bytes r Apart p t = ap (λ (x : Option Text). record r { text = x }) t
 read-opens bytes r White p t = ap (λ (x : Option Text). record r { text = x }) t
-read-opens bytes r rule.Text p t = ap (λ (x : Option Text). record r { text = x }) t
 
 -- a run behind the first one of markers says nothing
 read-closes : (bytes : List ℕ) (r : Reading) (heading : HeadingSoFar) (m : ℕ) (ms : List ℕ) (run : Run) (p : Point) →
@@ -304,7 +308,6 @@ read-closes bytes r heading m ms Hashes p l e t =
     ∙ ap (λ (x : Option OpenLeaf). record r { text = None; leaf = x }) (sym l)
 read-closes bytes r heading m ms Apart p l e t = ap (λ (x : Option Text). record r { text = x }) t
 read-closes bytes r heading m ms White p l e t = ap (λ (x : Option Text). record r { text = x }) t
-read-closes bytes r heading m ms rule.Text p l e t = ap (λ (x : Option Text). record r { text = x }) t
 
 -- so what is left of runs says nothing
 read-runs : (bytes : List ℕ) (r : Reading) (heading : HeadingSoFar) (m : ℕ) (ms : List ℕ) (run : Run) (line : List ℕ)
@@ -314,11 +317,11 @@ read-runs : (bytes : List ℕ) (r : Reading) (heading : HeadingSoFar) (m : ℕ) 
 read-runs bytes r heading m ms run [] p l e t = read-closes bytes r heading m ms run p l e t
 read-runs bytes r heading m ms run (b ∷ bs) p l e t =
     go (goes_on run b) refl (read-runs bytes r heading m ms run bs (past_byte b p) l e t)
-    (read-runs bytes (record r { text = text_in (rule.begun b) p }) heading m ms (rule.begun b) bs
-    (past_byte b p) l e (in-run (rule.begun b) p))
+    (read-runs bytes (record r { text = text_in (runs.begun b) p }) heading m ms (runs.begun b) bs
+    (past_byte b p) l e (in-run (runs.begun b) p))
   where
     into : Run
-    into = rule.begun b
+    into = runs.begun b
 
     mid : Reading
     mid = record r { text = text_in into p }

@@ -10,10 +10,10 @@ use Rattle.md_engine.specs.declared.event.Event.{Event}
 use Rattle.md_engine.specs.declared.event.Name.TheVariants as n
 use Rattle.md_engine.specs.declared.event.Point.{Point}
 use Rattle.md_containers.specs.ItemsStand.{IsPart}
-use Rattle.md_leaves.specs.Heading.{heading_link}
 use Rattle.md_leaves.specs.HeadingRule.{is_heading, is_opening}
+use Rattle.md_leaves.specs.HeadingRuns.{chunk_unless_empty, heading_link}
 use Rattle.md_leaves.specs.HeadingText.{linked_text}
-use Rattle.md_leaves.specs.HeadingTitle.{Title, chunk_unless_empty, front_len, text_of, title_of, unread_title}
+use Rattle.md_leaves.specs.HeadingTitle.{Title, front_len, text_of, title_of, unread_title}
 use Rattle.md_leaves.proofs.TitleLemmas.{behind-marks, front-marks, is_mark, title-fits, title-text}
 use Rattle.md_leaves.proofs.TitleRuns.{pass-first, pass-rest}
 use Rattle.md_meaning.specs.Rest.{Rest, run_len, trim_start}

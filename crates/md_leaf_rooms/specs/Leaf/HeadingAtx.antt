@@ -8,8 +8,8 @@ use Rattle.md_engine.specs.declared.state.flow.State.TheVariants as flow
 use Rattle.md_engine.specs.declared.state.heading_atx.State.TheVariants as its
 use Rattle.md_engine.specs.declared.tokenizer.held_leaf.HeldLeaf.TheVariants as held_leaf
 use Rattle.md_leaves.specs.Heading.{may_begin}
-use Rattle.md_leaves.specs.HeadingRule.{Apart, heading_at, heading_inside, is_heading, is_heading_line}
-use Rattle.md_leaves.specs.HeadingTitle.{Title, line_runs, title_of, unread_title}
+use Rattle.md_leaves.specs.HeadingRule.{heading_at, heading_inside, is_heading, is_heading_line}
+use Rattle.md_leaves.specs.HeadingTitle.{Title, flow_title, title_of, unread_title}
 use Rattle.md_seam.specs.declared.inline.Chunk.{Chunk}
 use Rattle.md_seam.specs.declared.inline.PartKind.TheVariants.{Text}
 use Rattle.md_seam.specs.Ahead.{line_end}
@@ -61,7 +61,7 @@ heading_leaf = record {
   holds = λ options on r. held_leaf.None;
   comes = λ options open_leaf r. Finished (heading_block r);
   block = heading_block;
-  added = λ options on line p. heading_around line p (line_runs Apart line p);
+  added = λ options on line p. heading_around line p (flow_title (title_of line p));
   unread = λ line p. heading_around line p (unread_title (title_of line p));
   done = λ bytes line p. heading_around line p (read_title bytes (title_of line p));
 }

@@ -25,7 +25,8 @@ use Rattle.md_code.proofs.FenceCells.{RunOf, marker-dark, marker-ten, run-walk}
 use Rattle.md_code.proofs.FenceFurther.{small-behind}
 use Rattle.md_seam.proofs.RestLines.{indent-trims, rest-past}
 use Rattle.md_code.proofs.FenceFurther as further
-use Rattle.md_code.proofs.FenceOpened.{marker-may, white-all}
+use Rattle.md_code.proofs.FenceOpened.{marker-may}
+use Rattle.md_seam.proofs.AheadLemmas.{white-all}
 use Rattle.md_code.proofs.FenceParts.{Stands, behind-agrees, behind_info, between, meta_point, prefix-take}
 use Rattle.md_code.proofs.FenceParts.{stands-behind}
 use Rattle.md_seam.specs.Ahead.{white_end, white_rest}

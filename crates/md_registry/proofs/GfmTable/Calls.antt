@@ -9,7 +9,7 @@ use Rattle.md_engine.specs.Scheme.{stands, work}
 use Rattle.md_engine.specs.World.{World, looks}
 use Rattle.md_engine.proofs.Loops.{CameHere, came-first, came-on, came-runs, came-stays, not_error}
 use Rattle.md_engine.proofs.Walks.{here-keeps}
-use Rattle.md_leaves.proofs.HeadingWords.{sees-from}
+use Rattle.md_leaves.proofs.HeadingCalls.{sees-from}
 use Rattle.md_tables.specs.GfmTable.{AnswersWith}
 use Rattle.md_tables.specs.GfmTable.AnswersWith.{ThatStays, ThatTook}
 use Rattle.md_tables.specs.Row.{name_at, row_transition}

@@ -3,7 +3,7 @@ use Rattle.md_engine.specs.declared.state.Name.{Name as StateName}
 use Rattle.md_engine.specs.declared.state.Name.TheVariants as n
 use Rattle.md_engine.specs.declared.state.State.{State}
 use Rattle.md_engine.specs.World.{World}
-use Rattle.md_leaves.specs.HeadingWords.{HeadingStep}
+use Rattle.md_leaves.specs.HeadingCalls.{HeadingStep}
 use Rattle.md_registry.specs.States.{FlowStep}
 
 pub heading-flows : (name : StateName) (w : World) (to : State)

@@ -4,7 +4,8 @@ use Rattle.md_engine.specs.declared.event.Point.{Point}
 use Rattle.md_engine.specs.Place.{IsPlaced}
 use Rattle.md_engine.specs.World.{setting_of, world}
 use Rattle.md_engine.proofs.Sound.{sound-moved}
-use Rattle.md_containers.proofs.Ahead.{StandsAhead, sound-put}
+use Rattle.md_engine.proofs.Sound.{sound-put}
+use Rattle.md_containers.proofs.Ahead.{StandsAhead}
 use Rattle.md_containers.proofs.QuotePrefix.{prefix-ahead}
 use Rattle.md_containers.proofs.block_quote.take_plain_prefix.Goals as goal
 

@@ -7,7 +7,7 @@ use Rattle.md_engine.specs.World.{setting_of, world}
 use Rattle.md_engine.proofs.Sound.{sound-moved}
 use Rattle.md_containers.specs.Ahead.{ahead}
 use Rattle.md_containers.specs.Item.{least_width}
-use Rattle.md_containers.proofs.Ahead.{sound-put}
+use Rattle.md_engine.proofs.Sound.{sound-put}
 use Rattle.md_containers.proofs.PlainItem.{indent-ahead}
 use Rattle.md_containers.proofs.plain_item.take_plain_indent.Goals as goal
 

@@ -6,7 +6,7 @@ use Rattle.md_engine.specs.Run.{RunsHere}
 use Rattle.md_engine.specs.World.{world}
 use Rattle.md_engine.proofs.StayLemmas.{within-world}
 use Rattle.md_engine.proofs.Walks.{runs-in}
-use Rattle.md_leaves.specs.HeadingWords.{HeadingStep}
+use Rattle.md_leaves.specs.HeadingCalls.{HeadingStep}
 use Rattle.md_registry.specs.States.{FlowStep}
 use Rattle.md_registry.proofs.FlowCalls.{called-once}
 use Rattle.md_registry.proofs.HeadingAtx.Calls.{heading-flows}
@@ -15,15 +15,15 @@ use Rattle.md_flow.proofs.at_once.call_heading.Goals as goal
 pub returns-in-AtBreak : goal.returns-in-AtBreak
 returns-in-AtBreak c =
     let w = world c.args.tokenizer.now in
-    let w' = world c.words.new.tokenizer in
+    let w' = world c.text.new.tokenizer in
     record {
       runs = λ fine.
-          subst (λ (x : HeadingState). RunsHere FlowStep (n.HeadingAtx x) w c.words.result w')
+          subst (λ (x : HeadingState). RunsHere FlowStep (n.HeadingAtx x) w c.text.result w')
           (sym c.in-AtBreak.is)
           (λ is_end s v named sees may.
-          runs-in HeadingStep FlowStep is_end s v c.words.result w'
-          (heading-flows) (c.words.ensures.runs fine is_end s v named sees may));
-      sees = c.words.ensures.sees;
+          runs-in HeadingStep FlowStep is_end s v c.text.result w'
+          (heading-flows) (c.text.ensures.runs fine is_end s v named sees may));
+      sees = c.text.ensures.sees;
     }
 
 pub returns-in-SequenceOpen : goal.returns-in-SequenceOpen

@@ -10,7 +10,7 @@ use Rattle.md_engine.specs.declared.state.State.{State}
 use Rattle.md_engine.specs.declared.state.State.TheVariants.{Next, Retry}
 use Rattle.md_engine.proofs.Keeps.{runs-setting}
 use Rattle.md_engine.proofs.Loops.{came-on, came-runs, not_error, plain_of, reading-same}
-use Rattle.md_leaves.proofs.HeadingWords.{sees-from}
+use Rattle.md_leaves.proofs.HeadingCalls.{sees-from}
 use Rattle.md_registry.specs.States.{FlowStep}
 use Rattle.md_registry.specs.Registry.{opener_front, openers}
 use Rattle.md_registry.proofs.LinesAtOnce.{stays-runs}

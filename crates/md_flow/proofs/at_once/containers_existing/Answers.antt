@@ -11,7 +11,7 @@ use Rattle.md_engine.specs.Scheme.{cells_left}
 use Rattle.md_engine.specs.World.{World, looks, world}
 use Rattle.md_engine.proofs.Loops.{CameHere, CameTo, call-sees, came-calls, came-first, not_error}
 use Rattle.md_engine.proofs.StayLemmas.{within-world}
-use Rattle.md_leaves.proofs.HeadingWords.{remains-of, sees-from}
+use Rattle.md_leaves.proofs.HeadingCalls.{remains-of, sees-from}
 use Rattle.md_registry.specs.AtOnce.{GoesAtOnce, asking_next}
 use Rattle.md_registry.specs.Flow.{existing_after_transition, existing_before_transition}
 use Rattle.md_registry.specs.States.{FlowStep}

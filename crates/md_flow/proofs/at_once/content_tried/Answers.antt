@@ -1,5 +1,6 @@
 use Rattle.std.proofs.Common.{arith}
-use Rattle.md_flow.proofs.SoundParts.{sound-put, sound-tried}
+use Rattle.md_engine.proofs.Sound.{sound-put}
+use Rattle.md_flow.proofs.SoundParts.{sound-tried}
 use Rattle.md_flow.proofs.at_once.content_tried.Goals as goal
 
 pub invariant_of-tokenizer-2 : goal.invariant_of-tokenizer-2

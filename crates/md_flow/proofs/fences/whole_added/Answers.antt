@@ -1,4 +1,4 @@
-use Rattle.md_flow.proofs.SoundParts.{sound-put}
+use Rattle.md_engine.proofs.Sound.{sound-put}
 use Rattle.md_flow.proofs.fences.whole_added.Goals as goal
 
 pub invariant_of-tokenizer-2 : goal.invariant_of-tokenizer-2

@@ -10,8 +10,8 @@ use Rattle.md_engine.proofs.Keeps.{runs-setting}
 use Rattle.md_engine.proofs.Loops.{Came, CameTo, call-runs, call-sees, came-first, came-runs, reading-same}
 use Rattle.md_engine.proofs.StayLemmas.{within-world}
 use Rattle.md_leaves.specs.Heading.{sees_text, sequence_open_transition}
-use Rattle.md_leaves.specs.HeadingWords.{HeadingStep}
-use Rattle.md_leaves.proofs.HeadingWords.{opening-ends, opening-remains, opening_ended, remains-of, sees-from}
+use Rattle.md_leaves.specs.HeadingCalls.{HeadingStep}
+use Rattle.md_leaves.proofs.HeadingCalls.{opening-ends, opening-remains, opening_ended, remains-of, sees-from}
 use Rattle.md_seam.specs.OneSpace.{IsOneSpace, spaced}
 use Rattle.md_seam.specs.Spaces.{is_current, sees_white}
 use Rattle.md_leaves.proofs.heading_atx.opens.Goals as goal
@@ -20,8 +20,8 @@ on-ok : {T E : Type 0} → (x : Result T E) (P : Type 0) → is_ok x ≡ true �
 on-ok (result.Ok v) P e h = h
 on-ok (result.Err v) P e h = cc
 
-pub words-requires : goal.words-requires
-words-requires c =
+pub text-requires : goal.text-requires
+text-requires c =
     let T = HeadingStep in
     let first = n.HeadingAtx its.SequenceOpen in
     let w = world c.args.tokenizer.now in
@@ -52,8 +52,8 @@ returns-then-is_one_space-3-clause-runs c = λ fine is_end s v named from may.
     subst (λ (z : World). CameTo T is_end t y (n.HeadingAtx its.AtBreak) z) (sym is)
     (opening-ends is_end t y w (came-first T first w is_end t y called saw here) c.requires.current
     (within-world c.args.tokenizer.now) one) in
-    came-runs T is_end first (n.HeadingAtx its.AtBreak) w u c.words.result (world c.words.new.tokenizer) came
-    (c.words.ensures.runs fine is_end) s v named from may
+    came-runs T is_end first (n.HeadingAtx its.AtBreak) w u c.text.result (world c.text.new.tokenizer) came
+    (c.text.ensures.runs fine is_end) s v named from may
 
 pub returns-then-is_one_space-3-clause-sees : goal.returns-then-is_one_space-3-clause-sees
 returns-then-is_one_space-3-clause-sees c = λ fine.
@@ -71,10 +71,10 @@ returns-then-is_one_space-3-clause-sees c = λ fine.
     let next : u.point.index < u.setting.limit =
     subst (λ (y : World). y.point.index < y.setting.limit) (sym is) one.next in
     let seen : u.current ≡ looks u = subst (λ (y : World). y.current ≡ looks y) (sym is) refl in
-    let same : (world c.words.new.tokenizer).setting ≡ u.setting =
-    runs-setting T true (Next (n.HeadingAtx its.AtBreak)) u c.words.result (world c.words.new.tokenizer)
-    (c.words.ensures.runs fine true (Next (n.HeadingAtx its.AtBreak)) u refl (reading-same u seen) (inl refl)) in
-    sees-from c.words.result w u (world c.words.new.tokenizer) (c.words.ensures.sees fine) same (inr next)
+    let same : (world c.text.new.tokenizer).setting ≡ u.setting =
+    runs-setting T true (Next (n.HeadingAtx its.AtBreak)) u c.text.result (world c.text.new.tokenizer)
+    (c.text.ensures.runs fine true (Next (n.HeadingAtx its.AtBreak)) u refl (reading-same u seen) (inl refl)) in
+    sees-from c.text.result w u (world c.text.new.tokenizer) (c.text.ensures.sees fine) same (inr next)
 
 pub returns-else-is_one_space-clause-runs : goal.returns-else-is_one_space-clause-runs
 returns-else-is_one_space-clause-runs c = λ fine.

@@ -12,12 +12,12 @@ returns-then-tokenizer-lt-OPENING-clause-world c = search rules
 
 pub returns-in_default-clause-rule : goal.returns-in_default-clause-rule
 returns-in_default-clause-rule c =
-    λ ok. heading_rule its.SequenceOpen (world c.args.tokenizer.now) _ _ (search rules) (search rules)
+    λ ok. heading_rule its.SequenceOpen (world c.args.tokenizer.now) _ _ c.requires.current (search rules) (search rules)
 
 pub returns-in_default-2-clause-rule : goal.returns-in_default-2-clause-rule
 returns-in_default-2-clause-rule c =
-    λ ok. heading_rule its.SequenceOpen (world c.args.tokenizer.now) _ _ (search rules) (search rules)
+    λ ok. heading_rule its.SequenceOpen (world c.args.tokenizer.now) _ _ c.requires.current (search rules) (search rules)
 
 pub returns-in-None-2-clause-rule : goal.returns-in-None-2-clause-rule
 returns-in-None-2-clause-rule c =
-    λ ok. heading_rule its.SequenceOpen (world c.args.tokenizer.now) _ _ (search rules) (search rules)
+    λ ok. heading_rule its.SequenceOpen (world c.args.tokenizer.now) _ _ c.requires.current (search rules) (search rules)

@@ -5,8 +5,7 @@ use Rattle.md_engine.specs.declared.stay.Stay.TheVariants.{UpTo}
 use Rattle.md_leaves.specs.Heading.{heading_transition, sees_text, sequence_open_code}
 use Rattle.md_seam.specs.Spaces.{is_current, sees_white}
 use Rattle.md_seam.specs.Stays.{TakesEach}
-use Rattle.md_leaves.proofs.HeadingMarks.{further-takes}
-use Rattle.md_leaves.proofs.HeadingWords.{data-takes}
+use Rattle.md_leaves.proofs.HeadingCalls.{data-takes, further-takes}
 use Rattle.md_leaves.proofs.heading_atx.takes_at_once.Goals as goal
 
 -- an opening sequence is taken and counted

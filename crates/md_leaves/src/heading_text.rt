@@ -1,0 +1,186 @@
+// The text of an ATX heading, and what stands behind it (CommonMark 4.2).
+//
+// At the end of the line of a heading all of it is known from where its text begins: the text, a closing sequence, and
+// the whitespace beside that. They are added in one go.
+
+ghost use Rattle.std.specs.Prelude.{◌≡◌, ◌^◌, ◌<◌, ◌≤◌, ◌++◌, ◌==◌, ◌&&◌, None, OnOk, Some, if◌then◌else◌, is_err, length};
+ghost use Rattle.std.specs.Prelude.{true};
+ghost use Rattle.std.specs.List.{prefix_len};
+ghost use Rattle.md_engine.specs.Full.{IsFull};
+ghost use Rattle.md_engine.specs.Place.{IsPlaced, first_point};
+ghost use Rattle.md_engine.specs.World.{world};
+ghost use Rattle.md_engine.specs.declared.event.Name.{Name};
+ghost use Rattle.md_leaves.specs.Heading.{text_added};
+ghost use Rattle.md_leaves.specs.HeadingRuns.{Apart, Hashes, White, chunk_unless_empty, goes_on, line_runs};
+ghost use Rattle.md_leaves.specs.HeadingRuns.{linked_data};
+ghost use Rattle.md_leaves.specs.OnLine.{IsOnLine};
+ghost use Rattle.md_meaning.specs.Lines.{without_ending};
+ghost use Rattle.md_seam.specs.Events.Nested.{last_point};
+ghost use Rattle.md_seam.specs.Events.Places.{past_byte, past_text};
+ghost use Rattle.md_seam.specs.WholeLine.{line_taken};
+
+use md_engine::class::is_white;
+use md_engine::event::{Content, Link, Name, Point};
+use md_engine::message::Message;
+use md_engine::tokenizer::Tokenizer;
+use md_grammars::bytes::white_len;
+use md_grammars::heading::heading_text;
+use md_grammars::lines::line_len;
+use md_seam::parts::add_part;
+use md_seam::slice::{between, whole_from};
+
+/// What is text of a heading is read later.
+const TEXT_LINK: Link = Link {
+    previous: false,
+    next: false,
+    content: Content::Text,
+};
+
+/// The point of the first byte of a text.
+const FIRST: Point = Point {
+    line: 1,
+    column: 1,
+    index: 0,
+    vs: 0,
+};
+
+/// The point behind a byte of a line.
+#[inline(always)]
+fn past_byte(byte: u8, point: Point) -> Point
+    requires { (point.index < 2 ^ 61) × (point.column ≤ 2 ^ 63) }
+    ensures { result ≡ past_byte byte point }
+{
+    let before = point.column.saturating_sub(1);
+    let columns = if byte == b'\t' { 4 - before % 4 } else { 1 };
+    Point {
+        line: point.line,
+        column: before + columns + 1,
+        index: point.index + 1,
+        vs: 0,
+    }
+}
+
+/// The point behind a piece of a line.
+#[inline(always)]
+fn past_text(bytes: &[u8], piece: &[u8], from: Point) -> Point
+    requires { IsOnLine bytes.now piece.now from }
+    ensures { result ≡ past_text piece.now from }
+{
+    let mut point = from;
+    for byte in piece {
+        point = past_byte(*byte, point);
+    }
+    point
+}
+
+/// How many bytes the run at the front has: whitespace, or what is none.
+fn run_len(line: &[u8], white: bool) -> usize
+    ensures value { result ≡ prefix_len (goes_on (if white then White else Hashes)) line.now }
+    ensures bound { result ≤ length line.now }
+{
+    if white {
+        white_len(line)
+    } else {
+        line.iter().take_while(|byte| !is_white(**byte)).count()
+    }
+}
+
+/// The name of a run of whitespace, or of `#`.
+fn run_name(white: bool) -> Name
+    ensures { result ≡ if white then Name.SpaceOrTab else Name.HeadingAtxSequence }
+{
+    if white {
+        Name::SpaceOrTab
+    } else {
+        Name::HeadingAtxSequence
+    }
+}
+
+/// Adds the runs of whitespace and of `#` that a piece of a line has.
+fn add_runs(tokenizer: &mut Tokenizer, piece: &[u8], from: Point) -> Result<(), Message>
+    requires { IsOnLine (world tokenizer.old).setting.bytes piece.now from }
+    ensures world { OnOk result
+        (world tokenizer.new ≡
+        record (world tokenizer.old) { events = (world tokenizer.old).events ++ line_runs Apart piece.now from }) }
+    ensures full { is_err result ≡ true → IsFull tokenizer.new }
+{
+    let mut rest = piece;
+    let mut point = from;
+    while !rest.is_empty() {
+        let white = is_white(rest[0]);
+        let (run, behind) = rest.split_at(run_len(rest, white));
+        let end = past_text(tokenizer.bytes, run, point);
+        add_part(tokenizer, run_name(white), None, point, end)?;
+        rest = behind;
+        point = end;
+    }
+    Ok(())
+}
+
+/// What was taken of the line from where the text of the heading began.
+fn text_taken<'a>(tokenizer: &Tokenizer<'a>) -> &'a [u8]
+    ensures { let w = world tokenizer.now in
+        result.now ≡ without_ending (line_taken w.setting.bytes w.scratch w.point) }
+{
+    let line = between(
+        tokenizer.bytes,
+        tokenizer.scratch.start,
+        whole_from(tokenizer.point),
+    );
+    line.split_at(line_len(line)).0
+}
+
+/// The point of the last event, or the first of a text.
+fn last_point(tokenizer: &Tokenizer) -> Point
+    ensures { result ≡ last_point first_point (world tokenizer.now).events }
+{
+    match tokenizer.events.last() {
+        Some(event) => event.point,
+        None => FIRST,
+    }
+}
+
+/// The point of the last event, if the text of the heading began there.
+fn text_begin(tokenizer: &Tokenizer) -> Option<Point>
+    ensures { let p = last_point first_point (world tokenizer.now).events in
+        result ≡ if (p.vs == 0) && (p.index == (world tokenizer.now).scratch.start) then Some p else None }
+{
+    let point = last_point(tokenizer);
+    if point.vs == 0 && point.index == tokenizer.scratch.start {
+        Some(point)
+    } else {
+        None
+    }
+}
+
+/// Adds the text of a heading as one part that is read later, unless it is empty.
+fn add_data(tokenizer: &mut Tokenizer, text: &[u8], from: Point, end: Point) -> Result<(), Message>
+    requires from { IsPlaced (world tokenizer.old).setting.bytes from }
+    requires end { IsPlaced (world tokenizer.old).setting.bytes end }
+    ensures world { OnOk result
+        (world tokenizer.new ≡
+        record (world tokenizer.old) {
+          events = (world tokenizer.old).events ++ linked_data (chunk_unless_empty (length text.now) from end);
+        }) }
+    ensures full { is_err result ≡ true → IsFull tokenizer.new }
+{
+    if text.is_empty() {
+        return Ok(());
+    }
+    add_part(tokenizer, Name::Data, Some(TEXT_LINK), from, end)
+}
+
+/// Adds the text of the heading, whose line ends here, and what is behind it.
+pub(crate) fn add_text(tokenizer: &mut Tokenizer) -> Result<(), Message>
+    ensures world { OnOk result (world tokenizer.new ≡ text_added (world tokenizer.old)) }
+    ensures full { is_err result ≡ true → IsFull tokenizer.new }
+{
+    let Some(from) = text_begin(tokenizer) else {
+        return Ok(());
+    };
+    let line = text_taken(tokenizer);
+    let (text, rest) = line.split_at(heading_text(line).len());
+    let end = past_text(tokenizer.bytes, text, from);
+    add_data(tokenizer, text, from, end)?;
+    add_runs(tokenizer, rest, end)
+}
