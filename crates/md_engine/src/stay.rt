@@ -29,6 +29,7 @@ pub enum Stay {
 
 impl Stay {
     /// Whether this is taken, behind what was counted.
+    #[inline(always)]
     pub fn takes(self, scratch: &Scratch, byte: u8) -> bool
         ensures { result ≡ takes self scratch.now byte }
     {
@@ -45,6 +46,7 @@ impl Stay {
     }
 
     /// Counts what was taken.
+    #[inline(always)]
     pub fn count(self, scratch: &mut Scratch, byte: u8)
         requires { takes self scratch.old byte ≡ true }
         ensures { scratch.new ≡ counted self scratch.old }

@@ -440,6 +440,7 @@ impl<'a> Tokenizer<'a> {
     }
 
     /// What stands at the point, as far as the text may be read.
+    #[inline(always)]
     pub fn look(&self) -> Option<u8>
         ensures { result ≡ looks (world self.now) }
     {

@@ -271,7 +271,7 @@ fn content_begins(tokenizer: &mut Tokenizer) -> State
     line_end(tokenizer)
 }
 
-/// At the start of an ATX heading: it begins with its opening sequence in the same call.
+/// At the start of an ATX heading: its line is taken in the same call where one space is behind its opening sequence.
 #[inline(always)]
 pub fn heading_begins(tokenizer: &mut Tokenizer) -> State
     requires { IsAt NeedsNothing (StateName.HeadingAtx HeadingState.Start) (world tokenizer.old) }
@@ -281,7 +281,9 @@ pub fn heading_begins(tokenizer: &mut Tokenizer) -> State
     ensures sees { result ≢ State.Error → SeesOn result (world tokenizer.old) (world tokenizer.new) }
 {
     match heading_atx::start(tokenizer) {
-        State::Retry(StateName::HeadingAtx(HeadingState::Before)) => heading_atx::before(tokenizer),
+        State::Retry(StateName::HeadingAtx(HeadingState::Before)) => heading_atx::opening(
+            tokenizer,
+        ),
         state => state,
     }
 }
@@ -308,8 +310,8 @@ fn is_heading(state: State) -> bool
     }
 }
 
-/// At the start of the rest of a line: content begins at once where one look tells so, and a heading with its opening
-/// sequence.
+/// At the start of the rest of a line: content begins at once where one look tells so, and a heading is taken with its
+/// line.
 #[inline(always)]
 fn rest_begins(tokenizer: &mut Tokenizer) -> State
     requires { IsAt NeedsNothing (StateName.Flow FlowState.Start) (world tokenizer.old) }
@@ -326,7 +328,8 @@ fn rest_begins(tokenizer: &mut Tokenizer) -> State
         return flow::blank_line_before(tokenizer);
     }
     if is_heading(state) {
-        return heading_begins(tokenizer);
+        let to = heading_begins(tokenizer);
+        return end(tokenizer, to);
     }
     state
 }

@@ -7,7 +7,7 @@ use Rattle.md_engine.specs.declared.state.heading_atx.State.TheVariants as its
 use Rattle.md_engine.specs.declared.state.space_or_tab.State.TheVariants as white
 use Rattle.md_engine.specs.declared.state.State.{State}
 use Rattle.md_engine.specs.declared.state.State.TheVariants.{Error, Nok, Next, Ok, Retry}
-use Rattle.md_engine.specs.declared.stay.Stay.TheVariants.{Byte, Line}
+use Rattle.md_engine.specs.declared.stay.Stay.TheVariants.{Byte, Line, UpTo}
 use Rattle.md_engine.specs.Going.{SeesOn}
 use Rattle.md_engine.specs.Run.{Remains, Runs, reading}
 use Rattle.md_engine.specs.Staying.{SeesSome, stayed}
@@ -15,14 +15,14 @@ use Rattle.md_engine.specs.World.{World, looks}
 use Rattle.md_engine.proofs.Loops.{CameTo}
 use Rattle.md_engine.proofs.StayLemmas.{seen-inside}
 use Rattle.md_engine.proofs.Walks.{TakesSo, Within, then-seen, then-stays, then-waits, within-more}
-use Rattle.md_leaves.specs.Heading.{at_break_code, behind_part, data_code, heading_transition, sees_text}
+use Rattle.md_leaves.specs.Heading.{at_break_code, before_code, behind_part, data_code, heading_transition, sees_text}
 use Rattle.md_leaves.specs.Heading.{sequence_further_code, sequence_open_code, text_begun, without_size}
 use Rattle.md_leaves.specs.HeadingCalls.{HeadingStep, begins_text}
 use Rattle.md_seam.specs.Events.Nested.{exit}
 use Rattle.md_seam.specs.OneSpace.{IsOneSpace, spaced}
 use Rattle.md_seam.specs.Spaces.{any_size, ends_line, is_current, sees_white, white_then, white_transition}
 use Rattle.md_seam.specs.Stays.{TakesEach}
-use Rattle.md_seam.specs.Transition.{Transition, exited}
+use Rattle.md_seam.specs.Transition.{Transition, entered, exited}
 use Rattle.md_seam.proofs.OneSpace.{space-run}
 
 -- a byte that does not end the line
@@ -40,6 +40,12 @@ data-takes w b e h = ap (data_code w) (ap ends_line e ∙ not-ending b h)
 -- and so is a further sequence
 pub further-takes : TakesEach (Byte 35) (n.HeadingAtx its.SequenceFurther) (heading_transition its.SequenceFurther)
 further-takes w b e h = ap (sequence_further_code w) (ap (is_current 35) e ∙ h)
+
+-- an opening sequence is taken and counted
+pub open-takes : TakesEach (UpTo 35 6) (n.HeadingAtx its.SequenceOpen) (heading_transition its.SequenceOpen)
+open-takes w b e h =
+    ap (λ (x : Bool). sequence_open_code w x (sees_text w.current) (sees_white w.current))
+    (ap (λ (o : Option ℕ). is_current 35 o && nat_lt w.scratch.size 6) e ∙ h)
 
 -- a transition, as a step
 pub stepped : (a : Transition) (to : State) (new : World) → a ≡ record { to = to; world = new } →
@@ -93,6 +99,54 @@ begins-inside w seen is = go w.current seen is
     go None e k = cc
     go (Some b) e k = seen-inside w.setting w.point b (sym e)
 
+-- what was seen at the point is not the end
+pub ahead : {P : Type 0} → (false ≡ true) ⊎ P → P
+ahead (inl e) = cc
+ahead (inr h) = h
+
+-- The opening sequence begins,
+pub sequence-begins : (is_end : Bool) (s : State) (v w : World) →
+    CameTo HeadingStep is_end s v (n.HeadingAtx its.Before) w → is_current 35 w.current ≡ true →
+    w.current ≡ looks w → Within w →
+    CameTo HeadingStep is_end s v (n.HeadingAtx its.SequenceOpen) (entered w HeadingAtxSequence)
+sequence-begins is_end s v w came is seen within =
+    let u = entered w HeadingAtxSequence in
+    then-stays HeadingStep is_end s v (n.HeadingAtx its.Before) (n.HeadingAtx its.SequenceOpen) w u came
+    (stepped (heading_transition its.Before w) (Retry (n.HeadingAtx its.SequenceOpen)) u (ap (before_code w) is)) refl
+    within refl seen
+
+-- is taken,
+sequence-takes : TakesSo HeadingStep (n.HeadingAtx its.SequenceOpen) (UpTo 35 6)
+sequence-takes w b e h =
+    stepped (heading_transition its.SequenceOpen (reading w)) (Next (n.HeadingAtx its.SequenceOpen))
+    (stayed (UpTo 35 6) w) (open-takes (reading w) b e h)
+
+pub sequence-taken : (is_end : Bool) (s : State) (v w u : World) →
+    CameTo HeadingStep is_end s v (n.HeadingAtx its.SequenceOpen) w → w.current ≡ looks w → Within w →
+    SeesSome (UpTo 35 6) w u → u.point.index < u.setting.limit →
+    CameTo HeadingStep is_end s v (n.HeadingAtx its.SequenceOpen) (reading u)
+sequence-taken is_end s v w u came seen within some lt =
+    then-seen HeadingStep is_end s v (n.HeadingAtx its.SequenceOpen) (UpTo 35 6) w u (sequence-takes) came seen within
+    some lt
+
+-- and waits for more.
+pub sequence-waits : (is_end : Bool) (s : State) (v w u : World) →
+    CameTo HeadingStep is_end s v (n.HeadingAtx its.SequenceOpen) w → w.current ≡ looks w → Within w →
+    SeesSome (UpTo 35 6) w u → w.point.index < w.setting.limit → u.setting.limit ≤ u.point.index →
+    Runs HeadingStep is_end s v (Next (n.HeadingAtx its.SequenceOpen)) u
+sequence-waits is_end s v w u came seen within some lt le =
+    then-waits HeadingStep is_end s v (n.HeadingAtx its.SequenceOpen) (UpTo 35 6) w u (sequence-takes) came seen within
+    some lt le
+
+-- a sequence that begins may be read
+pub sequence-inside : (w : World) → w.current ≡ looks w → is_current 35 w.current ≡ true →
+    w.point.index < w.setting.limit
+sequence-inside w seen is = go w.current seen is
+  where
+    go : (o : Option ℕ) → o ≡ looks w → is_current 35 o ≡ true → w.point.index < w.setting.limit
+    go None e k = cc
+    go (Some b) e k = seen-inside w.setting w.point b (sym e)
+
 -- Where one space stands behind the opening sequence, it ends, and the first run of the line begins.
 abbrev pub opening_ended : World → World
 opening_ended w = record (exited w HeadingAtxSequence) { scratch = without_size w.scratch }
@@ -121,6 +175,11 @@ part-remains : (w x : World) (y : Bool) → x.point ≡ w.point → x.current �
     Remains (behind_part x y).to w (behind_part x y).world × ((behind_part x y).world.setting ≡ w.setting)
 part-remains w x true there same text = ((there, same), text)
 part-remains w x false there same text = ((there, same), text)
+
+pub before-remains : (w : World) (x : Bool) →
+    Remains (before_code w x).to w (before_code w x).world × ((before_code w x).world.setting ≡ w.setting)
+before-remains w true = ((refl, refl), refl)
+before-remains w false = (tt, refl)
 
 pub opening-remains : (w : World) (x y z : Bool) →
     Remains (sequence_open_code w x y z).to w (sequence_open_code w x y z).world ×

@@ -29,5 +29,6 @@ pub mod LeafStart
 pub mod LeafSteps
 pub mod TurnedLemmas
 pub mod OnLine
+pub mod OneLine
 pub mod RunsAdded
 pub mod TextBegun

@@ -18,7 +18,7 @@ use Rattle.md_seam.proofs.PointOrder.{reached-column}
 use Rattle.md_seam.proofs.ReachedLemmas.{same-behind}
 
 -- a point of a text has a column from 1 on
-column-some : (bytes : List ℕ) (p : Point) → IsPlaced bytes p → 1 ≤ p.column
+pub column-some : (bytes : List ℕ) (p : Point) → IsPlaced bytes p → 1 ≤ p.column
 column-some bytes p h = ∥∥₁_elim h.reached (hlevel props) (reached-column bytes p)
 
 -- a column of a tab further

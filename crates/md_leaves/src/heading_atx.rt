@@ -21,7 +21,7 @@ ghost use Rattle.md_leaves.specs.Heading.{sequence_open_transition, start_transi
 ghost use Rattle.md_leaves.specs.HeadingCalls.{HeadingStep, begins_text};
 ghost use Rattle.md_leaves.specs.HeadingRule.{HeadingMeans};
 ghost use Rattle.md_seam.specs.Look.{may_with};
-ghost use Rattle.md_seam.specs.Spaces.{sees_white};
+ghost use Rattle.md_seam.specs.Spaces.{is_current, sees_white};
 ghost use Rattle.md_seam.specs.Stays.{TakesEach};
 ghost use Rattle.md_seam.specs.Transition.{IsAt, NeedsNothing};
 
@@ -53,6 +53,7 @@ pub fn may_begin(first: Option<u8>) -> bool
 /// > | ## aa
 ///     ^
 /// ```
+#[inline(always)]
 #[tactic(auto, using(crate::proofs::HeadingMeaning::heading_rule))]
 pub fn start(tokenizer: &mut Tokenizer) -> State
     requires { IsAt NeedsNothing (StateName.HeadingAtx HeadingState.Start) (world tokenizer.old) }
@@ -260,6 +261,7 @@ fn begins_text(current: Option<u8>) -> bool
 /// > | ## aa bb
 ///        ^
 /// ```
+#[inline(always)]
 pub fn text(tokenizer: &mut Tokenizer) -> State
     requires { IsAt NeedsNothing (StateName.HeadingAtx HeadingState.AtBreak) (world tokenizer.old) }
     ensures runs { result ≢ State.Error →
@@ -286,6 +288,7 @@ pub fn text(tokenizer: &mut Tokenizer) -> State
 /// > | ## aa bb
 ///       ^
 /// ```
+#[inline(always)]
 pub fn opens(tokenizer: &mut Tokenizer) -> State
     requires { IsAt NeedsNothing (StateName.HeadingAtx HeadingState.SequenceOpen) (world tokenizer.old) }
     ensures runs { result ≢ State.Error →
@@ -302,6 +305,39 @@ pub fn opens(tokenizer: &mut Tokenizer) -> State
     } else {
         sequence_open(tokenizer)
     }
+}
+
+/// Whether an opening sequence begins here.
+fn begins_sequence(current: Option<u8>) -> bool
+    ensures { result ≡ is_current 35 current }
+{
+    current == Some(b'#')
+}
+
+/// Behind the indent, at `#`: takes the opening sequence at once, and the rest of the line where one space is behind it,
+/// as the states do one after another.
+///
+/// ```markdown
+/// > | ## aa
+///     ^
+/// ```
+pub fn opening(tokenizer: &mut Tokenizer) -> State
+    requires { IsAt NeedsNothing (StateName.HeadingAtx HeadingState.Before) (world tokenizer.old) }
+    ensures runs { result ≢ State.Error →
+        RunsHere HeadingStep
+        (StateName.HeadingAtx HeadingState.Before) (world tokenizer.old) result (world tokenizer.new) }
+    ensures sees { result ≢ State.Error → SeesOn result (world tokenizer.old) (world tokenizer.new) }
+    ensures full { OnError result (IsFull tokenizer.new) }
+{
+    if !begins_sequence(tokenizer.current) {
+        return before(tokenizer);
+    }
+    or_error!(tokenizer.enter(Name::HeadingAtxSequence));
+    tokenizer.see_while(Stay::UpTo(b'#', OPENING));
+    if tokenizer.see_or_wait(false) {
+        return State::Next(StateName::HeadingAtx(HeadingState::SequenceOpen));
+    }
+    opens(tokenizer)
 }
 
 /// Calls a state of a heading.

@@ -5,7 +5,7 @@
 
 ghost use Rattle.std.specs.Prelude.{◌≡◌, ◌^◌, ◌<◌, ◌≤◌, ◌++◌, ◌==◌, ◌&&◌, None, OnOk, Some, if◌then◌else◌, is_err, length};
 ghost use Rattle.std.specs.Prelude.{true};
-ghost use Rattle.std.specs.List.{prefix_len};
+ghost use Rattle.std.specs.List.{list_any, prefix_len};
 ghost use Rattle.md_engine.specs.Full.{IsFull};
 ghost use Rattle.md_engine.specs.Place.{IsPlaced, first_point};
 ghost use Rattle.md_engine.specs.World.{world};
@@ -66,6 +66,14 @@ fn past_text(bytes: &[u8], piece: &[u8], from: Point) -> Point
     requires { IsOnLine bytes.now piece.now from }
     ensures { result ≡ past_text piece.now from }
 {
+    if from.vs == 0 && !has_tab(piece) {
+        return Point {
+            line: from.line,
+            column: from.column + piece.len(),
+            index: from.index + piece.len(),
+            vs: 0,
+        };
+    }
     let mut point = from;
     for byte in piece {
         point = past_byte(*byte, point);
@@ -117,17 +125,46 @@ fn add_runs(tokenizer: &mut Tokenizer, piece: &[u8], from: Point) -> Result<(), 
     Ok(())
 }
 
-/// What was taken of the line from where the text of the heading began.
-fn text_taken<'a>(tokenizer: &Tokenizer<'a>) -> &'a [u8]
+/// What was taken of the line from where the text of the heading began, at this point. On one line no byte of it ends
+/// a line.
+fn text_taken<'a>(tokenizer: &Tokenizer<'a>, from: Point) -> &'a [u8]
+    requires placed { IsPlaced (world tokenizer.now).setting.bytes from }
+    requires at { from.index ≡ (world tokenizer.now).scratch.start }
     ensures { let w = world tokenizer.now in
         result.now ≡ without_ending (line_taken w.setting.bytes w.scratch w.point) }
 {
-    let line = between(
-        tokenizer.bytes,
-        tokenizer.scratch.start,
-        whole_from(tokenizer.point),
-    );
+    let to = tokenizer.point;
+    let line = between(tokenizer.bytes, tokenizer.scratch.start, whole_from(to));
+    if to.vs == 0 && to.line == from.line {
+        return line;
+    }
     line.split_at(line_len(line)).0
+}
+
+/// Whether a tab is among these bytes.
+fn has_tab(bytes: &[u8]) -> bool
+    ensures { result ≡ list_any (λ b. b == 9) bytes.now }
+{
+    bytes.iter().any(|byte| *byte == b'\t')
+}
+
+/// The point behind the text of a heading: in front of so many bytes behind it where these reach to the tokenizer's
+/// point and have no tab.
+fn text_end(tokenizer: &Tokenizer, text: &[u8], rest: &[u8], from: Point) -> Point
+    requires on { IsOnLine (world tokenizer.now).setting.bytes (text.now ++ rest.now) from }
+    requires whole { from.vs ≡ 0 }
+    ensures { result ≡ past_text text.now from }
+{
+    let to = tokenizer.point;
+    if to.vs == 0 && to.index == from.index + text.len() + rest.len() && !has_tab(rest) {
+        return Point {
+            line: to.line,
+            column: to.column.saturating_sub(rest.len()),
+            index: to.index.saturating_sub(rest.len()),
+            vs: 0,
+        };
+    }
+    past_text(tokenizer.bytes, text, from)
 }
 
 /// The point of the last event, or the first of a text.
@@ -178,9 +215,9 @@ pub(crate) fn add_text(tokenizer: &mut Tokenizer) -> Result<(), Message>
     let Some(from) = text_begin(tokenizer) else {
         return Ok(());
     };
-    let line = text_taken(tokenizer);
+    let line = text_taken(tokenizer, from);
     let (text, rest) = line.split_at(heading_text(line).len());
-    let end = past_text(tokenizer.bytes, text, from);
+    let end = text_end(tokenizer, text, rest, from);
     add_data(tokenizer, text, from, end)?;
     add_runs(tokenizer, rest, end)
 }

@@ -1,7 +1,7 @@
 // ATX headings: their states and their resolver.
 
 pub use md_leaves::heading_atx::{
-    at_break, before, call, data, may_begin, opens, sequence_further, sequence_open, start,
-    takes_at_once, text,
+    at_break, before, call, data, may_begin, opening, opens, sequence_further, sequence_open,
+    start, takes_at_once, text,
 };
 pub use md_resolve::heading_atx::resolve;

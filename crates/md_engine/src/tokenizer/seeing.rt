@@ -33,6 +33,7 @@ impl<'a> Tokenizer<'a> {
 
     /// Sees what is at the point and returns false. Returns true, and changes nothing, where the text may not be read
     /// so far and has not ended.
+    #[inline(always)]
     pub fn see_or_wait(&mut self, is_end: bool) -> bool
         ensures waits { result ≡ true →
             (is_end ≡ false) × ((world self.old).setting.limit ≤ (world self.old).point.index) }
@@ -119,16 +120,27 @@ impl<'a> Tokenizer<'a> {
         }
     }
 
-    /// Sees, takes and counts byte after byte, as long as a state that stays takes it.
+    /// Sees, takes and counts byte after byte, as long as a state that stays takes it. This is one function for all
+    /// states.
+    #[inline(never)]
     pub(crate) fn see_each(&mut self, stay: Stay)
+        ensures { SeesAll stay (world self.old) (world self.new) }
+    {
+        self.see_while(stay);
+    }
+
+    /// Sees, takes and counts byte after byte, as long as a state that stays takes it. It is compiled for the state that
+    /// calls it.
+    #[inline(always)]
+    pub fn see_while(&mut self, stay: Stay)
         ensures { SeesAll stay (world self.old) (world self.new) }
     {
         while let Some(byte) = self.look() {
             if !stay.takes(&self.scratch, byte) {
                 return;
             }
-            self.current = Some(byte);
             self.consume();
+            self.current = Some(byte);
             stay.count(&mut self.scratch, byte);
         }
     }

@@ -8,14 +8,17 @@ use Rattle.md_engine.specs.declared.state.Name.TheVariants as n
 use Rattle.md_engine.specs.declared.state.State.{State}
 use Rattle.md_engine.specs.declared.state.State.TheVariants.{Error, Retry}
 use Rattle.md_engine.proofs.StayLemmas.{within-world}
-use Rattle.md_engine.proofs.Walks.{Within}
+use Rattle.md_engine.proofs.Walks.{Within, runs-in}
 use Rattle.md_leaves.specs.Heading as heading
+use Rattle.md_leaves.specs.HeadingCalls.{HeadingStep}
 use Rattle.md_leaves.specs.LeafStart as leaf_start
-use Rattle.md_seam.specs.Spaces.{is_current, sees_white}
+use Rattle.md_seam.specs.Spaces.{sees_white}
+use Rattle.md_registry.specs.States.{FlowStep}
+use Rattle.md_registry.proofs.HeadingAtx.Calls.{heading-flows}
 use Rattle.md_registry.proofs.LinesAtOnce.{Goes, Leaves, goes-through, leaves-once}
 use Rattle.md_flow.proofs.at_once.heading_begins.Goals as goal
 
--- Where a heading begins, before an indent or without one,
+-- Where a heading begins, before an indent or without one.
 starts : (w : World) (to : State) (new : World) → w.current ≡ looks w → Within w →
     (to ≢ Error → to ≡ (heading.start_transition w).to) → (to ≢ Error → new ≡ (heading.start_transition w).world) →
     to ≢ Error → Goes (n.HeadingAtx its.Start) w to new
@@ -28,34 +31,29 @@ starts w to new seen within to_is new_is fine =
     leaves true true = ((refl, refl), refl)
     leaves true false = ((refl, refl), refl)
 
--- and at its opening sequence.
-opens : (w : World) (to : State) (new : World) → w.current ≡ looks w → Within w →
-    (to ≢ Error → to ≡ (heading.before_transition w).to) → (to ≢ Error → new ≡ (heading.before_transition w).world) →
-    to ≢ Error → Goes (n.HeadingAtx its.Before) w to new
-opens w to new seen within to_is new_is fine =
-    leaves-once (n.HeadingAtx its.Before) w to new (leaves (is_current 35 w.current)) (to_is fine) (new_is fine)
-    fine seen within
-  where
-    leaves : (x : Bool) → Leaves (heading.before_code w x) w
-    leaves true = ((refl, refl), refl)
-    leaves false = (tt, refl)
-
 -- a state of a heading, as it was found
 named : (s : State) (name : StateName) (state other : HeadingState) → s ≡ Retry name → name ≡ n.HeadingAtx state →
     state ≡ other → s ≡ Retry (n.HeadingAtx other)
 named s name state other is name_is state_is =
     is ∙ ap Retry name_is ∙ ap (λ (x : HeadingState). Retry (n.HeadingAtx x)) state_is
 
-pub returns-in-Retry-HeadingAtx-Before-clause-runs : goal.returns-in-Retry-HeadingAtx-Before-clause-runs
-returns-in-Retry-HeadingAtx-Before-clause-runs c = λ fine.
+pub returns-in-Retry-HeadingAtx-Before : goal.returns-in-Retry-HeadingAtx-Before
+returns-in-Retry-HeadingAtx-Before c =
     let w = world c.args.tokenizer.now in
     let v = world c.start.new.tokenizer in
+    let u = world c.opening.new.tokenizer in
     let b = c.in-Retry-HeadingAtx-Before in
-    (goes-through (n.HeadingAtx its.Start) (n.HeadingAtx its.Before) w v c.start.result _ (world c.before-in-Retry-HeadingAtx-Before.new.tokenizer)
+    let all = λ (fine : c.opening.result ≢ Error).
+    goes-through (n.HeadingAtx its.Start) (n.HeadingAtx its.Before) w v c.start.result c.opening.result u
     c.requires.current (named _ _ _ _ b.is b.field-0-is b.field-0-0-is)
     (starts w _ v c.requires.current (within-world c.args.tokenizer.now) c.start.ensures.to c.start.ensures.world)
-    (λ saw. opens v _ (world c.before-in-Retry-HeadingAtx-Before.new.tokenizer) saw (within-world c.start.new.tokenizer) c.before-in-Retry-HeadingAtx-Before.ensures.to
-    c.before-in-Retry-HeadingAtx-Before.ensures.world fine)).0
+    (λ saw. (
+      λ is_end s x named sees may.
+          runs-in HeadingStep FlowStep is_end s x c.opening.result u
+          (heading-flows) (c.opening.ensures.runs fine is_end s x named sees may),
+      c.opening.ensures.sees fine,
+    )) in
+    record { runs = λ fine. (all fine).0; sees = λ fine. (all fine).1 }
 
 pub returns-in_default-2 : goal.returns-in_default-2
 returns-in_default-2 c =

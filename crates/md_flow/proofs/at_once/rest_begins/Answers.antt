@@ -50,8 +50,8 @@ blank_line_before-requires c = record {
   has = tt;
 }
 
-pub heading_begins-requires : goal.heading_begins-requires
-heading_begins-requires c = record {
+pub heading_begins-to-requires : goal.heading_begins-to-requires
+heading_begins-to-requires c = record {
   current =
       still-seen (n.HeadingAtx heading.Start) (world c.args.tokenizer.now) (world c.start-state.new.tokenizer)
       c.start-state.result c.requires.current (within-world c.args.tokenizer.now)
@@ -77,12 +77,14 @@ pub returns-then-is_heading : goal.returns-then-is_heading
 returns-then-is_heading c =
     let w = world c.args.tokenizer.now in
     let u = world c.start-state.new.tokenizer in
-    let all = λ (fine : c.heading_begins.result ≢ Error).
-    goes-through (n.Flow flow.Start) (n.HeadingAtx heading.Start) w u c.start-state.result c.heading_begins.result
-    (world c.heading_begins.new.tokenizer) c.requires.current (c.is_heading.ensures c.if-is_heading.true)
+    let all = λ (fine : c.end.result ≢ Error).
+    let begins : c.heading_begins-to.result ≢ Error = c.end.ensures.fine fine in
+    c.end.ensures.goes_on fine (n.Flow flow.Start) w c.requires.current
+    (goes-through (n.Flow flow.Start) (n.HeadingAtx heading.Start) w u c.start-state.result c.heading_begins-to.result
+    (world c.heading_begins-to.new.tokenizer) c.requires.current (c.is_heading.ensures c.if-is_heading.true)
     (starts w _ u c.requires.current (within-world c.args.tokenizer.now) c.start-state.ensures.to
     c.start-state.ensures.world)
-    (λ saw. (c.heading_begins.ensures.runs fine, c.heading_begins.ensures.sees fine)) in
+    (λ saw. (c.heading_begins-to.ensures.runs begins, c.heading_begins-to.ensures.sees begins))) in
     record { runs = λ fine. (all fine).0; sees = λ fine. (all fine).1 }
 
 pub returns : goal.returns

@@ -1,4 +1,4 @@
-use Rattle.std.proofs.Common.{◌≡◌, ◌<◌, ◌⊎◌, ◌∙◌, true, false, ap, inl, inr, refl, subst, sym}
+use Rattle.std.proofs.Common.{◌≡◌, ◌<◌, ◌∙◌, true, ap, inr, refl, subst, sym}
 use Rattle.md_engine.specs.declared.state.heading_atx.State.TheVariants as its
 use Rattle.md_engine.specs.declared.state.Name.TheVariants as n
 use Rattle.md_engine.specs.declared.state.State.TheVariants.{Next}
@@ -9,14 +9,10 @@ use Rattle.md_engine.proofs.StayLemmas.{within-world}
 use Rattle.md_engine.proofs.Walks.{then-run}
 use Rattle.md_leaves.specs.Heading.{at_break_transition, data_transition, sees_text}
 use Rattle.md_leaves.specs.HeadingCalls.{HeadingStep, begins_text}
-use Rattle.md_leaves.proofs.HeadingCalls.{at_break-remains, at_text, begins-inside, data-remains, remains-of, sees-from}
-use Rattle.md_leaves.proofs.HeadingCalls.{text-begins, text-taken, text-waits}
+use Rattle.md_leaves.proofs.HeadingCalls.{ahead, at_break-remains, at_text, begins-inside, data-remains, remains-of}
+use Rattle.md_leaves.proofs.HeadingCalls.{sees-from, text-begins, text-taken, text-waits}
 use Rattle.md_seam.specs.Spaces.{ends_line, is_current}
 use Rattle.md_leaves.proofs.heading_atx.text.Goals as goal
-
-ahead : {P : Type 0} → (false ≡ true) ⊎ P → P
-ahead (inl e) = cc
-ahead (inr h) = h
 
 pub returns-then-not-begins_text-clause-runs : goal.returns-then-not-begins_text-clause-runs
 returns-then-not-begins_text-clause-runs c = λ fine.

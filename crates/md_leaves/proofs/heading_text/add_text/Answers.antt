@@ -11,7 +11,7 @@ use Rattle.md_engine.specs.World.{World, world}
 use Rattle.md_leaves.specs.Heading.{text_behind}
 use Rattle.md_leaves.specs.HeadingRuns.{Apart, chunk_unless_empty, line_runs, linked_data, text_events}
 use Rattle.md_leaves.specs.OnLine.{IsOnLine}
-use Rattle.md_leaves.proofs.OnLine.{on-behind, on-front}
+use Rattle.md_leaves.proofs.OnLine.{on-behind}
 use Rattle.md_leaves.proofs.TextBegun.{first-placed, last-placed, text-on}
 use Rattle.md_meaning.specs.Leaves.{heading_text}
 use Rattle.md_meaning.specs.Lines.{without_ending}
@@ -35,20 +35,32 @@ begun-at : (t : Tokenizer) (from : Point) → Some from ≡ cond (is_begun t) (S
     (is_begun t ≡ true) × (from ≡ last_of t)
 begun-at t from e = begun-some (is_begun t) (last_of t) from e
 
+-- it is a place of the text, a whole byte, and where the states held that it is
+record IsBegun (t : Tokenizer) (from : Point) : Type 0 where
+  placed : IsPlaced t.bytes.now from
+  at : from.index ≡ t.scratch.start
+  whole : from.vs ≡ 0
+
+is-begun : (t : Tokenizer) (from : Point) → Some from ≡ cond (is_begun t) (Some (last_of t)) None → IsBegun t from
+is-begun t from e =
+    let begun = begun-at t from e in
+    let parts = and_parts ((last_of t).vs == 0) ((last_of t).index == t.scratch.start) begun.0 in
+    subst (IsBegun t) (sym begun.1)
+    (record {
+      placed =
+          last-placed t.bytes.now t.events.items first_point t.sound.right
+          (first-placed t.bytes.now t.point t.sound.placed);
+      at = eqb-true (last_of t).index t.scratch.start parts.1;
+      whole = eqb-true (last_of t).vs 0 parts.0;
+    })
+
 taken-on : (t : Tokenizer) (from : Point) (line : List ℕ) →
     Some from ≡ cond (is_begun t) (Some (last_of t)) None →
     line ≡ without_ending (line_taken t.bytes.now t.scratch t.point) → IsOnLine t.bytes.now line from
 taken-on t from line e is =
-    let begun = begun-at t from e in
-    let last : IsPlaced t.bytes.now (last_of t) =
-    last-placed t.bytes.now t.events.items first_point t.sound.right
-    (first-placed t.bytes.now t.point t.sound.placed) in
-    let at : (last_of t).index ≡ t.scratch.start =
-    eqb-true (last_of t).index t.scratch.start
-    (and_parts ((last_of t).vs == 0) ((last_of t).index == t.scratch.start) begun.0).1 in
+    let begun = is-begun t from e in
     subst (λ (l : List ℕ). IsOnLine t.bytes.now l from) (sym is)
-    (subst (IsOnLine t.bytes.now (without_ending (line_taken t.bytes.now t.scratch t.point))) (sym begun.1)
-    (text-on t.bytes.now t.scratch (last_of t) t.point last t.sound.placed at))
+    (text-on t.bytes.now t.scratch from t.point begun.placed t.sound.placed begun.at)
 
 -- the text and what is behind it
 in-two : (bytes line front back : List ℕ) (n : ℕ) (p : Point) → front ≡ take n line → back ≡ drop n line →
@@ -78,14 +90,22 @@ map-ok : {A E P Q : Type 0} (r : Result A E) → (P → Q) → OnOk r P → OnOk
 map-ok (Ok x) f h = f h
 map-ok (Err e) f h = h
 
-pub past_text-end-requires : goal.past_text-end-requires
-past_text-end-requires c =
+pub text_taken-line-requires : goal.text_taken-line-requires
+text_taken-line-requires c =
+    let begun = is-begun c.args.tokenizer.now c.in-Some.from c.in-Some.ensures in
+    record { placed = begun.placed; at = begun.at }
+
+pub text_end-end-requires : goal.text_end-end-requires
+text_end-end-requires c =
     let t = c.args.tokenizer.now in
     let line = c.text_taken-line.result.now in
-    on-front t.bytes.now c.split_at.result.0.now c.split_at.result.1.now c.in-Some.from
-    (in-two t.bytes.now line c.split_at.result.0.now c.split_at.result.1.now (length c.heading_text.result.now)
-    c.in-Some.from c.split_at.ensures.front c.split_at.ensures.back
-    (taken-on t c.in-Some.from line c.in-Some.ensures c.text_taken-line.ensures))
+    record {
+      on =
+          in-two t.bytes.now line c.split_at.result.0.now c.split_at.result.1.now (length c.heading_text.result.now)
+          c.in-Some.from c.split_at.ensures.front c.split_at.ensures.back
+          (taken-on t c.in-Some.from line c.in-Some.ensures c.text_taken-line.ensures);
+      whole = (is-begun t c.in-Some.from c.in-Some.ensures).whole;
+    }
 
 pub add_data-requires-clause-from : goal.add_data-requires-clause-from
 add_data-requires-clause-from c =
@@ -104,18 +124,18 @@ behind t from q line front back n e is is_front is_back end =
 
 pub add_data-requires-clause-end : goal.add_data-requires-clause-end
 add_data-requires-clause-end c =
-    (behind c.args.tokenizer.now c.in-Some.from c.past_text-end.result c.text_taken-line.result.now
+    (behind c.args.tokenizer.now c.in-Some.from c.text_end-end.result c.text_taken-line.result.now
     c.split_at.result.0.now c.split_at.result.1.now (length c.heading_text.result.now) c.in-Some.ensures
-    c.text_taken-line.ensures c.split_at.ensures.front c.split_at.ensures.back c.past_text-end.ensures).placed
+    c.text_taken-line.ensures c.split_at.ensures.front c.split_at.ensures.back c.text_end-end.ensures).placed
 
 pub add_runs-requires : goal.add_runs-requires
 add_runs-requires c =
     let t = c.args.tokenizer.now in
-    subst (λ (l : List ℕ). IsOnLine l c.split_at.result.1.now c.past_text-end.result)
+    subst (λ (l : List ℕ). IsOnLine l c.split_at.result.1.now c.text_end-end.result)
     (sym (ap (λ (x : World). x.setting.bytes) c.in_ok-add_data.ensures.world))
-    (behind t c.in-Some.from c.past_text-end.result c.text_taken-line.result.now c.split_at.result.0.now
+    (behind t c.in-Some.from c.text_end-end.result c.text_taken-line.result.now c.split_at.result.0.now
     c.split_at.result.1.now (length c.heading_text.result.now) c.in-Some.ensures c.text_taken-line.ensures
-    c.split_at.ensures.front c.split_at.ensures.back c.past_text-end.ensures)
+    c.split_at.ensures.front c.split_at.ensures.back c.text_end-end.ensures)
 
 pub returns-clause-world : goal.returns-clause-world
 returns-clause-world c =
@@ -124,7 +144,7 @@ returns-clause-world c =
     let line = c.text_taken-line.result.now in
     let front = c.split_at.result.0.now in
     let back = c.split_at.result.1.now in
-    let q = c.past_text-end.result in
+    let q = c.text_end-end.result in
     let from = c.in-Some.from in
     let begun = begun-at t from c.in-Some.ensures in
     let text_part : List Event = linked_data (chunk_unless_empty (length front) from q) in
@@ -137,7 +157,7 @@ returns-clause-world c =
     ∙ ap (text_events (without_ending taken)) (sym begun.1)
     ∙ ap (λ (l : List ℕ). text_events l from) (sym c.text_taken-line.ensures)
     ∙ text-is line front back c.heading_text.result.now from q c.heading_text.ensures c.split_at.ensures.front
-    c.split_at.ensures.back c.split_at.ensures.front_len c.past_text-end.ensures in
+    c.split_at.ensures.back c.split_at.ensures.front_len c.text_end-end.ensures in
     map-ok c.add_runs.result
     (λ new.
     new

@@ -1,9 +1,16 @@
 use Rattle.std.proofs.Common.{◌≡◌, ◌+◌, ◌∷◌, ◌∙◌, ℕ, List, ap, drop, get_or, refl, subst, sym}
 use Rattle.std.proofs.lemmas.List.{at_drop_all, at_drop_more}
 use Rattle.md_leaves.specs.OnLine.{IsOnLine}
-use Rattle.md_leaves.proofs.OnLine.{on-next, on-room}
+use Rattle.md_leaves.proofs.OneLine.{past-plain}
+use Rattle.md_leaves.proofs.OnLine.{column-some, on-next, on-room}
 use Rattle.md_seam.specs.Events.Places.{past_text}
 use Rattle.md_leaves.proofs.heading_text.past_text.Goals as goal
+
+pub returns-then-not-has_tab : goal.returns-then-not-has_tab
+returns-then-not-has_tab c =
+    sym
+    (past-plain c.args.piece.now c.args.from c.if-from-eq0.true
+    (column-some c.args.bytes.now c.args.from c.requires.placed) (sym c.has_tab.ensures ∙ c.if-not-has_tab.true))
 
 pub loop-byte-init : goal.loop-byte-init
 loop-byte-init c = record { on = c.requires; same = refl }
