@@ -8,6 +8,7 @@ pub mod LinedState
 pub mod LinesStand
 pub mod ListsBegin
 pub mod Outlined
+pub mod CountOpen
 pub mod OutlinePart
 pub mod OutlineSteps
 pub mod ParagraphState

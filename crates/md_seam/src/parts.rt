@@ -33,6 +33,32 @@ fn add_growing(tokenizer: &mut Tokenizer, first: Event, last: Event) -> Result<(
     Ok(())
 }
 
+/// The event with which a part begins.
+#[inline(always)]
+fn begin(name: Name, link: Option<Link>, point: Point) -> Event
+    ensures { result ≡ record { kind = Kind.Enter; name = name; point = point; link = link } }
+{
+    Event {
+        kind: Kind::Enter,
+        name,
+        point,
+        link,
+    }
+}
+
+/// The event with which a part ends.
+#[inline(always)]
+fn end(name: Name, point: Point) -> Event
+    ensures { result ≡ record { kind = Kind.Exit; name = name; point = point; link = None } }
+{
+    Event {
+        kind: Kind::Exit,
+        name,
+        point,
+        link: None,
+    }
+}
+
 /// Adds the events of a part from one point to another.
 #[inline(always)]
 pub fn add_part(
@@ -54,22 +80,10 @@ pub fn add_part(
         }) }
     ensures full { is_err result ≡ true → IsFull tokenizer.new }
 {
-    let first = Event {
-        kind: Kind::Enter,
-        name,
-        point: from,
-        link,
-    };
-    let last = Event {
-        kind: Kind::Exit,
-        name,
-        point: to,
-        link: None,
-    };
     if tokenizer.events.capacity() - tokenizer.events.len() < 2 {
-        return add_growing(tokenizer, first, last);
+        return add_growing(tokenizer, begin(name, link, from), end(name, to));
     }
-    tokenizer.events.push_reserved(first);
-    tokenizer.events.push_reserved(last);
+    tokenizer.events.push_reserved(begin(name, link, from));
+    tokenizer.events.push_reserved(end(name, to));
     Ok(())
 }

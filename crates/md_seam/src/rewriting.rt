@@ -28,7 +28,7 @@ const NOTHING: Event = Event {
 };
 
 /// Growth is not expected to go on as in fewer events than this.
-const SAMPLE: usize = 64;
+const SAMPLE: usize = 8;
 
 /// How many events to make room for where `need` are to be written and `behind` others have to be moved, after `read` were
 /// read. Room was made for `added` before, and now `lacking` more are needed.

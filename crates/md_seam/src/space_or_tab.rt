@@ -22,6 +22,7 @@ ghost use Rattle.md_seam.specs.Spaces.{white_transition};
 ghost use Rattle.md_seam.specs.Stays.{TakesEach};
 ghost use Rattle.md_seam.specs.Transition.{IsAt};
 
+use crate::parts::add_part;
 use md_engine::class::is_white;
 use md_engine::event::Name;
 use md_engine::message::Message;
@@ -144,9 +145,10 @@ pub fn take_one_space(tokenizer: &mut Tokenizer) -> Result<(), Message>
     ensures world { OnOk result (world tokenizer.new ≡ spaced (world tokenizer.old)) }
     ensures full { is_err result ≡ true → IsFull tokenizer.new }
 {
-    tokenizer.enter(Name::SpaceOrTab)?;
+    let from = tokenizer.point;
     tokenizer.consume();
-    tokenizer.exit(Name::SpaceOrTab)?;
+    let to = tokenizer.point;
+    add_part(tokenizer, Name::SpaceOrTab, None, from, to)?;
     tokenizer.scratch.whitespace = Whitespace {
         min: 0,
         max: 0,

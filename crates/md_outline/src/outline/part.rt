@@ -1,7 +1,8 @@
 // Where the events of the first blocks end.
 
-ghost use Rattle.std.specs.Prelude.{◌≡◌, ◌+◌, ◌<◌, ◌≤◌, [], length, take};
-ghost use Rattle.md_seam.specs.Events.Nested.{Balanced, Matches, open_after};
+ghost use Rattle.std.specs.Prelude.{◌≡◌, ◌<◌, ◌≤◌, [], length, take};
+ghost use Rattle.md_outline.specs.CountOpen.{begun};
+ghost use Rattle.md_seam.specs.Events.Nested.{Balanced, open_after};
 
 use md_engine::event::{Event, Kind};
 
@@ -9,33 +10,36 @@ use md_engine::event::{Event, Kind};
 /// events, and there are few parts.
 const LEAST_EVENTS: usize = 4096;
 
-/// How many of these events begin a part.
-fn count_enters(events: &[Event]) -> usize
-    ensures within { result ≤ length events.now }
-    ensures matched { Matches [] events.now → result + result ≡ length events.now + length (open_after [] events.now) }
+/// How many parts begin by this event: one or none.
+#[inline(always)]
+fn entered(event: Event) -> usize
+    ensures { result ≡ begun event.kind 0 }
 {
-    let mut enters = 0;
-    for event in events {
-        if let Kind::Enter = event.kind {
-            enters += 1;
-        }
+    match event.kind {
+        Kind::Enter => 1,
+        Kind::Exit => 0,
     }
-    enters
 }
 
 /// How many events the first blocks are: the fewest behind which each part has ended, but not fewer than
 /// `LEAST_EVENTS`, or all.
+///
+/// Of the first of them four are counted at once.
 pub fn part_end(events: &[Event]) -> usize
     ensures within { result ≤ length events.now }
     ensures some { 0 < length events.now → 0 < result }
     ensures closed { Balanced events.now → open_after [] (take result events.now) ≡ [] }
 {
-    let mut end = events.len().min(LEAST_EVENTS);
-    let mut enters = count_enters(&events[..end]);
-    while end < events.len() && end - enters != enters {
-        if let Kind::Enter = events[end].kind {
-            enters += 1;
-        }
+    let most = events.len().min(LEAST_EVENTS);
+    let mut enters = 0;
+    let mut rest = &events[..most];
+    while let [first, second, third, fourth, behind @ ..] = rest {
+        enters += entered(*first) + entered(*second) + entered(*third) + entered(*fourth);
+        rest = behind;
+    }
+    let mut end = most - rest.len();
+    while end < events.len() && (end < most || end - enters != enters) {
+        enters += entered(events[end]);
         end += 1;
     }
     end
