@@ -14,7 +14,7 @@ use md_engine::configuration::ParseOptions;
 use md_engine::event::Event;
 use md_engine::message::Message;
 use md_program::body::Body;
-use md_program::print::{empty, push_end, push_lines};
+use md_program::print::{push_end, push_lines, with_room};
 use md_program::printing::Printing;
 use std::alloc::Global;
 
@@ -27,7 +27,7 @@ impl Printing for PartByPart {
     fn output(alloc: Global, text: &str, options: ParseOptions) -> Result<String, Message> {
         let options = Blocks::built(options);
         let (events, state) = parse(alloc, text, &options)?;
-        let mut output = empty(alloc)?;
+        let mut output = with_room(alloc, text)?;
         push_outline(alloc, &events, &state, &mut output)?;
         push_end(
             &mut output,

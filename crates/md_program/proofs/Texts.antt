@@ -1,7 +1,8 @@
 -- Lemmas on texts that grow piece by piece.
 use Rattle.std.proofs.Common.{◌≡◌, ℕ, zero, suc, ◌+◌, ◌*◌, List, ◌++◌, Result, Ok, Err, codes, sym, ◌∙◌, ap, arith}
-use Rattle.std.proofs.Common.{append_assoc, add-one}
+use Rattle.std.proofs.Common.{append_assoc, add-one, cond}
 use Rattle.std.specs.Prelude.{OnOk}
+use Rattle.std.specs.Result.{is_ok}
 use Rattle.std.proofs.lemmas.List.{append-nil}
 use Rattle.std.specs.List.{repeat}
 
@@ -31,3 +32,9 @@ repeat_four (suc n) rest =
 pub on_ok-map : {A E P Q : Type 0} (r : Result A E) → (P → Q) → OnOk r P → OnOk r Q
 on_ok-map (Ok a) f h = f h
 on_ok-map (Err e) f h = h
+
+-- what stands behind the text once a piece was put there
+pub pushed : {A E : Type 0} (r : Result A E) (new old piece text : List ℕ) → new ≡ cond (is_ok r) (old ++ piece) old →
+    piece ≡ text → OnOk r (new ≡ old ++ text)
+pushed (Ok a) new old piece text is same = is ∙ ap (λ l. old ++ l) same
+pushed (Err e) new old piece text is same = tt

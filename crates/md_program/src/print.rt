@@ -36,6 +36,17 @@ pub fn empty(alloc: Global) -> Result<String, Message>
     }
 }
 
+/// An empty text with room for the outline of a text: mostly it has two bytes for each of its bytes at most, and then
+/// none is copied because it grows.
+pub fn with_room(alloc: Global, text: &str) -> Result<String, Message>
+    ensures { IfOk result (λ text. string_bytes text ≡ []) }
+{
+    match String::with_capacity(alloc, text.len().saturating_mul(2)) {
+        Ok(text) => Ok(text),
+        Err(_) => Err(Message),
+    }
+}
+
 #[tactic(auto, unfolding(crate::specs::Printed::printed))]
 fn push_all(text: &mut String, outlined: &Outlined) -> Result<(), AllocError>
     ensures { OnOk result (string_bytes text.new ≡ string_bytes text.old ++ printed (listing_of outlined.now)) }
@@ -98,6 +109,7 @@ fn push_front(text: &mut String, depth: usize, word: Word) -> Result<(), AllocEr
         (Word::Line, 1) => text.push_str("  | "),
         (Word::Line, 2) => text.push_str("    | "),
         (Word::Line, 3) => text.push_str("      | "),
+        (Word::Heading(level), 0) => push_heading(text, level),
         _ => {
             push_indent(text, depth)?;
             push_head(text, word)
@@ -141,12 +153,26 @@ pub fn push_repeated(text: &mut String, piece: &str, count: usize) -> Result<(),
     Ok(())
 }
 
+/// Puts the word of a heading behind the text: at once for the levels that most headings have.
+#[inline(always)]
+fn push_heading(text: &mut String, level: u8) -> Result<(), AllocError>
+    ensures { OnOk result
+        (string_bytes text.new ≡ string_bytes text.old ++ (codes "heading " ++ Rattle.std.specs.Fmt.decimal level)) }
+{
+    match level {
+        1 => text.push_str("heading 1"),
+        2 => text.push_str("heading 2"),
+        3 => text.push_str("heading 3"),
+        _ => push_counted(text, "heading ", level as usize),
+    }
+}
+
 fn push_head(text: &mut String, word: Word) -> Result<(), AllocError>
     ensures { OnOk result (string_bytes text.new ≡ string_bytes text.old ++ head word) }
 {
     match word {
         Word::Frontmatter(marker) => push_marked(text, "frontmatter ", marker),
-        Word::Heading(depth) => push_counted(text, "heading ", depth as usize),
+        Word::Heading(level) => push_heading(text, level),
         Word::Break => text.push_str("break"),
         Word::Code => text.push_str("code"),
         Word::Fence { marker, closed } => {
