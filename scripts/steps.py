@@ -23,7 +23,7 @@ REQUESTS = 60
 MOST: dict[str, tuple[int, int]] = {
     "paragraphs of long lines": (8, 27),
     "one long line": (82, 438),
-    "headings of some words": (39, 211),
+    "headings of some words": (48, 211),
     "setext headings": (35, 60),
     "quotes of long lines": (42, 1_152),
     "quotes in quotes in quotes": (46, 1_074),
