@@ -21,7 +21,7 @@ for path, mark in (("src/main.rt", "<!-- crates/hello/src/main.rt -->"), ("stdou
         sys.exit(f"{page}: {mark} stands {len(found)} times")
     open(f"{crate}/{path}", "w", encoding="utf-8").write(found[0])
 PYTHON
-if rt help 2>&1 | grep -q 'rt ci .*NAME'; then
+if grep -q 'rt ci .*NAME' <<<"$(rt help 2>&1)"; then
     (cd "$work" && rt ci) | tail -n 3
     [ "${PIPESTATUS[0]}" -eq 0 ] || exit 1
 else

@@ -60,7 +60,7 @@ if [ -z "$proved" ]; then
     exit 0
 fi
 echo "quick: proves $proved"
-if rt help 2>&1 | grep -q 'rt ci .*NAME'; then
+if grep -q 'rt ci .*NAME' <<<"$(rt help 2>&1)"; then
     # shellcheck disable=SC2086 # names of crates
     rt ci $proved
 else
