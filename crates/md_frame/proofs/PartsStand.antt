@@ -13,7 +13,6 @@ use Rattle.md_engine.specs.declared.event.Name.TheVariants as n
 use Rattle.md_engine.specs.declared.event.Point.{Point}
 use Rattle.md_seam.specs.declared.inline.Chunk.{Chunk}
 use Rattle.md_seam.specs.declared.inline.PartKind.{PartKind}
-use Rattle.md_seam.specs.declared.inline.PartKind.TheVariants as part_kinds
 use Rattle.md_seam.specs.Events.Inline.{Piece, are_lines, pieces}
 use Rattle.md_seam.specs.Events.Nested.{around, enter, exit, is_exit}
 use Rattle.md_seam.specs.Events.Tiles.{begins_at, chunks, chunks_stand, inside_part, is_part, is_white_piece, part_end}

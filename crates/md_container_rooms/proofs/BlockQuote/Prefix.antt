@@ -1,5 +1,5 @@
 -- What is known of the prefix of a block quote.
-use Rattle.std.proofs.Common.{◌-◌, ℕ, ◌≡◌, true, refl, sym, subst, arith, suc, Bool, false, cond, List, [], ◌∷◌, ◌++◌}
+use Rattle.std.proofs.Common.{ℕ, ◌≡◌, true, refl, sym, subst, arith, suc, Bool, false, cond, List, [], ◌∷◌, ◌++◌}
 use Rattle.std.proofs.Common.{◌∙◌, append_assoc, ◌≢◌}
 use Rattle.std.specs.Prelude.{slice_index, IsTrue}
 use Rattle.md_seam.specs.Events.Prefix.{is_prefix}

@@ -1,5 +1,5 @@
 -- What stands in front of the content of a footnote definition, part by part.
-use Rattle.std.proofs.Common.{◌≡◌, ◌≢◌, ℕ, ◌-◌, Bool, true, false, List, [], ◌∷◌, refl, ap, drop, sym, ◌∙◌, subst}
+use Rattle.std.proofs.Common.{◌≡◌, ◌≢◌, ℕ, Bool, true, false, List, [], ◌∷◌, refl, ap, drop, sym, ◌∙◌, subst}
 use Rattle.std.proofs.Common.{arith, not, ◌||◌}
 use Rattle.std.specs.Prelude.{IsTrue, Option, slice_index}
 use Rattle.md_engine.specs.declared.event.Event.{Event}

@@ -38,7 +38,6 @@ use Rattle.md_frame.proofs.LeafStands.{around-unlisted, between-stand, leaf-stan
 use Rattle.md_frame.proofs.IndentRemoved.Shown.{whole-clear}
 use Rattle.md_front_rooms.proofs.MarkLemmas.{between-mark, body-between, body-vs}
 use Rattle.md_frame.proofs.PartedFacts.{clear}
-use Rattle.md_frame.proofs.PartsStand as parts
 use Rattle.md_frame.proofs.PieceFacts.{Starts, over-stands}
 use Rattle.md_frame.proofs.PlainFacts.{ArePlain, known-around, plain-append, plain-nil, plain-quiet, plain-untold}
 use Rattle.md_seam.proofs.FeedLines.{IsEnding}

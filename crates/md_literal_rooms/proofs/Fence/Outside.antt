@@ -1,5 +1,5 @@
 -- Nothing stands in a fence that a resolver rewrites, and no content; its links are to strings.
-use Rattle.std.proofs.Common.{◌≡◌, ℕ, Bool, true, false, cond, List, [], ◌∷◌, refl, ap}
+use Rattle.std.proofs.Common.{◌≡◌, ℕ, Bool, true, false, cond, List, refl, ap}
 use Rattle.std.specs.Prelude.{◌-◌, ◌==◌, Option, Some, None}
 use Rattle.md_engine.specs.declared.configuration.ParseOptions.{ParseOptions}
 use Rattle.md_engine.specs.declared.event.Content.{Content}

@@ -1,7 +1,6 @@
 -- A heading refuses at rest, however long its line is.
 use Rattle.std.proofs.Common.{List, [], ◌∷◌, ap}
 use Rattle.std.specs.Prelude.{◌==◌}
-use Rattle.md_engine.specs.declared.configuration.ParseOptions.{ParseOptions}
 use Rattle.md_engine.specs.Meaning.{Cell, Here}
 use Rattle.md_leaves.specs.HeadingRule.{at_break, before_opening, behind_opening, in_hashes, in_text, is_heading}
 use Rattle.md_leaves.specs.LeafStart.{start_at}

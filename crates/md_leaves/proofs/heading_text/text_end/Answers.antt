@@ -1,5 +1,4 @@
-use Rattle.std.proofs.Common.{◌≡◌, ℕ, ◌++◌, ◌-◌, ◌∙◌, ap, arith, length, length-append, sym}
-use Rattle.md_engine.specs.declared.event.Point.{Point}
+use Rattle.std.proofs.Common.{ℕ, ◌++◌, ◌-◌, ◌∙◌, ap, arith, length, length-append, sym}
 use Rattle.md_leaves.proofs.OneLine.{end-back, on-within}
 use Rattle.md_leaves.proofs.OnLine.{on-front}
 use Rattle.md_leaves.proofs.heading_text.text_end.Goals as goal
