@@ -67,11 +67,6 @@ pub run-part : (x : Bool) (p q : Point) →
 run-part true p q = refl
 run-part false p q = refl
 
--- a piece that is not empty begins with a byte
-pub rest-begins : (rest : List ℕ) → 0 < length rest → rest ≡ get_or rest 0 0 ∷ drop 1 rest
-rest-begins [] lt = absurd (omega (arith, lt))
-rest-begins (b ∷ bs) lt = refl
-
 -- its first run is not empty,
 pub run-some : (rest : List ℕ) (n : ℕ) → 0 < length rest → n ≡ prefix_len (goes_on (begun (get_or rest 0 0))) rest →
     0 < n

@@ -1,5 +1,5 @@
 -- Where the text of a heading began, and what was taken of its line from there.
-use Rattle.std.proofs.Common.{◌≡◌, ℕ, zero, suc, ◌-◌, ◌<◌, List, [], ◌∷◌, ◌++◌, length, take, drop, refl, sym, ◌∙◌, ap}
+use Rattle.std.proofs.Common.{◌≡◌, ℕ, suc, ◌-◌, List, [], ◌∷◌, ◌++◌, length, take, drop, refl, sym, ◌∙◌, ap}
 use Rattle.std.proofs.Common.{arith, append_assoc, Option, Some, None}
 use Rattle.std.specs.Prelude.{not, slice_get}
 use Rattle.std.specs.List.{All, prefix_len}
@@ -31,18 +31,6 @@ last-got (x ∷ []) p e h = ap point_of h
 last-got (x ∷ y ∷ es) p e h =
     let less : suc (suc (length es)) - 1 ≡ suc (suc (length es) - 1) = omega arith in
     last-got (y ∷ es) x.point e (ap (slice_get (x ∷ y ∷ es)) (sym less) ∙ h)
-
-pub last-none : (es : List Event) (p : Point) → slice_get es (length es - 1) ≡ None → last_point p es ≡ p
-last-none [] p h = refl
-last-none (x ∷ []) p h = cc
-last-none (x ∷ y ∷ es) p h =
-    let less : suc (suc (length es)) - 1 ≡ suc (suc (length es) - 1) = omega arith in
-    absurd (never (y ∷ es) (length (y ∷ es) - 1) (omega arith) (ap (slice_get (x ∷ y ∷ es)) (sym less) ∙ h))
-  where
-    never : (l : List Event) (i : ℕ) → i < length l → slice_get l i ≡ None → ⊥
-    never [] i lt k = omega (arith, lt)
-    never (z ∷ l) zero lt k = cc
-    never (z ∷ l) (suc i) lt k = never l i (omega (arith, lt)) k
 
 -- it is a point of the text
 pub last-placed : (bytes : List ℕ) (es : List Event) (p : Point) → All (λ (e : Event). IsPlaced bytes e.point) es →

@@ -25,7 +25,7 @@ use Rattle.md_outline.specs.ListsBegin.{AllTold, ListsBegin, Stage, stage_by}
 use Rattle.md_outline.specs.Outlined.{IsOutlined, are_parted, has_shown_name}
 use Rattle.md_outline.specs.Outlined.{has_unlisted_name, parts_by, span_by, stands_between, tells_between}
 use Rattle.md_outline.specs.OutlineSteps.{BeginsBetween, IsCutAt, IsCutBy, OutlineState, before_all, leaf_ended}
-use Rattle.md_outline.specs.OutlineSteps.{parted_at, state_after, state_by, told_at, told_leaf, head_marked, is_titled}
+use Rattle.md_outline.specs.OutlineSteps.{parted_at, state_after, state_by, told_at, told_leaf, is_titled}
 use Rattle.md_outline.specs.OutlineSteps.{marked_at, piece_shown, title_told, told}
 use Rattle.md_outline.specs.LinesStand.{LinesStand, Outside, Site, site_by}
 use Rattle.md_outline.specs.DefinitionState.{part_word}
@@ -201,16 +201,6 @@ pub lines-end : (bytes part : List ℕ) (span : TextSpan) (end : ℕ) (text : Op
 lines-end bytes part span end text x y s lines alone is same epart reads cut =
     text-end bytes part span end text x y s (record s { text = None; lines = lines }) is same epart
     (λ utf8. ap (λ es. record s { text = None; lines = es }) (reads utf8) ∙ sym (alone part)) cut
-
--- a run of markers ends
-pub markers-end : (bytes part : List ℕ) (span : TextSpan) (end : ℕ) (text : Option TextSpan) (x : Purpose)
-    (s middle next : OutlineState) → text ≡ Some span → x ≡ purpose.Markers →
-    part ≡ slice_range bytes span.from end →
-    (IsUtf8 part → middle ≡ told_leaf note.Markers part (record s { text = None })) →
-    next ≡ head_marked middle.lined part middle → IsCutAt bytes text end → next ≡ told_at bytes x end text s
-markers-end bytes part span end text x s middle next is same epart reads marks =
-    text-end bytes part span end text x purpose.Markers s next is same epart
-    (λ utf8. marks ∙ ap (λ (m : OutlineState). head_marked m.lined part m) (reads utf8))
 
 -- a prefix has begun in a text: of another block, or of a part of a definition
 pub piece-end : (bytes part : List ℕ) (span : TextSpan) (end : ℕ) (text : Option TextSpan) (s : OutlineState)
