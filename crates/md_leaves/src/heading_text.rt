@@ -125,8 +125,8 @@ fn add_runs(tokenizer: &mut Tokenizer, piece: &[u8], from: Point) -> Result<(), 
     Ok(())
 }
 
-/// What was taken of the line from where the text of the heading began, at this point. On one line no byte of it ends
-/// a line.
+/// What was taken of the line since the text of the heading began, at this point. Where the tokenizer's point is on the
+/// same line, no byte of it ends a line.
 fn text_taken<'a>(tokenizer: &Tokenizer<'a>, from: Point) -> &'a [u8]
     requires placed { IsPlaced (world tokenizer.now).setting.bytes from }
     requires at { from.index ≡ (world tokenizer.now).scratch.start }
@@ -148,8 +148,8 @@ fn has_tab(bytes: &[u8]) -> bool
     bytes.iter().any(|byte| *byte == b'\t')
 }
 
-/// The point behind the text of a heading: in front of so many bytes behind it where these reach to the tokenizer's
-/// point and have no tab.
+/// The point behind the text of a heading. Where what follows it on the line reaches to the tokenizer's point and has no
+/// tab, it is so many bytes and columns in front of that point.
 fn text_end(tokenizer: &Tokenizer, text: &[u8], rest: &[u8], from: Point) -> Point
     requires on { IsOnLine (world tokenizer.now).setting.bytes (text.now ++ rest.now) from }
     requires whole { from.vs ≡ 0 }

@@ -36,8 +36,8 @@ pub fn empty(alloc: Global) -> Result<String, Message>
     }
 }
 
-/// An empty text with room for the outline of a text: mostly it has two bytes for each of its bytes at most, and then
-/// none is copied because it grows.
+/// An empty string with room for the outline of a text. Two bytes for each byte of the text are mostly enough, so the
+/// string is not copied as it grows.
 pub fn with_room(alloc: Global, text: &str) -> Result<String, Message>
     ensures { IfOk result (λ text. string_bytes text ≡ []) }
 {

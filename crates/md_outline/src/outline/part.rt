@@ -10,7 +10,7 @@ use md_engine::event::{Event, Kind};
 /// events, and there are few parts.
 const LEAST_EVENTS: usize = 4096;
 
-/// How many parts begin by this event: one or none.
+/// How many parts begin with this event: one or none.
 #[inline(always)]
 fn entered(event: Event) -> usize
     ensures { result ≡ begun event.kind 0 }
@@ -24,7 +24,7 @@ fn entered(event: Event) -> usize
 /// How many events the first blocks are: the fewest behind which each part has ended, but not fewer than
 /// `LEAST_EVENTS`, or all.
 ///
-/// Of the first of them four are counted at once.
+/// It counts the first of them four at a time.
 pub fn part_end(events: &[Event]) -> usize
     ensures within { result ≤ length events.now }
     ensures some { 0 < length events.now → 0 < result }
